@@ -1,0 +1,11 @@
+use borrow.Author.Needs.{needs}
+use Rattle.values.specs.Values.{is-scalar}
+use Rattle.values.proofs.is_scalar.Statement.{statement}
+use Rattle.values.proofs.is_scalar.Tie as tie
+
+returns : tie.Need-returns
+unfolding is-scalar
+returns c = search needs
+
+pub is-scalar-spec : {M : Type 1} → statement M
+is-scalar-spec = tie.close (tie.spec returns)

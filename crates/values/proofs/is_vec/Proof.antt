@@ -1,0 +1,11 @@
+use borrow.Author.Needs.{needs}
+use Rattle.values.specs.Values.{is-vec}
+use Rattle.values.proofs.is_vec.Statement.{statement}
+use Rattle.values.proofs.is_vec.Tie as tie
+
+returns : tie.Need-returns
+unfolding is-vec
+returns c = search needs
+
+pub is-vec-spec : {M : Type 1} → statement M
+is-vec-spec = tie.close (tie.spec returns)
