@@ -1,0 +1,25 @@
+-- The table of operand sizes is document 01's rule: one computed test of the whole table, and the law that carries it to each entry.
+use Prim.Native.Nat.{ℕ, _<_}
+use mathlib.Core.Bool.{Bool}
+use mathlib.Core.List.{List, _∷_}
+use mathlib.Core.Path.{_≡_, refl}
+use lib.Dec.{eqb}
+use lib.ListN.{getD, replicate}
+use borrow.Author.Tests.{eqb-true}
+use Rattle.bytecode.specs.Opcodes.{operand-size}
+use Rattle.bytecode.proofs.Entries.{at-each}
+
+-- the table, from 00 to 1F, and the bytes without an opcode behind it
+abbrev pub sizes : List ℕ
+sizes =
+    0 ∷ 4 ∷ 0 ∷ 1 ∷ 2 ∷ 1 ∷ 1 ∷ 0 ∷ 0 ∷ 0 ∷ 0 ∷ 0 ∷ 0 ∷ 0 ∷ 0 ∷ 0 ∷
+    0 ∷ 0 ∷ 0 ∷ 0 ∷ 0 ∷ 0 ∷ 0 ∷ 0 ∷ 0 ∷ 0 ∷ 4 ∷ 4 ∷ 1 ∷ 0 ∷ 4 ∷ 0 ∷ replicate 224 0
+
+-- one entry against the rule
+abbrev by-rule : ℕ → ℕ → Bool
+by-rule op size = eqb size (operand-size op)
+
+-- every entry is the operand size of its opcode byte
+pub table-rule : (op : ℕ) → op < 256 → getD sizes op 0 ≡ operand-size op
+unfolding operand-size
+table-rule op inside = eqb-true _ _ (at-each by-rule sizes refl op inside)

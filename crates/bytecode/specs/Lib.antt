@@ -1,0 +1,2 @@
+pub mod Opcodes
+pub mod Operands
