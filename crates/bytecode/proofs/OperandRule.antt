@@ -6,8 +6,8 @@ use mathlib.Core.Path.{_≡_, refl}
 use lib.Dec.{eqb}
 use lib.ListN.{getD, replicate}
 use borrow.Author.Tests.{eqb-true}
-use Rattle.bytecode.specs.Opcodes.{operand-size}
 use Rattle.bytecode.proofs.Entries.{at-each}
+use Rattle.bytecode.specs.Opcodes.{operand-size}
 
 -- the table, from 00 to 1F, and the bytes without an opcode behind it
 abbrev pub sizes : List ℕ

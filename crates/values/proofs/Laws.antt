@@ -5,7 +5,7 @@ use mathlib.Core.Path.{_≡_, refl}
 use native.Mathlib.Omega.{arith}
 use lib.Dec.{eqb}
 use borrow.Author.Tests.{eq-eqb, ne-eqb, eqb-true}
-use Rattle.values.specs.Values.{make-scalar-tagged, make-vec-tagged, to-u32-val, to-calldata-val, to-bool-val, head, is-qnan, is-scalar, is-vec, raw-tag, to-u32, fat-pointer, bool-not, get-value-type, vec-type, scalar-type}
+use Rattle.values.specs.Values.{make-scalar-tagged, make-vec-tagged, to-u32-val, to-calldata-val, to-bool-val, head, is-scalar, is-vec, raw-tag, to-u32, fat-pointer, bool-not, get-value-type, vec-type, scalar-type}
 use Rattle.values.specs.declared.ValueType.the-variants.{U32, String, CallData, Boolean, VecU32}
 
 -- the head of a scalar

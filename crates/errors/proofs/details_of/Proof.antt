@@ -1,3 +1,4 @@
+-- `errors::details_of` meets its contract.
 use borrow.Author.Needs.{needs}
 use Rattle.errors.proofs.details_of.Statement.{statement}
 use Rattle.errors.proofs.details_of.Tie as tie

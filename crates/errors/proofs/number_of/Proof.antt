@@ -1,3 +1,4 @@
+-- `errors::number_of` meets its contract.
 use borrow.Author.Needs.{needs}
 use Rattle.errors.proofs.number_of.Statement.{statement}
 use Rattle.errors.proofs.number_of.Tie as tie

@@ -1,7 +1,8 @@
-use Rattle.values.specs.Values.{alike}
-use borrow.Author.Tests.{eq-eqb, ne-eqb}
+-- `values::alike` meets its contract.
 use borrow.Author.Needs.{needs}
+use borrow.Author.Tests.{eq-eqb, ne-eqb}
 use Rattle.values.proofs.alike.Statement.{statement}
+use Rattle.values.specs.Values.{alike}
 use Rattle.values.proofs.alike.Tie as tie
 
 to-u32-requires : tie.Need-to-u32-requires

@@ -1,7 +1,8 @@
-use Rattle.values.specs.Values.{bool-not}
-use borrow.Author.Tests.{eq-eqb, ne-eqb}
+-- `values::bool_not` meets its contract.
 use borrow.Author.Needs.{needs}
+use borrow.Author.Tests.{eq-eqb, ne-eqb}
 use Rattle.values.proofs.bool_not.Statement.{statement}
+use Rattle.values.specs.Values.{bool-not}
 use Rattle.values.proofs.bool_not.Tie as tie
 
 add-result : tie.Need-add-result

@@ -1,6 +1,7 @@
-use Rattle.values.specs.Values.{fat-pointer}
+-- `values::fat_pointer` meets its contract.
 use borrow.Author.Needs.{needs}
 use Rattle.values.proofs.fat_pointer.Statement.{statement}
+use Rattle.values.specs.Values.{fat-pointer}
 use Rattle.values.proofs.fat_pointer.Tie as tie
 
 cast-t4 : tie.Need-cast-t4

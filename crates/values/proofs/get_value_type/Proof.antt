@@ -1,6 +1,7 @@
-use Rattle.values.specs.Values.{get-value-type}
+-- `values::get_value_type` meets its contract.
 use borrow.Author.Needs.{needs}
 use Rattle.values.proofs.get_value_type.Statement.{statement}
+use Rattle.values.specs.Values.{get-value-type}
 use Rattle.values.proofs.get_value_type.Tie as tie
 
 is-vec-requires : tie.Need-is-vec-requires

@@ -1,6 +1,7 @@
+-- `values::is_qnan` meets its contract.
 use borrow.Author.Needs.{needs}
-use Rattle.values.specs.Values.{is-qnan}
 use Rattle.values.proofs.is_qnan.Statement.{statement}
+use Rattle.values.specs.Values.{is-qnan}
 use Rattle.values.proofs.is_qnan.Tie as tie
 
 returns : tie.Need-returns

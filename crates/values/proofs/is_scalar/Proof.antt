@@ -1,6 +1,7 @@
+-- `values::is_scalar` meets its contract.
 use borrow.Author.Needs.{needs}
-use Rattle.values.specs.Values.{is-scalar}
 use Rattle.values.proofs.is_scalar.Statement.{statement}
+use Rattle.values.specs.Values.{is-scalar}
 use Rattle.values.proofs.is_scalar.Tie as tie
 
 returns : tie.Need-returns

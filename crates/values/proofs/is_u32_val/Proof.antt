@@ -1,6 +1,7 @@
-use Rattle.values.specs.Values.{is-u32-val}
+-- `values::is_u32_val` meets its contract.
 use borrow.Author.Needs.{needs}
 use Rattle.values.proofs.is_u32_val.Statement.{statement}
+use Rattle.values.specs.Values.{is-u32-val}
 use Rattle.values.proofs.is_u32_val.Tie as tie
 
 is-scalar-requires : tie.Need-is-scalar-requires

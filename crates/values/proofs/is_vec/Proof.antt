@@ -1,6 +1,7 @@
+-- `values::is_vec` meets its contract.
 use borrow.Author.Needs.{needs}
-use Rattle.values.specs.Values.{is-vec}
 use Rattle.values.proofs.is_vec.Statement.{statement}
+use Rattle.values.specs.Values.{is-vec}
 use Rattle.values.proofs.is_vec.Tie as tie
 
 returns : tie.Need-returns

@@ -1,7 +1,8 @@
+-- `values::make_scalar_tagged` meets its contract.
 use native.Mathlib.Omega.{arith}
-use Rattle.values.specs.Values.{make-scalar-tagged}
 use borrow.Author.Needs.{needs}
 use Rattle.values.proofs.make_scalar_tagged.Statement.{statement}
+use Rattle.values.specs.Values.{make-scalar-tagged}
 use Rattle.values.proofs.make_scalar_tagged.Tie as tie
 
 mul-result : tie.Need-mul-result

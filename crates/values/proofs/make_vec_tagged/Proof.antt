@@ -1,7 +1,8 @@
+-- `values::make_vec_tagged` meets its contract.
 use native.Mathlib.Omega.{arith}
-use Rattle.values.specs.Values.{make-vec-tagged}
 use borrow.Author.Needs.{needs}
 use Rattle.values.proofs.make_vec_tagged.Statement.{statement}
+use Rattle.values.specs.Values.{make-vec-tagged}
 use Rattle.values.proofs.make_vec_tagged.Tie as tie
 
 add-result : tie.Need-add-result

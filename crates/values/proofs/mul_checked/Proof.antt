@@ -1,6 +1,7 @@
-use Rattle.values.specs.Values.{mul-checked}
+-- `values::mul_checked` meets its contract.
 use borrow.Author.Needs.{needs}
 use Rattle.values.proofs.mul_checked.Statement.{statement}
+use Rattle.values.specs.Values.{mul-checked}
 use Rattle.values.proofs.mul_checked.Tie as tie
 
 is-u32-val-requires : tie.Need-is-u32-val-requires

@@ -1,6 +1,7 @@
-use Rattle.values.specs.Values.{mul-checked-i}
+-- `values::mul_checked_i` meets its contract.
 use borrow.Author.Needs.{needs}
 use Rattle.values.proofs.mul_checked_i.Statement.{statement}
+use Rattle.values.specs.Values.{mul-checked-i}
 use Rattle.values.proofs.mul_checked_i.Tie as tie
 
 is-u32-val-requires : tie.Need-is-u32-val-requires

@@ -1,7 +1,8 @@
-use Rattle.values.specs.Values.{product}
-use borrow.Author.Tests.{le-ltb, lt-ltb}
+-- `values::product` meets its contract.
 use borrow.Author.Needs.{needs}
+use borrow.Author.Tests.{le-ltb, lt-ltb}
 use Rattle.values.proofs.product.Statement.{statement}
+use Rattle.values.specs.Values.{product}
 use Rattle.values.proofs.product.Tie as tie
 
 times-requires : tie.Need-times-requires

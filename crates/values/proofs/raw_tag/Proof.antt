@@ -1,6 +1,7 @@
+-- `values::raw_tag` meets its contract.
 use native.Mathlib.Omega.{arith}
-use Rattle.values.specs.Values.{raw-tag}
 use Rattle.values.proofs.raw_tag.Statement.{statement}
+use Rattle.values.specs.Values.{raw-tag}
 use Rattle.values.proofs.raw_tag.Tie as tie
 
 returns : tie.Need-returns

@@ -1,6 +1,7 @@
-use Rattle.values.specs.Values.{scalar-type}
+-- `values::scalar_type` meets its contract.
 use borrow.Author.Tests.{eq-eqb, ne-eqb}
 use Rattle.values.proofs.scalar_type.Statement.{statement}
+use Rattle.values.specs.Values.{scalar-type}
 use Rattle.values.proofs.scalar_type.Tie as tie
 
 returns : tie.Need-returns

@@ -1,6 +1,7 @@
-use Rattle.values.specs.Values.{tag-of}
+-- `values::tag_of` meets its contract.
 use borrow.Author.Needs.{needs}
 use Rattle.values.proofs.tag_of.Statement.{statement}
+use Rattle.values.specs.Values.{tag-of}
 use Rattle.values.proofs.tag_of.Tie as tie
 
 is-qnan-requires : tie.Need-is-qnan-requires

@@ -1,6 +1,7 @@
-use Rattle.values.specs.Values.{to-bool-val}
+-- `values::to_bool_val` meets its contract.
 use borrow.Author.Needs.{needs}
 use Rattle.values.proofs.to_bool_val.Statement.{statement}
+use Rattle.values.specs.Values.{to-bool-val}
 use Rattle.values.proofs.to_bool_val.Tie as tie
 
 make-scalar-tagged-requires : tie.Need-make-scalar-tagged-requires

@@ -1,6 +1,7 @@
-use Rattle.values.specs.Values.{to-fat-pointer}
+-- `values::to_fat_pointer` meets its contract.
 use borrow.Author.Needs.{needs}
 use Rattle.values.proofs.to_fat_pointer.Statement.{statement}
+use Rattle.values.specs.Values.{to-fat-pointer}
 use Rattle.values.proofs.to_fat_pointer.Tie as tie
 
 is-vec-requires : tie.Need-is-vec-requires

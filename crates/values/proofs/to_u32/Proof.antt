@@ -1,7 +1,8 @@
+-- `values::to_u32` meets its contract.
 use native.Mathlib.Omega.{arith}
-use Rattle.values.specs.Values.{to-u32}
 use borrow.Author.Needs.{needs}
 use Rattle.values.proofs.to_u32.Statement.{statement}
+use Rattle.values.specs.Values.{to-u32}
 use Rattle.values.proofs.to_u32.Tie as tie
 
 cast-result : tie.Need-cast-result

@@ -1,7 +1,8 @@
-use Rattle.values.specs.Values.{to-vec-val}
-use borrow.Author.Tests.{le-ltb, lt-ltb}
+-- `values::to_vec_val` meets its contract.
 use borrow.Author.Needs.{needs}
+use borrow.Author.Tests.{le-ltb, lt-ltb}
 use Rattle.values.proofs.to_vec_val.Statement.{statement}
+use Rattle.values.specs.Values.{to-vec-val}
 use Rattle.values.proofs.to_vec_val.Tie as tie
 
 make-vec-tagged-requires : tie.Need-make-vec-tagged-requires

@@ -1,6 +1,7 @@
-use Rattle.values.specs.Values.{value-cmp}
+-- `values::value_cmp` meets its contract.
 use borrow.Author.Needs.{needs}
 use Rattle.values.proofs.value_cmp.Statement.{statement}
+use Rattle.values.specs.Values.{value-cmp}
 use Rattle.values.proofs.value_cmp.Tie as tie
 
 is-u32-val-requires : tie.Need-is-u32-val-requires

@@ -1,7 +1,8 @@
-use Rattle.values.specs.Values.{value-eq}
-use borrow.Author.Tests.{eq-eqb, ne-eqb}
+-- `values::value_eq` meets its contract.
 use borrow.Author.Needs.{needs}
+use borrow.Author.Tests.{eq-eqb, ne-eqb}
 use Rattle.values.proofs.value_eq.Statement.{statement}
+use Rattle.values.specs.Values.{value-eq}
 use Rattle.values.proofs.value_eq.Tie as tie
 
 is-qnan-requires : tie.Need-is-qnan-requires

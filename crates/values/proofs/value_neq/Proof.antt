@@ -1,7 +1,7 @@
-use Rattle.values.specs.Values.{turned}
-use Rattle.values.specs.Values.{value-neq}
+-- `values::value_neq` meets its contract.
 use borrow.Author.Needs.{needs}
 use Rattle.values.proofs.value_neq.Statement.{statement}
+use Rattle.values.specs.Values.{turned, value-neq}
 use Rattle.values.proofs.value_neq.Tie as tie
 
 value-eq-requires : tie.Need-value-eq-requires

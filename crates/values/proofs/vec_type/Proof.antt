@@ -1,6 +1,7 @@
-use Rattle.values.specs.Values.{vec-type}
+-- `values::vec_type` meets its contract.
 use borrow.Author.Tests.{eq-eqb, ne-eqb}
 use Rattle.values.proofs.vec_type.Statement.{statement}
+use Rattle.values.specs.Values.{vec-type}
 use Rattle.values.proofs.vec_type.Tie as tie
 
 returns : tie.Need-returns

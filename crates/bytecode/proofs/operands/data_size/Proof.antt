@@ -1,10 +1,11 @@
-use Rattle.bytecode.specs.Operands.{data-size}
-use Rattle.bytecode.specs.Opcodes.{operand-size}
-use native.Mathlib.Omega.{arith}
+-- `bytecode::operands::data_size` meets its contract.
 use mathlib.Core.Path.{ap}
-use borrow.Author.Tests.{eq-eqb, ne-eqb}
+use native.Mathlib.Omega.{arith}
 use borrow.Author.Needs.{needs}
+use borrow.Author.Tests.{eq-eqb, ne-eqb}
 use Rattle.bytecode.proofs.operands.data_size.Statement.{statement}
+use Rattle.bytecode.specs.Opcodes.{operand-size}
+use Rattle.bytecode.specs.Operands.{data-size}
 use Rattle.bytecode.proofs.operands.data_size.Tie as tie
 
 shared-slice-read-op : tie.Need-shared-slice-read-op

@@ -1,10 +1,11 @@
-use Rattle.bytecode.specs.Operands.{extent, behind}
-use lib.ListN.{length}
+-- `bytecode::operands::extent` meets its contract.
 use Prim.Native.Nat.{_≤_, _<_}
 use native.Mathlib.Omega.{arith}
-use borrow.Author.Tests.{le-leb, lt-leb}
+use lib.ListN.{length}
 use borrow.Author.Needs.{needs}
+use borrow.Author.Tests.{le-leb, lt-leb}
 use Rattle.bytecode.proofs.operands.extent.Statement.{statement}
+use Rattle.bytecode.specs.Operands.{extent, behind}
 use Rattle.bytecode.proofs.operands.extent.Tie as tie
 
 returns : tie.Need-returns

@@ -1,6 +1,7 @@
-use Rattle.bytecode.proofs.BigEndian.{four}
+-- `bytecode::operands::four_bytes` meets its contract.
 use native.Mathlib.Omega.{arith}
 use borrow.Author.Needs.{needs}
+use Rattle.bytecode.proofs.BigEndian.{four}
 use Rattle.bytecode.proofs.operands.four_bytes.Statement.{statement}
 use Rattle.bytecode.proofs.operands.four_bytes.Tie as tie
 

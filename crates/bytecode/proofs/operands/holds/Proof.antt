@@ -1,3 +1,4 @@
+-- `bytecode::operands::holds` meets its contract.
 use Prim.Native.Nat.{_+_, _≤_, _<_}
 use native.Mathlib.Omega.{arith}
 use borrow.Author.Tests.{le-leb, lt-leb}

@@ -1,6 +1,7 @@
+-- `bytecode::operands::operand_size` meets its contract.
 use mathlib.Core.Path.{_∙_}
-use Rattle.bytecode.proofs.OperandRule.{table-rule}
 use borrow.Author.Needs.{needs}
+use Rattle.bytecode.proofs.OperandRule.{table-rule}
 use Rattle.bytecode.proofs.operands.operand_size.Statement.{statement}
 use Rattle.bytecode.proofs.operands.operand_size.Tie as tie
 

@@ -1,8 +1,9 @@
-use Rattle.bytecode.specs.Operands.{operand}
+-- `bytecode::operands::prepare_u32_from_be_checked` meets its contract.
 use mathlib.Core.Path.{sym, _∙_}
-use borrow.Author.Tests.{leb-true}
 use borrow.Author.Needs.{needs}
+use borrow.Author.Tests.{leb-true}
 use Rattle.bytecode.proofs.operands.prepare_u32_from_be_checked.Statement.{statement}
+use Rattle.bytecode.specs.Operands.{operand}
 use Rattle.bytecode.proofs.operands.prepare_u32_from_be_checked.Tie as tie
 
 holds-requires : tie.Need-holds-requires

@@ -1,12 +1,13 @@
-use Rattle.bytecode.proofs.BigEndian.{one}
-use Rattle.bytecode.specs.Operands.{operand}
-use lib.ListN.{length}
+-- `bytecode::operands::prepare_u8` meets its contract.
 use Prim.Native.Nat.{_+_, _≤_}
-use native.Mathlib.Omega.{arith}
 use mathlib.Core.Path.{sym, _∙_}
-use borrow.Author.Tests.{leb-true}
+use native.Mathlib.Omega.{arith}
+use lib.ListN.{length}
 use borrow.Author.Needs.{needs}
+use borrow.Author.Tests.{leb-true}
+use Rattle.bytecode.proofs.BigEndian.{one}
 use Rattle.bytecode.proofs.operands.prepare_u8.Statement.{statement}
+use Rattle.bytecode.specs.Operands.{operand}
 use Rattle.bytecode.proofs.operands.prepare_u8.Tie as tie
 
 holds-requires : tie.Need-holds-requires

@@ -1,6 +1,7 @@
-use Rattle.bytecode.proofs.BigEndian.{two}
+-- `bytecode::operands::two_bytes` meets its contract.
 use native.Mathlib.Omega.{arith}
 use borrow.Author.Needs.{needs}
+use Rattle.bytecode.proofs.BigEndian.{two}
 use Rattle.bytecode.proofs.operands.two_bytes.Statement.{statement}
 use Rattle.bytecode.proofs.operands.two_bytes.Tie as tie
 
