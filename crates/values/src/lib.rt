@@ -70,11 +70,11 @@ fn make_vec_tagged(offset: u32, size: u16, tag: u64) -> u64
 }
 
 // The box of a vector, whose offset must be below 2^25.
-pub fn to_vec_val(offset: u32, size: u16, tag: u64) -> ValueResult
+pub fn to_vec_val(offset: usize, size: u16, tag: u64) -> ValueResult
     ensures { λ r. ⌜ r ≡ to-vec-val offset size tag ⌝ }
 {
     if offset < 0x2000000 {
-        return ValueResult::Value(make_vec_tagged(offset, size, tag));
+        return ValueResult::Value(make_vec_tagged(offset as u32, size, tag));
     }
     ValueResult::NoValue(Refusal::MSliceParamOverflow)
 }
@@ -104,14 +104,14 @@ pub fn to_bool_val(b: bool) -> u64
 }
 
 // Whether a word is a boxed value.
-pub fn is_qnan(v: u64) -> bool
+fn is_qnan(v: u64) -> bool
     ensures { λ r. ⌜ r ≡ is-qnan v ⌝ }
 {
     v / 0x4000000000000 % 0x2000 == 0x1FFF
 }
 
 // Whether a word is a boxed scalar.
-pub fn is_scalar(v: u64) -> bool
+fn is_scalar(v: u64) -> bool
     ensures { λ r. ⌜ r ≡ is-scalar v ⌝ }
 {
     v / 0x4000000000000 == 0x1FFF
@@ -125,7 +125,7 @@ pub fn is_vec(v: u64) -> bool
 }
 
 // The three lowest bits of a word.
-pub fn raw_tag(v: u64) -> u64
+fn raw_tag(v: u64) -> u64
     ensures { λ r. ⌜ r ≡ raw-tag v ⌝ }
 {
     v % 8
@@ -142,7 +142,7 @@ pub fn tag_of(v: u64) -> TagResult
 }
 
 // Whether a word is a boxed number.
-pub fn is_u32_val(v: u64) -> bool
+fn is_u32_val(v: u64) -> bool
     ensures { λ r. ⌜ r ≡ is-u32-val v ⌝ }
 {
     if is_scalar(v) {

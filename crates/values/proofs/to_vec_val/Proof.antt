@@ -5,6 +5,9 @@ use Rattle.values.proofs.to_vec_val.Statement.{statement}
 use Rattle.values.specs.Values.{to-vec-val}
 use Rattle.values.proofs.to_vec_val.Tie as tie
 
+cast-make-vec-tagged : tie.Need-cast-make-vec-tagged
+cast-make-vec-tagged c = search needs
+
 make-vec-tagged-requires : tie.Need-make-vec-tagged-requires
 make-vec-tagged-requires c κs = search needs
 
@@ -19,4 +22,5 @@ returns-2 c =
     simp (le-ltb _ _ (c .if1 .left))
 
 pub to-vec-val-spec : {M : Type 1} → statement M
-to-vec-val-spec = tie.close (tie.spec make-vec-tagged-requires returns returns-2)
+to-vec-val-spec =
+    tie.close (tie.spec cast-make-vec-tagged make-vec-tagged-requires returns returns-2)
