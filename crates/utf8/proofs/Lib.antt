@@ -1,0 +1,4 @@
+pub mod Lead
+pub mod Agrees
+pub mod Laws
+pub mod Examples
