@@ -1,3 +1,4 @@
+pub mod Elements
 pub mod Filling
 pub mod Placed
 pub mod Scaled

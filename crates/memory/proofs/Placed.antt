@@ -6,9 +6,9 @@ use native.Mathlib.Omega.{arith}
 use lib.Dec.{eqb, ltb}
 use borrow.Author.Tests.{ltb-true}
 use Rattle.errors.specs.declared.Refusal.the-variants.{InvalidType, MSliceParamOverflow}
-use Rattle.values.specs.declared.ValueResult.the-variants.{Value, NoValue}
-use Rattle.values.specs.Values.{to-vec-val, make-vec-tagged}
 use Rattle.memory.specs.Allocation.{offset-aligned, is-element-tag, vector}
+use Rattle.values.specs.Values.{to-vec-val, make-vec-tagged}
+use Rattle.values.specs.declared.ValueResult.the-variants.{Value, NoValue}
 
 -- the offset is not below the length in use
 pub aligned-above : (used tag : ℕ) → used ≤ offset-aligned used tag

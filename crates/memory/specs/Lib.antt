@@ -1,2 +1,3 @@
 pub mod Allocation
 pub mod Change
+pub mod Reads

@@ -1,7 +1,7 @@
 // Allocation: where a vector starts, and its bytes written behind the length in use.
 ghost use mathlib.Core.Path.{_≡_};
 ghost use Prim.Native.Nat.{_≤_, _<_};
-ghost use lib.ListN.{length, replicate};
+ghost use lib.ListN.{length};
 ghost use lib.Seq.{sets};
 ghost use Rattle.memory.specs.Allocation.{offset-aligned, is-element-tag, vector, filling, alloc, after};
 use crate::AllocResult;
@@ -42,41 +42,18 @@ pub fn vector(used: usize, size: u16, tag: u8) -> ValueResult
     ValueResult::NoValue(Refusal::InvalidType)
 }
 
-// Zeros over a whole part.
-fn clear(part: &mut [u8])
-    ensures { λ r. ⌜ now (part .exit) ≡ replicate (length (now (part .entry))) 0 ⌝ }
-{
-    let mut i = 0;
-    while i < part.len() {
-        part[i] = 0;
-        i += 1;
-    }
-}
-
-// The bytes over a whole part.
-fn copy(part: &mut [u8], bytes: &[u8])
-    requires { ⌜ length (now bytes) ≡ length (now part) ⌝ }
-    ensures { λ r. ⌜ now (part .exit) ≡ now (bytes .entry) ⌝ }
-{
-    let mut i = 0;
-    while i < part.len() {
-        part[i] = bytes[i];
-        i += 1;
-    }
-}
-
 // The payload at the head of a part, and zeros behind it up to the size.
 fn fill(part: &mut [u8], payload: &[u8], size: usize)
     requires { ⌜ size ≤ length (now part) ⌝ }
     ensures { λ r. ⌜ now (part .exit) ≡ sets (now (part .entry)) 0 (filling size (now (payload .entry))) ⌝ }
 {
-    if size <= payload.len() {
-        copy(&mut part[..size], &payload[..size]);
+    let count = payload.len();
+    if size <= count {
+        slices::write(&mut part[..size], &payload[..size], 0);
         return;
     }
-    let count = payload.len();
-    copy(&mut part[..count], payload);
-    clear(&mut part[count..size]);
+    slices::write(part, payload, 0);
+    slices::clear(&mut part[count..size]);
 }
 
 // A new vector behind the length in use: padding, and then the tail of the memory is handed on to be filled.
@@ -91,7 +68,7 @@ pub fn alloc(memory: &mut [u8], payload: &[u8], used: usize, size: u16, tag: u8)
             if memory.len() < end {
                 return AllocResult::NotAllocated(Refusal::MemoryTooShort);
             }
-            clear(&mut memory[used..offset]);
+            slices::clear(&mut memory[used..offset]);
             fill(&mut memory[offset..], payload, size as usize);
             AllocResult::Allocated { value, used: end }
         }

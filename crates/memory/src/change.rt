@@ -66,7 +66,13 @@ fn put_u8(memory: &mut [u8], at: usize, number: u32)
 }
 
 // The element of this width at an index, where the vector has it and lies in memory.
-fn change_element(memory: &mut [u8], pointer: FatPointer, index: u32, payload: u32, width: u32) -> ChangeResult
+fn change_element(
+    memory: &mut [u8],
+    pointer: FatPointer,
+    index: u32,
+    payload: u32,
+    width: u32,
+) -> ChangeResult
     requires { ⌜ (width ≡ 1) ⊎ (width ≡ 4) ⌝ }
     ensures { λ r. ⌜ after r (now (memory .exit)) ≡ changed (now (memory .entry)) pointer index payload (Size width) ⌝ }
 {
@@ -77,19 +83,19 @@ fn change_element(memory: &mut [u8], pointer: FatPointer, index: u32, payload: u
             size,
         });
     }
-    if !lies_in(memory.len(), pointer) {
-        return ChangeResult::NotChanged(Refusal::MSliceOutOfBounds {
-            index: pointer.offset,
-            size,
-        });
-    }
-    let at = pointer.offset as usize + index as usize * width as usize;
-    if width == 1 {
-        put_u8(memory, at, payload);
+    if lies_in(memory.len(), pointer) {
+        let at = pointer.offset as usize + index as usize * width as usize;
+        if width == 1 {
+            put_u8(memory, at, payload);
+            return ChangeResult::Changed;
+        }
+        put_u32(memory, at, payload);
         return ChangeResult::Changed;
     }
-    put_u32(memory, at, payload);
-    ChangeResult::Changed
+    ChangeResult::NotChanged(Refusal::MSliceOutOfBounds {
+        index: pointer.offset,
+        size,
+    })
 }
 
 // M_MUTA on the memory in use.

@@ -1,6 +1,7 @@
 // Linear memory: allocation, change of an element, equality of two vectors, and reads of a part.
 pub mod allocation;
 pub mod change;
+pub mod reads;
 
 use errors::Refusal;
 

@@ -1,23 +1,17 @@
-use Rattle.values.specs.Values.{to-vec-val}
-use Rattle.memory.proofs.Placed.{aligned-above}
-use Rattle.memory.specs.Allocation.{vector, offset-aligned}
-use borrow.Author.Tests.{le-ltb}
-use native.Mathlib.Omega.{arith}
+-- `memory::allocation::vector` meets its contract.
 use Prim.Native.Nat.{_≤_, _^_}
+use native.Mathlib.Omega.{arith}
 use borrow.Author.Needs.{needs}
+use borrow.Author.Tests.{le-ltb}
+use Rattle.memory.proofs.Placed.{aligned-above}
 use Rattle.memory.proofs.allocation.vector.Statement.{statement}
+use Rattle.memory.specs.Allocation.{vector, offset-aligned}
+use Rattle.values.specs.Values.{to-vec-val}
 use Rattle.memory.proofs.allocation.vector.Tie as tie
-use Rattle.memory.proofs.allocation.vector.Reads as reads
-use Rattle.memory.proofs.allocation.vector.Lts as lts
-use Rattle.memory.proofs.allocation.is_element_tag.Reads as is-element-tag-reads
-use Rattle.memory.proofs.allocation.offset_aligned.Reads as offset-aligned-reads
-use Rattle.values.proofs.to_vec_val.Reads as to-vec-val-reads
 
--- src/allocation.rt:36:8
 is-element-tag-requires : tie.Need-is-element-tag-requires
 is-element-tag-requires c κs = search needs
 
--- src/allocation.rt:38:13
 returns : tie.Need-returns
 unfolding vector to-vec-val
 returns c =
@@ -25,21 +19,17 @@ returns c =
     let high : 2 ^ 25 ≤ offset-aligned (start .args .used) (start .args .tag) = omega (arith, aligned-above (start .args .used) (start .args .tag)) in
     simp (← c .before .before .is-element-tag .ensures, c .before .if1 .taken, le-ltb _ _ high)
 
--- src/allocation.rt:40:35
 offset-aligned-requires : tie.Need-offset-aligned-requires
 offset-aligned-requires c κs = search needs
 
--- src/allocation.rt:40:9
 to-vec-val-requires : tie.Need-to-vec-val-requires
 to-vec-val-requires c κs = search needs
 
--- src/allocation.rt:40:9
 returns-2 : tie.Need-returns-2
 unfolding vector
 returns-2 c =
     simp (← c .to-vec-val .ensures, ← c .before .offset-aligned .ensures, ← c .before .before .before .before .is-element-tag .ensures, c .before .before .before .if1 .taken)
 
--- src/allocation.rt:33:1
 returns-3 : tie.Need-returns-3
 unfolding vector
 returns-3 c =

@@ -1,23 +1,19 @@
-use Rattle.memory.specs.Change.{element-size-bytes}
-use borrow.Author.Tests.{le-ltb, lt-ltb, le-leb, lt-leb, eq-eqb, ne-eqb}
+-- `memory::change::element_size_bytes` meets its contract.
+use borrow.Author.Tests.{eq-eqb, ne-eqb}
 use Rattle.memory.proofs.change.element_size_bytes.Statement.{statement}
+use Rattle.memory.specs.Change.{element-size-bytes}
 use Rattle.memory.proofs.change.element_size_bytes.Tie as tie
-use Rattle.memory.proofs.change.element_size_bytes.Reads as reads
-use Rattle.memory.proofs.change.element_size_bytes.Lts as lts
 
--- src/change.rt:21:9
 returns : tie.Need-returns
 unfolding element-size-bytes
 returns c =
     simp (eq-eqb _ _ (c .if1 .taken))
 
--- src/change.rt:24:9
 returns-2 : tie.Need-returns-2
 unfolding element-size-bytes
 returns-2 c =
     simp (eq-eqb _ _ (c .if2 .taken), ne-eqb _ _ (c .before .if1 .left))
 
--- src/change.rt:17:1
 returns-3 : tie.Need-returns-3
 unfolding element-size-bytes
 returns-3 c =

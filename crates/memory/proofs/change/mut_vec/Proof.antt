@@ -1,38 +1,36 @@
+-- `memory::change::mut_vec` meets its contract.
+use mathlib.Core.Path.{sym, _∙_}
 use borrow.Author.Needs.{needs}
+use Rattle.memory.proofs.Elements.{one-or-four}
 use Rattle.memory.proofs.change.mut_vec.Statement.{statement}
+use Rattle.memory.specs.Change.{mut-vec, changed, element-size-bytes}
 use Rattle.memory.proofs.change.mut_vec.Tie as tie
-use Rattle.memory.proofs.change.mut_vec.Reads as reads
-use Rattle.memory.proofs.change.mut_vec.Lts as lts
-use Rattle.memory.proofs.change.change_element.Reads as change-element-reads
-use Rattle.memory.proofs.change.element_size_bytes.Reads as element-size-bytes-reads
 
--- src/change.rt:105:11
 element-size-bytes-requires : tie.Need-element-size-bytes-requires
 element-size-bytes-requires c κs = search needs
 
--- src/change.rt:106:28
 enum-known-refusal : tie.Need-enum-known-refusal
 enum-known-refusal c = search needs
 
--- src/change.rt:107:26
 enum-known-width : tie.Need-enum-known-width
 enum-known-width c = search needs
 
--- src/change.rt:107:36
 change-element-requires : tie.Need-change-element-requires
-change-element-requires c κs = ?
+change-element-requires c κs =
+    one-or-four _ _ (sym (c .before .before .before .before .element-size-bytes .ensures) ∙ c .before .before .width .given .1)
 
--- src/change.rt:96:1
 returns : tie.Need-returns
-returns c = ?
+unfolding mut-vec changed
+returns c =
+    simp (← c .before .before .before .element-size-bytes .ensures, c .before .refusal .given .1)
 
--- src/change.rt:96:1
 same-length : tie.Need-same-length
 same-length c = search needs
 
--- src/change.rt:96:1
 returns-2 : tie.Need-returns-2
-returns-2 c = ?
+unfolding mut-vec
+returns-2 c =
+    simp (← c .before .before .before .before .before .before .before .element-size-bytes .ensures, c .before .before .before .before .before .width .given .1) (c .before .before .change-element .ensures)
 
 pub mut-vec-spec : {M : Type 1} → statement M
 mut-vec-spec =

@@ -1,66 +1,52 @@
-use Rattle.memory.specs.Change.{little-endian}
-use lib.ListN.{length-set}
-use native.Mathlib.Omega.{arith}
-use mathlib.Core.Path.{_≡_}
+-- `memory::change::put_u32` meets its contract.
 use Prim.Native.Nat.{suc, _+_}
+use mathlib.Core.Path.{_≡_}
+use native.Mathlib.Omega.{arith}
+use lib.ListN.{length-set}
 use borrow.Author.Needs.{needs}
 use Rattle.memory.proofs.change.put_u32.Statement.{statement}
+use Rattle.memory.specs.Change.{little-endian}
 use Rattle.memory.proofs.change.put_u32.Tie as tie
-use Rattle.memory.proofs.change.put_u32.Reads as reads
-use Rattle.memory.proofs.change.put_u32.Lts as lts
 
--- src/change.rt:54:18
 cast-memory : tie.Need-cast-memory
 cast-memory c = search needs
 
--- src/change.rt:54:5
 slice-write-memory : tie.Need-slice-write-memory
 slice-write-memory c = search needs
 
--- src/change.rt:55:22
 cast-memory-2 : tie.Need-cast-memory-2
 cast-memory-2 c = search needs
 
--- src/change.rt:55:12
 add-memory : tie.Need-add-memory
 add-memory c = search needs
 
--- src/change.rt:55:5
 slice-write-memory-2 : tie.Need-slice-write-memory-2
 slice-write-memory-2 c =
     simp length-set (omega arith)
 
--- src/change.rt:56:22
 cast-memory-3 : tie.Need-cast-memory-3
 cast-memory-3 c = search needs
 
--- src/change.rt:56:12
 add-memory-2 : tie.Need-add-memory-2
 add-memory-2 c = search needs
 
--- src/change.rt:56:5
 slice-write-memory-3 : tie.Need-slice-write-memory-3
 slice-write-memory-3 c =
     simp length-set (omega arith)
 
--- src/change.rt:57:22
 cast-memory-4 : tie.Need-cast-memory-4
 cast-memory-4 c = search needs
 
--- src/change.rt:57:12
 add-memory-3 : tie.Need-add-memory-3
 add-memory-3 c = search needs
 
--- src/change.rt:57:5
 slice-write-memory-4 : tie.Need-slice-write-memory-4
 slice-write-memory-4 c =
     simp length-set (omega arith)
 
--- src/change.rt:50:1
 same-length : tie.Need-same-length
 same-length c = search needs
 
--- src/change.rt:50:1
 returns : tie.Need-returns
 unfolding little-endian
 returns c =

@@ -1,1 +1,0 @@
-// Laws of lists that every layer cites and the kit does not have; there is no function here.

@@ -1,0 +1,2 @@
+pub mod Equality
+pub mod Writes
