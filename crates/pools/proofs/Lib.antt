@@ -1,0 +1,4 @@
+pub mod Copies
+pub mod Ends
+pub mod Interns
+pub mod Laws

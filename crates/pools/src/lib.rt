@@ -1,0 +1,211 @@
+// The pool of instructions: entries end to end in lent bytes, told apart by their ends.
+ghost use mathlib.Core.Path.{_≡_};
+ghost use Prim.Native.Nat.{_+_, _<_, _≤_, min};
+ghost use lib.ListN.{length, set, take, drop};
+ghost use lib.Seq.{paste};
+ghost use Rattle.pools.specs.Pool.{start-of, end-of, bounds, entry-of, has-room, new-entry, pooled, interned, part-in-use, never-fall, end-to-end};
+use errors::Refusal;
+
+// The bytes that a pool holds at most.
+const POOL_BYTES: usize = 65536;
+
+// The entries that a pool holds at most.
+const POOL_ENTRIES: usize = 1024;
+
+// Which entry of the pool.
+pub struct InstructionsRef(pub u32);
+
+// Where an entry stands in the pool.
+pub enum BoundsResult {
+    Bounds { start: usize, end: usize },
+    NoBounds(Refusal),
+}
+
+// What interning answers: the new entry, and the bytes in use with it.
+pub enum InternResult {
+    Interned {
+        entry: InstructionsRef,
+        bytes: usize,
+    },
+    NotInterned(Refusal),
+}
+
+// The smaller of two numbers.
+fn smaller(a: usize, b: usize) -> usize
+    ensures { λ r. ⌜ r ≡ min a b ⌝ }
+{
+    if a < b {
+        return a;
+    }
+    b
+}
+
+// An end as a place in the pool.
+fn wide(end: u32) -> usize
+    ensures { λ r. ⌜ r ≡ end ⌝ }
+{
+    end as usize
+}
+
+// The end of an entry, 0 past the last.
+fn end_of(ends: &[u32], index: usize) -> usize
+    ensures { λ r. ⌜ r ≡ end-of (now (ends .entry)) index ⌝ }
+{
+    if index < ends.len() {
+        return wide(ends[index]);
+    }
+    0
+}
+
+// The start of an entry: the end before it.
+fn start_of(ends: &[u32], index: usize) -> usize
+    ensures { λ r. ⌜ r ≡ start-of (now (ends .entry)) index ⌝ }
+{
+    if index == 0 {
+        return 0;
+    }
+    end_of(ends, index - 1)
+}
+
+// Where an entry stands in the pool, where there is one.
+pub fn bounds(ends: &[u32; 1024], entries: usize, entry: InstructionsRef) -> BoundsResult
+    ensures { λ r. ⌜ r ≡ bounds (now (ends .entry)) entries entry ⌝ }
+{
+    let index = entry.0 as usize;
+    if index < smaller(entries, POOL_ENTRIES) {
+        return BoundsResult::Bounds {
+            start: start_of(ends, index),
+            end: end_of(ends, index),
+        };
+    }
+    BoundsResult::NoBounds(Refusal::InvalidInstructionsIndex(entry.0))
+}
+
+// The bytes of an entry: a part of the pool.
+pub fn get<'a>(pool: &'a [u8], ends: &[u32; 1024], entry: InstructionsRef) -> &'a [u8]
+    ensures { λ r. ⌜ now r ≡ entry-of (now (pool .entry)) (now (ends .entry)) (entry .0) ⌝ }
+{
+    let index = entry.0 as usize;
+    let end = smaller(end_of(ends, index), pool.len());
+    let start = smaller(start_of(ends, index), end);
+    &pool[start..end]
+}
+
+// Whether a pool of the lent length takes one more entry of a size.
+fn has_room(lent: usize, bytes: usize, entries: usize, size: usize) -> bool
+    ensures { λ r. ⌜ r ≡ has-room lent bytes entries size ⌝ }
+{
+    let room = smaller(POOL_BYTES, lent);
+    if POOL_ENTRIES <= entries {
+        return false;
+    }
+    if room < bytes {
+        return false;
+    }
+    size <= room - bytes
+}
+
+// Writes calldata into the pool.
+fn write(pool: &mut [u8], calldata: &[u8], at: usize)
+    requires { ⌜ at + length (now calldata) ≤ length (now pool) ⌝ }
+    ensures { λ _. ⌜ now (pool .exit) ≡ paste (now (pool .entry)) at (now (calldata .entry)) (length (now (calldata .entry))) ⌝ }
+{
+    let mut i = 0;
+    while i < calldata.len() {
+        let k = at + i;
+        pool[k] = calldata[i];
+        i += 1;
+    }
+}
+
+// Writes a part of the pool once more, behind it.
+fn write_part(pool: &mut [u8], start: usize, size: usize, at: usize)
+    requires { ⌜ (start + size ≤ at) × (at + size ≤ length (now pool)) ⌝ }
+    ensures { λ _. ⌜ now (pool .exit) ≡ paste (now (pool .entry)) at (take size (drop start (now (pool .entry)))) size ⌝ }
+{
+    let mut i = 0;
+    while i < size {
+        let j = start + i;
+        let k = at + i;
+        pool[k] = pool[j];
+        i += 1;
+    }
+}
+
+// Writes the end of a new entry.
+fn new_entry(ends: &mut [u32; 1024], entries: usize, end: usize) -> InternResult
+    requires { ⌜ (entries < 1024) × (end ≤ 65536) ⌝ }
+    ensures { λ r. ⌜ (r ≡ new-entry entries end) × (now (ends .exit) ≡ set (now (ends .entry)) entries end) ⌝ }
+{
+    ends[entries] = end as u32;
+    InternResult::Interned {
+        entry: InstructionsRef(entries as u32),
+        bytes: end,
+    }
+}
+
+// Joins an entry at the pool's end.
+pub fn intern_instructions(
+    pool: &mut [u8],
+    ends: &mut [u32; 1024],
+    bytes: usize,
+    entries: usize,
+    calldata: &[u8],
+) -> InternResult
+    ensures { λ r. ⌜ pooled r (now (pool .exit)) (now (ends .exit)) ≡ interned (now (pool .entry)) (now (ends .entry)) bytes entries (now (calldata .entry)) ⌝ }
+{
+    let size = calldata.len();
+    if has_room(pool.len(), bytes, entries, size) {
+        write(pool, calldata, bytes);
+        return new_entry(ends, entries, bytes + size);
+    }
+    InternResult::NotInterned(Refusal::PoolFull)
+}
+
+// Joins an entry whose data stands in the pool itself, within the bytes in use.
+pub fn intern_part(
+    pool: &mut [u8],
+    ends: &mut [u32; 1024],
+    bytes: usize,
+    entries: usize,
+    start: usize,
+    size: usize,
+) -> InternResult
+    ensures { λ r. ⌜ pooled r (now (pool .exit)) (now (ends .exit)) ≡ interned (now (pool .entry)) (now (ends .entry)) bytes entries (part-in-use (now (pool .entry)) bytes start size) ⌝ }
+{
+    let used = smaller(bytes, pool.len());
+    let from = smaller(start, used);
+    let count = smaller(size, used - from);
+    if has_room(pool.len(), bytes, entries, count) {
+        write_part(pool, from, count, bytes);
+        return new_entry(ends, entries, bytes + count);
+    }
+    InternResult::NotInterned(Refusal::PoolFull)
+}
+
+// Whether no end is below the one before it.
+fn never_fall(ends: &[u32], entries: usize) -> bool
+    ensures { λ r. ⌜ r ≡ never-fall (now (ends .entry)) entries ⌝ }
+{
+    let mut i = 0;
+    while i < entries {
+        if end_of(ends, i) < start_of(ends, i) {
+            return false;
+        }
+        i += 1;
+    }
+    true
+}
+
+// Whether the entries stand end to end in the bytes in use.
+pub fn end_to_end(ends: &[u32; 1024], bytes: usize, entries: usize) -> bool
+    ensures { λ r. ⌜ r ≡ end-to-end (now (ends .entry)) bytes entries ⌝ }
+{
+    if POOL_ENTRIES < entries {
+        return false;
+    }
+    if never_fall(ends, entries) {
+        return start_of(ends, entries) == bytes;
+    }
+    false
+}
