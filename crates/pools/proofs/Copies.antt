@@ -27,12 +27,6 @@ turn {before} {at} {calldata} {pool} {i} c room more =
       long = length-set pool (at + i) (getD calldata i 0) ∙ c .long;
     }
 
--- after the last one
-pub ended : {before : List ℕ} {at : ℕ} {calldata pool : List ℕ} {i : ℕ} → Copied before at calldata pool i → length calldata ≤ i → pool ≡ paste before at calldata (length calldata)
-ended {before} {at} {calldata} {pool} {i} c all =
-    let e : i ≡ length calldata = omega (arith, c .some) in
-    rw (← e) (c .same)
-
 -- what stands before the copy stays
 pub before-copy : (pool : List ℕ) (at : ℕ) (calldata : List ℕ) (n i : ℕ) → at ≤ length pool → i < at → getD (paste pool at calldata n) i 0 ≡ getD pool i 0
 before-copy pool at calldata n i room less =

@@ -1,12 +1,12 @@
 -- What interning does where there is room, and where there is none.
 use Prim.Native.Nat.{ℕ, _+_, _<_, _≤_, min}
 use mathlib.Core.Bool.{Bool, true, false, and-eq-true-iff}
-use mathlib.Core.List.{List}
+use mathlib.Core.List.{List, _++_}
 use mathlib.Core.Path.{_≡_, sym, ap, _∙_}
 use native.Mathlib.Omega.{arith}
 use lib.Dec.{ltb, leb}
-use lib.ListN.{length, set}
-use lib.Seq.{paste}
+use lib.ListN.{length, set, take, drop}
+use lib.Seq.{paste, sets, sets-eq, take-length}
 use borrow.Author.Tests.{ltb-true, leb-true}
 use Rattle.errors.specs.declared.Refusal.the-variants.{PoolFull}
 use Rattle.pools.specs.Pool.{has-room, pooled, new-entry, interned}
@@ -31,12 +31,23 @@ room lent bytes entries size held =
 pub room-of : {lent bytes entries size : ℕ} {test : Bool} → test ≡ has-room lent bytes entries size → test ≡ true → Room lent bytes entries size
 room-of is held = room _ _ _ _ (sym is ∙ held)
 
+-- a write that fits, as a copy of all its bytes
+pub pasted : (pool : List ℕ) (at : ℕ) (calldata : List ℕ) → at + length calldata ≤ length pool → paste pool at calldata (length calldata) ≡ sets pool at calldata
+pasted pool at calldata fits =
+    ap (λ (bytes : List ℕ). take at pool ++ bytes ++ drop (at + length calldata) pool) (take-length calldata) ∙ sym (sets-eq calldata pool at fits)
+
+opened : (pool ends : List ℕ) (bytes entries : ℕ) (calldata : List ℕ) → has-room (length pool) bytes entries (length calldata) ≡ true
+    → interned pool ends bytes entries calldata ≡ pooled (new-entry entries (bytes + length calldata)) (sets pool bytes calldata) (set ends entries (bytes + length calldata))
+unfolding interned
+opened pool ends bytes entries calldata held = rw held
+
 module _ (pool ends : List ℕ) (bytes entries : ℕ) (calldata : List ℕ) where
   -- where there is room, the data and its end are written
   pub when-room : has-room (length pool) bytes entries (length calldata) ≡ true
       → interned pool ends bytes entries calldata ≡ pooled (new-entry entries (bytes + length calldata)) (paste pool bytes calldata (length calldata)) (set ends entries (bytes + length calldata))
-  unfolding interned
-  when-room held = rw held
+  when-room held =
+      let fits : bytes + length calldata ≤ length pool = room _ _ _ _ held .there in
+      opened pool ends bytes entries calldata held ∙ ap (λ (written : List ℕ). pooled (new-entry entries (bytes + length calldata)) written (set ends entries (bytes + length calldata))) (sym (pasted pool bytes calldata fits))
 
   -- where there is none, nothing is
   pub when-full : has-room (length pool) bytes entries (length calldata) ≡ false → interned pool ends bytes entries calldata ≡ pooled (NotInterned PoolFull) pool ends

@@ -3,7 +3,7 @@ use Prim.Native.Nat.{ℕ, zero, suc, _+_, _-_, min}
 use mathlib.Core.Bool.{Bool, true, cond, _&&_}
 use mathlib.Core.List.{List, [], _∷_, _++_}
 use lib.ListN.{length, getD, take, drop, set}
-use lib.Seq.{paste}
+use lib.Seq.{sets}
 use lib.Dec.{eqb, ltb, leb}
 use Rattle.errors.specs.declared.Refusal.the-variants.{InvalidInstructionsIndex, PoolFull}
 use Rattle.pools.specs.declared.InstructionsRef.{InstructionsRef}
@@ -59,7 +59,7 @@ unfoldable pub interned : List ℕ → List ℕ → ℕ → ℕ → List ℕ →
 interned pool ends bytes entries calldata =
     cond (has-room (length pool) bytes entries (length calldata))
     (pooled (new-entry entries (bytes + length calldata))
-    (paste pool bytes calldata (length calldata))
+    (sets pool bytes calldata)
     (set ends entries (bytes + length calldata)))
     (pooled (NotInterned PoolFull) pool ends)
 

@@ -105,19 +105,6 @@ fn has_room(lent: usize, bytes: usize, entries: usize, size: usize) -> bool
     size <= room - bytes
 }
 
-// Writes calldata into the pool.
-fn write(pool: &mut [u8], calldata: &[u8], at: usize)
-    requires { ⌜ at + length (now calldata) ≤ length (now pool) ⌝ }
-    ensures { λ _. ⌜ now (pool .exit) ≡ paste (now (pool .entry)) at (now (calldata .entry)) (length (now (calldata .entry))) ⌝ }
-{
-    let mut i = 0;
-    while i < calldata.len() {
-        let k = at + i;
-        pool[k] = calldata[i];
-        i += 1;
-    }
-}
-
 // Writes a part of the pool once more, behind it.
 fn write_part(pool: &mut [u8], start: usize, size: usize, at: usize)
     requires { ⌜ (start + size ≤ at) × (at + size ≤ length (now pool)) ⌝ }
@@ -156,7 +143,7 @@ pub fn intern_instructions(
 {
     let size = calldata.len();
     if has_room(pool.len(), bytes, entries, size) {
-        write(pool, calldata, bytes);
+        slices::write(pool, calldata, bytes);
         return new_entry(ends, entries, bytes + size);
     }
     InternResult::NotInterned(Refusal::PoolFull)
