@@ -3,3 +3,4 @@ pub mod Stack
 pub mod Control
 pub mod Equality
 pub mod Store
+pub mod Cut

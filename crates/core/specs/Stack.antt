@@ -1,7 +1,8 @@
 -- Opcodes over the stack alone, each a chain of tests in the order of document 01; `next` is the place behind the instruction.
-use Prim.Native.Nat.{ℕ}
+use Prim.Native.Nat.{ℕ, _+_}
 use mathlib.Core.Bool.{Bool}
 use mathlib.Core.List.{List}
+use lib.ListN.{set}
 use Rattle.inlinevec.specs.Stacks.{Stacked, push, pop, last}
 use Rattle.inlinevec.specs.declared.HeightResult.{HeightResult}
 use Rattle.inlinevec.specs.declared.HeightResult.the-variants.{NewHeight, NoNewHeight}
@@ -83,6 +84,15 @@ dup-last stack registers next (NoLast refusal) = on-stack (Refused refusal) stac
 
 unfoldable pub op-dup : List ℕ → Registers → ℕ → OnStack
 op-dup stack registers next = dup-last stack registers next (last stack (registers .height))
+
+-- SWAP: 3, 3
+unfoldable pub swapped : List ℕ → Registers → ℕ → PopTwoResult → OnStack
+swapped stack registers next (PoppedTwo top below height) =
+    on-stack (Next (moved registers next (registers .height))) (set (set stack height top) (height + 1) below)
+swapped stack registers next (NotPoppedTwo refusal) = on-stack (Refused refusal) stack
+
+unfoldable pub op-swap : List ℕ → Registers → ℕ → OnStack
+op-swap stack registers next = swapped stack registers next (pop-two stack (registers .height))
 
 -- DROP: 3
 unfoldable pub dropped : Registers → ℕ → PopResult → Did

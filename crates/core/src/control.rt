@@ -1,4 +1,4 @@
-// Opcodes that choose where the run goes on: DO, LOOP, LOOP_INDEX, JUMP_IF_FALSE, and an instruction that the code's end cuts.
+// Opcodes that choose where the run goes on: DO, LOOP, LOOP_INDEX, JUMP_IF_FALSE.
 ghost use mathlib.Core.Path.{_≡_};
 ghost use Rattle.core.specs.Registers.{on-stack};
 ghost use Rattle.core.specs.Control.{looping, opened-to, op-do, op-loop, op-loop-index, op-jump-if-false};

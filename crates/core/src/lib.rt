@@ -1,5 +1,6 @@
 // The machine's record, and one function to an opcode over what that opcode touches.
 pub mod control;
+mod cut;
 pub mod equality;
 pub mod stack;
 pub mod store;

@@ -1,7 +1,7 @@
 // Opcodes over the stack alone: pushes, products, comparisons of numbers, DUP, SWAP, DROP.
 ghost use mathlib.Core.Path.{_≡_};
 ghost use Rattle.core.specs.Registers.{on-stack, moved};
-ghost use Rattle.core.specs.Stack.{pop-two, push-value, finish, op-push, op-mul, op-muli, op-compare, op-dup, op-drop};
+ghost use Rattle.core.specs.Stack.{pop-two, push-value, finish, op-push, op-mul, op-muli, op-compare, op-dup, op-swap, op-drop};
 use crate::Did;
 use crate::PopTwoResult;
 use crate::Registers;
@@ -154,6 +154,24 @@ pub fn op_dup(stack: &mut [u64; 1000], registers: Registers, next: usize) -> Did
     match inlinevec::last(stack, registers.height) {
         LastResult::NoLast(refusal) => Did::Refused(refusal),
         LastResult::Last(value) => push_value(stack, registers, next, registers.height, value),
+    }
+}
+
+// SWAP.
+pub fn op_swap(stack: &mut [u64; 1000], registers: Registers, next: usize) -> Did
+    ensures { λ r. ⌜ on-stack r (now (stack .exit)) ≡ op-swap (now (stack .entry)) registers next ⌝ }
+{
+    match pop_two(stack, registers.height) {
+        PopTwoResult::NotPoppedTwo(refusal) => Did::Refused(refusal),
+        PopTwoResult::PoppedTwo {
+            first: top,
+            second: below,
+            height,
+        } => {
+            stack[height] = top;
+            stack[height + 1] = below;
+            Did::Next(moved(registers, next, registers.height))
+        }
     }
 }
 

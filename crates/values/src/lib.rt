@@ -125,7 +125,7 @@ pub fn is_vec(v: u64) -> bool
 }
 
 // The three lowest bits of a word.
-fn raw_tag(v: u64) -> u64
+pub fn raw_tag(v: u64) -> u64
     ensures { λ r. ⌜ r ≡ raw-tag v ⌝ }
 {
     v % 8
