@@ -4,3 +4,4 @@ pub mod Control
 pub mod Equality
 pub mod Store
 pub mod Cut
+pub mod Operated
