@@ -1,15 +1,15 @@
 -- Where a pop leaves the height.
-use Prim.Native.Nat.{ℕ, _+_, _-_, _≤_, _<_}
+use Prim.Native.Nat.{ℕ, _+_, _-_, _≤_}
 use mathlib.Core.List.{List}
 use mathlib.Core.Path.{_≡_, refl}
 use native.Mathlib.Omega.{arith}
 use lib.ListN.{getD}
-use Rattle.inlinevec.specs.Stacks.{pop}
-use Rattle.inlinevec.specs.declared.PopResult.{PopResult}
-use Rattle.inlinevec.specs.declared.PopResult.the-variants.{Popped, NotPopped}
-use Rattle.inlinevec.proofs.Refusals.{had-some}
 use Rattle.core.specs.Stack.{pop-two, pop-first, pop-second}
-use Rattle.core.specs.declared.PopTwoResult.the-variants.{PoppedTwo, NotPoppedTwo}
+use Rattle.core.specs.declared.PopTwoResult.the-variants.{PoppedTwo}
+use Rattle.inlinevec.proofs.Refusals.{had-some}
+use Rattle.inlinevec.specs.Stacks.{pop}
+use Rattle.inlinevec.specs.declared.PopResult.the-variants.{Popped, NotPopped}
+use Rattle.inlinevec.specs.declared.PopResult.{PopResult}
 
 -- one below, and within the capacity
 pub record Below (height new : ℕ) : Type 0 where

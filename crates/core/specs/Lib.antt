@@ -5,3 +5,4 @@ pub mod Equality
 pub mod Store
 pub mod Cut
 pub mod Operated
+pub mod Execute

@@ -2,6 +2,7 @@
 pub mod control;
 mod cut;
 pub mod equality;
+mod execute;
 mod operated;
 pub mod stack;
 pub mod store;

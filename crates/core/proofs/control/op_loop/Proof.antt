@@ -1,69 +1,50 @@
-use Rattle.core.specs.Control.{looped}
-use Rattle.core.specs.Control.{op-loop}
-use borrow.Author.Tests.{le-ltb, lt-ltb, le-leb, lt-leb, eq-eqb, ne-eqb}
+-- `core::control::op_loop` meets its contract.
 use borrow.Author.Needs.{needs}
+use borrow.Author.Tests.{le-ltb, lt-ltb}
 use Rattle.core.proofs.control.op_loop.Statement.{statement}
+use Rattle.core.specs.Control.{looped, op-loop}
 use Rattle.core.proofs.control.op_loop.Tie as tie
-use Rattle.core.proofs.control.op_loop.Reads as reads
-use Rattle.core.proofs.control.op_loop.Lts as lts
-use Rattle.core.proofs.control.looping.Reads as looping-reads
-use Rattle.core.proofs.control.opened_to.Reads as opened-to-reads
-use Rattle.inlinevec.proofs.pop_loop.Reads as pop-loop-reads
-use Rattle.inlinevec.proofs.push_loop.Reads as push-loop-reads
 
--- src/control.rt:67:11
 pop-loop-requires : tie.Need-pop-loop-requires
 pop-loop-requires c κs = search needs
 
--- src/control.rt:68:38
 enum-known-refusal : tie.Need-enum-known-refusal
 enum-known-refusal c = search needs
 
--- src/control.rt:69:37
 enum-known-last : tie.Need-enum-known-last
 enum-known-last c = search needs
 
--- src/control.rt:70:16
 cast-if1 : tie.Need-cast-if1
 cast-if1 c = search needs
 
--- src/control.rt:70:16
 add-if1 : tie.Need-add-if1
 add-if1 c = search needs
 
--- src/control.rt:70:40
 cast-if1-2 : tie.Need-cast-if1-2
 cast-if1-2 c = search needs
 
--- src/control.rt:73:28
 add-t14 : tie.Need-add-t14
 add-t14 c = search needs
 
--- src/control.rt:80:21
 push-loop-requires : tie.Need-push-loop-requires
 push-loop-requires c κs = search needs
 
--- src/control.rt:76:17
 opened-to-requires : tie.Need-opened-to-requires
 opened-to-requires c κs = search needs
 
--- src/control.rt:76:17
 returns : tie.Need-returns
 unfolding op-loop looped
 returns c =
     simp (← c .opened-to .ensures, ← c .before .push-loop .ensures, lt-ltb _ _ (c .before .before .before .if1 .taken), c .before .before .before .before .before .before .before .last .given .1, ← c .before .before .before .before .before .before .before .before .before .pop-loop .ensures)
 
--- src/control.rt:83:23
 looping-requires : tie.Need-looping-requires
 looping-requires c κs = search needs
 
--- src/control.rt:63:1
 returns-2 : tie.Need-returns-2
 unfolding op-loop looped
 returns-2 c =
     simp (c .before .refusal .given .1, ← c .before .before .before .pop-loop .ensures)
 
--- src/control.rt:63:1
 returns-3 : tie.Need-returns-3
 unfolding op-loop looped
 returns-3 c =

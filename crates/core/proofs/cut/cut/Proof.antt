@@ -1,45 +1,34 @@
-use Rattle.core.specs.Cut.{cut}
-use borrow.Author.Tests.{le-ltb, lt-ltb, le-leb, lt-leb, eq-eqb, ne-eqb}
+-- `core::cut::cut` meets its contract.
 use borrow.Author.Needs.{needs}
+use borrow.Author.Tests.{eq-eqb, ne-eqb}
 use Rattle.core.proofs.cut.cut.Statement.{statement}
+use Rattle.core.specs.Cut.{cut}
 use Rattle.core.proofs.cut.cut.Tie as tie
-use Rattle.core.proofs.cut.cut.Reads as reads
-use Rattle.core.proofs.cut.cut.Lts as lts
-use Rattle.core.proofs.cut.cut_jump.Reads as cut-jump-reads
-use Rattle.core.proofs.cut.cut_m_st.Reads as cut-m-st-reads
-use Rattle.core.proofs.cut.cut_muli.Reads as cut-muli-reads
 
--- src/cut.rt:64:9
 cut-muli-requires : tie.Need-cut-muli-requires
 cut-muli-requires c κs = search needs
 
--- src/cut.rt:64:9
 returns : tie.Need-returns
 unfolding cut
 returns c =
     simp (← c .cut-muli .ensures, eq-eqb _ _ (c .before .if1 .taken))
 
--- src/cut.rt:67:9
 cut-m-st-requires : tie.Need-cut-m-st-requires
 cut-m-st-requires c κs = search needs
 
--- src/cut.rt:67:9
 returns-2 : tie.Need-returns-2
 unfolding cut
 returns-2 c =
     simp (← c .cut-m-st .ensures, eq-eqb _ _ (c .before .if2 .taken), ne-eqb _ _ (c .before .before .if1 .left))
 
--- src/cut.rt:70:9
 cut-jump-requires : tie.Need-cut-jump-requires
 cut-jump-requires c κs = search needs
 
--- src/cut.rt:70:9
 returns-3 : tie.Need-returns-3
 unfolding cut
 returns-3 c =
     simp (← c .cut-jump .ensures, eq-eqb _ _ (c .before .if3 .taken), ne-eqb _ _ (c .before .before .if2 .left), ne-eqb _ _ (c .before .before .before .if1 .left))
 
--- src/cut.rt:59:1
 returns-4 : tie.Need-returns-4
 unfolding cut
 returns-4 c =

@@ -1,41 +1,29 @@
-use Rattle.core.specs.Operated.{with-operand}
-use Rattle.core.specs.Operated.{jump-if-false}
-use borrow.Author.Tests.{le-ltb, lt-ltb, le-leb, lt-leb, eq-eqb, ne-eqb}
+-- `core::operated::jump_if_false` meets its contract.
 use borrow.Author.Needs.{needs}
 use Rattle.core.proofs.operated.jump_if_false.Statement.{statement}
+use Rattle.core.specs.Operated.{with-operand, jump-if-false}
 use Rattle.core.proofs.operated.jump_if_false.Tie as tie
-use Rattle.core.proofs.operated.jump_if_false.Reads as reads
-use Rattle.core.proofs.operated.jump_if_false.Lts as lts
-use Rattle.bytecode.proofs.operands.prepare_u32_from_be_checked.Reads as prepare-u32-from-be-checked-reads
-use Rattle.core.proofs.control.op_jump_if_false.Reads as op-jump-if-false-reads
 
--- src/operated.rt:68:45
 add-prepare-u32-from-be-checked : tie.Need-add-prepare-u32-from-be-checked
 add-prepare-u32-from-be-checked c = search needs
 
--- src/operated.rt:68:11
 prepare-u32-from-be-checked-requires : tie.Need-prepare-u32-from-be-checked-requires
 prepare-u32-from-be-checked-requires c κs = search needs
 
--- src/operated.rt:69:34
 enum-known-refusal : tie.Need-enum-known-refusal
 enum-known-refusal c = search needs
 
--- src/operated.rt:70:32
 enum-known-target : tie.Need-enum-known-target
 enum-known-target c = search needs
 
--- src/operated.rt:70:43
 op-jump-if-false-requires : tie.Need-op-jump-if-false-requires
 op-jump-if-false-requires c κs = search needs
 
--- src/operated.rt:59:1
 returns : tie.Need-returns
 unfolding jump-if-false with-operand
 returns c =
     simp (c .before .refusal .given .1, ← c .before .before .before .prepare-u32-from-be-checked .ensures)
 
--- src/operated.rt:59:1
 returns-2 : tie.Need-returns-2
 unfolding jump-if-false with-operand
 returns-2 c =

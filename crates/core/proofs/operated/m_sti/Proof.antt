@@ -1,90 +1,66 @@
-use Rattle.core.specs.Operated.{with-operand}
-use Rattle.core.specs.Operated.{m-sti}
-use borrow.Author.Tests.{le-ltb, lt-ltb, le-leb, lt-leb, eq-eqb, ne-eqb}
+-- `core::operated::m_sti` meets its contract.
 use borrow.Author.Needs.{needs}
 use Rattle.core.proofs.operated.m_sti.Statement.{statement}
+use Rattle.core.specs.Operated.{with-operand, m-sti}
 use Rattle.core.proofs.operated.m_sti.Tie as tie
-use Rattle.core.proofs.operated.m_sti.Reads as reads
-use Rattle.core.proofs.operated.m_sti.Lts as lts
-use Rattle.bytecode.proofs.operands.prepare_u16_from_be_checked.Reads as prepare-u16-from-be-checked-reads
-use Rattle.bytecode.proofs.operands.prepare_u8.Reads as prepare-u8-reads
-use Rattle.core.proofs.operated.m_sti_of.Reads as m-sti-of-reads
 
--- src/operated.rt:153:45
 add-prepare-u16-from-be-checked : tie.Need-add-prepare-u16-from-be-checked
 add-prepare-u16-from-be-checked c = search needs
 
--- src/operated.rt:153:11
 prepare-u16-from-be-checked-requires : tie.Need-prepare-u16-from-be-checked-requires
 prepare-u16-from-be-checked-requires c κs = search needs
 
--- src/operated.rt:154:34
 enum-known-refusal : tie.Need-enum-known-refusal
 enum-known-refusal c = search needs
 
--- src/operated.rt:155:32
 enum-known-size : tie.Need-enum-known-size
 enum-known-size c = search needs
 
--- src/operated.rt:155:64
 add-prepare-u8 : tie.Need-add-prepare-u8
 add-prepare-u8 c = search needs
 
--- src/operated.rt:155:47
 prepare-u8-requires : tie.Need-prepare-u8-requires
 prepare-u8-requires c κs = search needs
 
--- src/operated.rt:156:38
 enum-known-refusal-2 : tie.Need-enum-known-refusal-2
 enum-known-refusal-2 c = search needs
 
--- src/operated.rt:157:36
 enum-known-tag : tie.Need-enum-known-tag
 enum-known-tag c = search needs
 
--- src/operated.rt:157:67
 add-prepare-u8-2 : tie.Need-add-prepare-u8-2
 add-prepare-u8-2 c = search needs
 
--- src/operated.rt:157:50
 prepare-u8-requires-2 : tie.Need-prepare-u8-requires-2
 prepare-u8-requires-2 c κs = search needs
 
--- src/operated.rt:158:42
 enum-known-refusal-3 : tie.Need-enum-known-refusal-3
 enum-known-refusal-3 c = search needs
 
--- src/operated.rt:159:40
 enum-known-signal : tie.Need-enum-known-signal
 enum-known-signal c = search needs
 
--- src/operated.rt:159:51
 m-sti-of-requires : tie.Need-m-sti-of-requires
 m-sti-of-requires c κs = search needs
 
--- src/operated.rt:143:1
 returns : tie.Need-returns
 unfolding m-sti with-operand
 returns c =
     simp (c .before .refusal .given .1, ← c .before .before .before .prepare-u16-from-be-checked .ensures)
 
--- src/operated.rt:143:1
 returns-2 : tie.Need-returns-2
 unfolding m-sti with-operand
 returns-2 c =
     simp (c .before .refusal2 .given .1, ← c .before .before .before .prepare-u8 .ensures, c .before .before .before .before .before .before .size .given .1, ← c .before .before .before .before .before .before .before .before .prepare-u16-from-be-checked .ensures)
 
--- src/operated.rt:143:1
 returns-3 : tie.Need-returns-3
 unfolding m-sti with-operand
 returns-3 c =
     simp (c .before .refusal3 .given .1, ← c .before .before .before .prepare-u82 .ensures, c .before .before .before .before .before .before .tag .given .1, ← c .before .before .before .before .before .before .before .before .prepare-u8 .ensures, c .before .before .before .before .before .before .before .before .before .before .before .size .given .1, ← c .before .before .before .before .before .before .before .before .before .before .before .before .before .prepare-u16-from-be-checked .ensures)
 
--- src/operated.rt:143:1
 same-length : tie.Need-same-length
 same-length c = search needs
 
--- src/operated.rt:143:1
 returns-4 : tie.Need-returns-4
 unfolding m-sti with-operand
 returns-4 c =

@@ -1,22 +1,15 @@
-use Rattle.core.specs.Stack.{op-push}
-use borrow.Author.Tests.{le-ltb, lt-ltb, le-leb, lt-leb, eq-eqb, ne-eqb}
+-- `core::stack::op_push` meets its contract.
 use borrow.Author.Needs.{needs}
 use Rattle.core.proofs.stack.op_push.Statement.{statement}
+use Rattle.core.specs.Stack.{op-push}
 use Rattle.core.proofs.stack.op_push.Tie as tie
-use Rattle.core.proofs.stack.op_push.Reads as reads
-use Rattle.core.proofs.stack.op_push.Lts as lts
-use Rattle.core.proofs.stack.push_value.Reads as push-value-reads
-use Rattle.values.proofs.to_u32_val.Reads as to-u32-val-reads
 
--- src/stack.rt:90:9
 to-u32-val-requires : tie.Need-to-u32-val-requires
 to-u32-val-requires c κs = search needs
 
--- src/stack.rt:85:5
 push-value-requires : tie.Need-push-value-requires
 push-value-requires c κs = search needs
 
--- src/stack.rt:82:1
 returns : tie.Need-returns
 unfolding op-push
 returns c =

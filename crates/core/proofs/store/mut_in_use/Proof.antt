@@ -1,26 +1,21 @@
-use Rattle.core.specs.Store.{mut-in-use}
-use lib.Seq.{take-all, length-take-le}
-use lib.ListN.{length, take, drop, drop-of-length-le}
-use native.Mathlib.Omega.{arith}
-use mathlib.Core.Path.{_≡_, sym}
-use mathlib.Core.List.{[], append-nil}
+-- `core::store::mut_in_use` meets its contract.
 use Prim.Native.Nat.{_≤_}
+use mathlib.Core.List.{[], append-nil}
+use mathlib.Core.Path.{_≡_, sym}
+use native.Mathlib.Omega.{arith}
+use lib.ListN.{length, take, drop, drop-of-length-le}
+use lib.Seq.{take-all, length-take-le}
 use borrow.Author.Needs.{needs}
 use Rattle.core.proofs.store.mut_in_use.Statement.{statement}
+use Rattle.core.specs.Store.{mut-in-use}
 use Rattle.core.proofs.store.mut_in_use.Tie as tie
-use Rattle.core.proofs.store.mut_in_use.Reads as reads
-use Rattle.core.proofs.store.mut_in_use.Lts as lts
-use Rattle.memory.proofs.change.mut_vec.Reads as mut-vec-reads
 
--- src/store.rt:106:9
 mut-vec-requires : tie.Need-mut-vec-requires
 mut-vec-requires c κs = search needs
 
--- src/store.rt:106:9
 same-length : tie.Need-same-length
 same-length c = search needs
 
--- src/store.rt:106:9
 returns : tie.Need-returns
 unfolding mut-in-use
 returns c =
@@ -30,26 +25,21 @@ returns c =
     let ended : drop (start .args .used) (start .args .memory .now) ≡ [] = drop-of-length-le (start .args .memory .now) past in
     simp (whole, ended, ← c .before .before .mut-vec .ensures, append-nil)
 
--- src/store.rt:108:29
 slice-relend-prefix-mut-vec : tie.Need-slice-relend-prefix-mut-vec
 slice-relend-prefix-mut-vec c = search needs
 
--- src/store.rt:108:29
 slice-aggregate-mut-vec : tie.Need-slice-aggregate-mut-vec
 slice-aggregate-mut-vec c =
     let start = c .before .before .before in
     let some : start .args .used ≤ length (start .args .memory .now) = omega arith in
     sym (length-take-le (start .args .used) (start .args .memory .now) some)
 
--- src/store.rt:108:5
 mut-vec-requires-2 : tie.Need-mut-vec-requires-2
 mut-vec-requires-2 c κs = search needs
 
--- src/store.rt:94:1
 same-length-2 : tie.Need-same-length-2
 same-length-2 c = search needs
 
--- src/store.rt:94:1
 returns-2 : tie.Need-returns-2
 unfolding mut-in-use
 returns-2 c =

@@ -1,70 +1,49 @@
-use Rattle.core.specs.Store.{mutated}
-use Rattle.core.specs.Store.{mutate-at}
-use Rattle.core.specs.Store.{mutate}
-use borrow.Author.Tests.{le-ltb, lt-ltb, le-leb, lt-leb, eq-eqb, ne-eqb}
+-- `core::store::mutate` meets its contract.
 use borrow.Author.Needs.{needs}
 use Rattle.core.proofs.store.mutate.Statement.{statement}
+use Rattle.core.specs.Store.{mutated, mutate-at, mutate}
 use Rattle.core.proofs.store.mutate.Tie as tie
-use Rattle.core.proofs.store.mutate.Reads as reads
-use Rattle.core.proofs.store.mutate.Lts as lts
-use Rattle.core.proofs.stack.moved.Reads as moved-reads
-use Rattle.core.proofs.store.mut_in_use.Reads as mut-in-use-reads
-use Rattle.values.proofs.raw_tag.Reads as raw-tag-reads
-use Rattle.values.proofs.to_fat_pointer.Reads as to-fat-pointer-reads
 
--- src/store.rt:123:11
 to-fat-pointer-requires : tie.Need-to-fat-pointer-requires
 to-fat-pointer-requires c κs = search needs
 
--- src/store.rt:124:34
 enum-known-refusal : tie.Need-enum-known-refusal
 enum-known-refusal c = search needs
 
--- src/store.rt:125:32
 enum-known-pointer : tie.Need-enum-known-pointer
 enum-known-pointer c = search needs
 
--- src/store.rt:132:17
 raw-tag-requires : tie.Need-raw-tag-requires
 raw-tag-requires c κs = search needs
 
--- src/store.rt:126:19
 mut-in-use-requires : tie.Need-mut-in-use-requires
 mut-in-use-requires c κs = search needs
 
--- src/store.rt:134:42
 enum-known-refusal-2 : tie.Need-enum-known-refusal-2
 enum-known-refusal-2 c = search needs
 
--- src/store.rt:135:52
 enum-told : tie.Need-enum-told
 enum-told c = search needs
 
--- src/store.rt:135:52
 moved-requires : tie.Need-moved-requires
 moved-requires c κs = search needs
 
--- src/store.rt:112:1
 returns : tie.Need-returns
 unfolding mutate mutate-at mutated
 returns c =
     simp (c .before .refusal .given .1, ← c .before .before .before .to-fat-pointer .ensures)
 
--- src/store.rt:112:1
 same-length : tie.Need-same-length
 same-length c = search needs
 
--- src/store.rt:112:1
 returns-2 : tie.Need-returns-2
 unfolding mutate mutate-at mutated
 returns-2 c =
     simp (c .before .refusal2 .given .1, ← c .before .before .before .before .before .mut-in-use .ensures, ← c .before .before .before .before .before .before .raw-tag .ensures, c .before .before .before .before .before .before .before .before .before .pointer .given .1, ← c .before .before .before .before .before .before .before .before .before .before .before .to-fat-pointer .ensures)
 
--- src/store.rt:112:1
 same-length-2 : tie.Need-same-length-2
 same-length-2 c = search needs
 
--- src/store.rt:112:1
 returns-3 : tie.Need-returns-3
 unfolding mutate mutate-at mutated
 returns-3 c =
