@@ -9,10 +9,10 @@ use Rattle.inlinevec.specs.Stacks.{pop}
 use Rattle.inlinevec.specs.declared.PopResult.{PopResult}
 use Rattle.inlinevec.specs.declared.PopResult.the-variants.{Popped, NotPopped}
 use Rattle.values.specs.Values.{to-u32, to-bool-val}
-use Rattle.core.specs.Registers.{moved}
-use Rattle.core.specs.declared.Registers.{Registers}
-use Rattle.core.specs.declared.Did.{Did}
-use Rattle.core.specs.declared.Did.the-variants.{Next, Refused}
+use Rattle.opcodes.specs.Registers.{moved}
+use Rattle.opcodes.specs.declared.Registers.{Registers}
+use Rattle.opcodes.specs.declared.Did.{Did}
+use Rattle.opcodes.specs.declared.Did.the-variants.{Next, Refused}
 
 -- MULI: 3, then 2
 unfoldable pub cut-value : PopResult → Did

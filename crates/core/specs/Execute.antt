@@ -8,15 +8,15 @@ use Rattle.bytecode.specs.Opcodes.{PUSH-U32, PUSH-STATE, PUSH-TASK-FIELD, PUSH-
 use Rattle.bytecode.specs.Operands.{extent}
 use Rattle.bytecode.specs.declared.Extent.{Extent}
 use Rattle.bytecode.specs.declared.Extent.the-variants as extents
-use Rattle.core.specs.Registers.{OnStack, on-stack, OnMemory, on-memory, moved}
-use Rattle.core.specs.Stack.{op-push, op-mul, op-compare, op-dup, op-swap, op-drop}
-use Rattle.core.specs.Control.{op-do, op-loop, op-loop-index}
-use Rattle.core.specs.Equality.{op-eq}
-use Rattle.core.specs.Store.{ChangedTo, op-m-muta}
+use Rattle.opcodes.specs.Registers.{OnStack, on-stack, OnMemory, on-memory, moved}
+use Rattle.opcodes.specs.Stack.{op-push, op-mul, op-compare, op-dup, op-swap, op-drop}
+use Rattle.opcodes.specs.Control.{op-do, op-loop, op-loop-index}
+use Rattle.opcodes.specs.Equality.{op-eq}
+use Rattle.opcodes.specs.Store.{ChangedTo, op-m-muta}
 use Rattle.core.specs.Operated.{push-u32, push-u8, muli, jump-if-false, m-st, m-sti}
 use Rattle.core.specs.Cut.{cut}
-use Rattle.core.specs.declared.Registers.{Registers}
-use Rattle.core.specs.declared.Did.the-variants.{Next}
+use Rattle.opcodes.specs.declared.Registers.{Registers}
+use Rattle.opcodes.specs.declared.Did.the-variants.{Next}
 
 -- an instruction that leaves the memory, and one that leaves the stack
 abbrev pub kept : OnStack → List ℕ → OnMemory

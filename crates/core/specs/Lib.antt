@@ -1,8 +1,3 @@
-pub mod Registers
-pub mod Stack
-pub mod Control
-pub mod Equality
-pub mod Store
 pub mod Cut
 pub mod Operated
 pub mod Execute

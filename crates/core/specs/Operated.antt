@@ -8,13 +8,13 @@ use Rattle.errors.specs.declared.Refusal.{Refusal}
 use Rattle.bytecode.specs.Operands.{operand}
 use Rattle.bytecode.specs.declared.OperandResult.{OperandResult}
 use Rattle.bytecode.specs.declared.OperandResult.the-variants.{Operand, NoOperand}
-use Rattle.core.specs.Registers.{OnStack, on-stack, OnMemory, on-memory}
-use Rattle.core.specs.Stack.{op-push, op-muli}
-use Rattle.core.specs.Control.{op-jump-if-false}
-use Rattle.core.specs.Store.{op-m-st, store}
-use Rattle.core.specs.declared.Registers.{Registers}
-use Rattle.core.specs.declared.Did.{Did}
-use Rattle.core.specs.declared.Did.the-variants.{Refused}
+use Rattle.opcodes.specs.Registers.{OnStack, on-stack, OnMemory, on-memory}
+use Rattle.opcodes.specs.Stack.{op-push, op-muli}
+use Rattle.opcodes.specs.Control.{op-jump-if-false}
+use Rattle.opcodes.specs.Store.{op-m-st, store}
+use Rattle.opcodes.specs.declared.Registers.{Registers}
+use Rattle.opcodes.specs.declared.Did.{Did}
+use Rattle.opcodes.specs.declared.Did.the-variants.{Refused}
 
 -- on with an operand, or 2
 unfoldable pub with-operand : {A : Type 0} → (Refusal → A) → (ℕ → A) → OperandResult → A

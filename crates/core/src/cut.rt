@@ -2,14 +2,14 @@
 ghost use mathlib.Core.Path.{_≡_};
 ghost use Prim.Native.Nat.{_≤_};
 ghost use Rattle.core.specs.Cut.{cut-muli, cut-m-st, cut-jump, cut};
-use crate::Did;
-use crate::Registers;
-use crate::stack::moved;
 use bytecode::opcodes::JUMP_IF_FALSE;
 use bytecode::opcodes::M_ST;
 use bytecode::opcodes::MULI;
 use errors::Refusal;
 use inlinevec::PopResult;
+use opcodes::Did;
+use opcodes::Registers;
+use opcodes::stack::moved;
 
 // MULI.
 fn cut_muli(stack: &[u64; 1000], registers: Registers) -> Did

@@ -2,32 +2,32 @@
 ghost use mathlib.Core.Path.{_≡_};
 ghost use Prim.Native.Nat.{_≤_, _<_};
 ghost use lib.ListN.{length};
-ghost use Rattle.core.specs.Registers.{on-stack, on-memory};
+ghost use Rattle.opcodes.specs.Registers.{on-stack, on-memory};
 ghost use Rattle.core.specs.Execute.{plain, operated, execute, instruct};
-use crate::Did;
-use crate::Registers;
-use crate::control::op_do;
-use crate::control::op_loop;
-use crate::control::op_loop_index;
 use crate::cut::cut;
-use crate::equality::op_eq;
 use crate::operated::jump_if_false;
 use crate::operated::m_st;
 use crate::operated::m_sti;
 use crate::operated::muli;
 use crate::operated::push_u8;
 use crate::operated::push_u32;
-use crate::stack::moved;
-use crate::stack::op_compare;
-use crate::stack::op_drop;
-use crate::stack::op_dup;
-use crate::stack::op_mul;
-use crate::stack::op_push;
-use crate::stack::op_swap;
-use crate::store::op_m_muta;
 use bytecode::Extent;
 use bytecode::opcodes::*;
 use bytecode::operands::extent;
+use opcodes::Did;
+use opcodes::Registers;
+use opcodes::control::op_do;
+use opcodes::control::op_loop;
+use opcodes::control::op_loop_index;
+use opcodes::equality::op_eq;
+use opcodes::stack::moved;
+use opcodes::stack::op_compare;
+use opcodes::stack::op_drop;
+use opcodes::stack::op_dup;
+use opcodes::stack::op_mul;
+use opcodes::stack::op_push;
+use opcodes::stack::op_swap;
+use opcodes::store::op_m_muta;
 
 // Over the stack alone. Bytes without an opcode, and S_LOAD, do nothing.
 fn plain(stack: &mut [u64; 1000], registers: Registers, next: usize, op: u8, count: u32) -> Did

@@ -1,13 +1,8 @@
-// The machine's record, and one function to an opcode over what that opcode touches.
-pub mod control;
+// The machine's record, and its instructions one after the other.
 mod cut;
-pub mod equality;
 mod execute;
 mod operated;
-pub mod stack;
-pub mod store;
 
-use errors::Refusal;
 use inlinevec::Frames;
 use inlinevec::Loops;
 
@@ -31,29 +26,4 @@ pub struct Machine {
     pub next_id: u32,
     pub count: u32,
     pub saved: usize,
-}
-
-// What an instruction that needs no task, frame or pool changes of the machine: the place in the current code, the height of the stack, the
-// open loops, the length of memory in use.
-pub struct Registers {
-    pub place: usize,
-    pub height: usize,
-    pub loops: Loops,
-    pub memory: usize,
-}
-
-// What such an instruction answers.
-pub enum Did {
-    Next(Registers),
-    Refused(Refusal),
-}
-
-// Two values off the stack, the topmost first, and the height without them.
-pub enum PopTwoResult {
-    PoppedTwo {
-        first: u64,
-        second: u64,
-        height: usize,
-    },
-    NotPoppedTwo(Refusal),
 }

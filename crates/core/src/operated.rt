@@ -1,19 +1,19 @@
 // Opcodes with operands: each reads its operand, which stands behind the opcode, and goes on as the function of its name.
 ghost use mathlib.Core.Path.{_≡_};
 ghost use Prim.Native.Nat.{_≤_};
-ghost use Rattle.core.specs.Registers.{on-stack, on-memory};
+ghost use Rattle.opcodes.specs.Registers.{on-stack, on-memory};
 ghost use Rattle.core.specs.Operated.{push-u32, push-u8, muli, jump-if-false, m-st, m-sti-of, m-sti};
-use crate::Did;
-use crate::Registers;
-use crate::control::op_jump_if_false;
-use crate::stack::op_muli;
-use crate::stack::op_push;
-use crate::store::op_m_st;
-use crate::store::store;
 use bytecode::OperandResult;
 use bytecode::operands::prepare_u8;
 use bytecode::operands::prepare_u16_from_be_checked;
 use bytecode::operands::prepare_u32_from_be_checked;
+use opcodes::Did;
+use opcodes::Registers;
+use opcodes::control::op_jump_if_false;
+use opcodes::stack::op_muli;
+use opcodes::stack::op_push;
+use opcodes::store::op_m_st;
+use opcodes::store::store;
 
 // PUSH_U32.
 pub(crate) fn push_u32(
