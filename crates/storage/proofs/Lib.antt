@@ -1,1 +1,3 @@
 pub mod Titles
+pub mod Records
+pub mod Setting

@@ -61,7 +61,7 @@ new-task id title state instructions-ref = record {
 }
 
 -- the task with another state byte
-unfoldable pub restated : Task → ℕ → Task
+abbrev pub restated : Task → ℕ → Task
 restated task state = record {
   living = task .living;
   id = task .id;
