@@ -1,3 +1,4 @@
 pub mod Titles
 pub mod Records
 pub mod Setting
+pub mod Turns
