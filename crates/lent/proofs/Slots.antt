@@ -1,7 +1,7 @@
 -- The counter of a loop over all slots of a lent slice.
-use Prim.Native.Nat.{ℕ, suc, _+_, _-_, _*_, _<_, _≤_, _^_}
-use native.Mathlib.Omega.{arith}
+use Prim.Native.Nat.{ℕ, _+_, _-_, _<_, _≤_, _^_}
 use mathlib.Core.Path.{_≡_}
+use native.Mathlib.Omega.{arith}
 
 pub zero-fits : 0 < 2 ^ 64
 zero-fits = omega arith

@@ -1,4 +1,6 @@
-pub mod Titles
 pub mod Records
+pub mod Titles
 pub mod Setting
 pub mod Turns
+pub mod Laws
+pub mod Soundness
