@@ -7,12 +7,12 @@ use lib.ListN.{length, getD, set, List·getD-eq-default}
 use lib.Seq.{set-out}
 use borrow.Author.Tests.{le-leb}
 use Rattle.errors.specs.declared.Refusal.the-variants.{InvalidStatus}
-use Rattle.storage.specs.Table.{set-state-at}
-use Rattle.storage.specs.Tasks.{blank, with-state, restated, After, after, set-state}
-use Rattle.storage.specs.declared.StateResult.the-variants.{NotSet}
-use Rattle.storage.specs.declared.StateResult.{StateResult}
-use Rattle.storage.specs.declared.Stated.{Stated}
 use Rattle.storage.specs.declared.Task.{Task}
+use Rattle.storage.specs.declared.Stated.{Stated}
+use Rattle.storage.specs.declared.StateResult.{StateResult}
+use Rattle.storage.specs.declared.StateResult.the-variants.{NotSet}
+use Rattle.storage.specs.Tasks.{blank, with-state, restated, After, after, set-state}
+use Rattle.storage.specs.Table.{set-state-at}
 
 -- what `with_state` says, stored
 pub set-as : (task : Task) (new-state : ℕ) (r : Stated) → r ≡ with-state (task .state) new-state

@@ -10,7 +10,6 @@ use lib.Seq.{set-out}
 use borrow.Author.Tests.{eq-eqb, le-leb, lt-ltb, eqb-true, leb-true, leb-false, ltb-true, ltb-false}
 use Rattle.errors.specs.declared.Refusal.the-variants.{InvalidStatus}
 use Rattle.pools.specs.declared.InstructionsRef.{InstructionsRef}
-use Rattle.storage.proofs.Laws.{len-after-max}
 use Rattle.storage.specs.Storage.{len-after}
 use Rattle.storage.specs.Table.{set-state-at, sound-slot, sound-slots, sound-counts, sound-table}
 use Rattle.storage.specs.Tasks.{blank, stated, with-state, new-task, set-state}
@@ -19,6 +18,7 @@ use Rattle.storage.specs.declared.Stated.{Stated}
 use Rattle.storage.specs.declared.Task.{Task}
 use Rattle.storage.specs.declared.TaskId.{TaskId}
 use Rattle.storage.specs.declared.TaskState.{TaskState}
+use Rattle.storage.proofs.Laws.{len-after-max}
 
 -- ---- one slot after another
 

@@ -7,9 +7,9 @@ use native.Mathlib.Numerals.{add-one}
 use native.Mathlib.Omega.{arith}
 use lib.ListN.{length, drop, getD, set, replicate, length-replicate, drop-of-length-le, replicate-append-replicate}
 use lib.Seq.{drop-cons, set-at}
-use Rattle.storage.specs.Table.{lives, living-of, sound-slot, sound-slots, sound-counts, sound-table}
-use Rattle.storage.specs.Tasks.{blank, After, after}
 use Rattle.storage.specs.declared.Task.{Task}
+use Rattle.storage.specs.Tasks.{blank, After, after}
+use Rattle.storage.specs.Table.{lives, living-of, sound-slot, sound-slots, sound-counts, sound-table}
 
 -- what reading a slot says: the record, and that the table stays
 pub read : {r t : Task} {zs ys : List Task} → after r zs ≡ after t ys → (r ≡ t) × (zs ≡ ys)

@@ -1,6 +1,6 @@
 -- `storage::storage::find` meets its contract.
-use Rattle.storage.proofs.storage.find.Statement.{statement}
 use Rattle.storage.specs.Storage.{find}
+use Rattle.storage.proofs.storage.find.Statement.{statement}
 use Rattle.storage.proofs.storage.find.Tie as tie
 
 returns : tie.Need-returns

@@ -1,8 +1,8 @@
 -- `storage::storage::len_after` meets its contract.
 use borrow.Author.Needs.{needs}
 use borrow.Author.Tests.{le-ltb, lt-ltb}
-use Rattle.storage.proofs.storage.len_after.Statement.{statement}
 use Rattle.storage.specs.Storage.{len-after}
+use Rattle.storage.proofs.storage.len_after.Statement.{statement}
 use Rattle.storage.proofs.storage.len_after.Tie as tie
 
 returns : tie.Need-returns

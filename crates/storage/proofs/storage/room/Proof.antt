@@ -1,7 +1,7 @@
 -- `storage::storage::room` meets its contract.
 use borrow.Author.Tests.{le-ltb, lt-ltb, le-leb, lt-leb}
-use Rattle.storage.proofs.storage.room.Statement.{statement}
 use Rattle.storage.specs.Storage.{room}
+use Rattle.storage.proofs.storage.room.Statement.{statement}
 use Rattle.storage.proofs.storage.room.Tie as tie
 
 returns : tie.Need-returns

@@ -1,8 +1,8 @@
 -- `storage::storage::slot_of` meets its contract.
 use mathlib.Core.Path.{refl}
 use borrow.Author.Needs.{needs}
-use Rattle.storage.proofs.storage.slot_of.Statement.{statement}
 use Rattle.storage.specs.Storage.{slot-of}
+use Rattle.storage.proofs.storage.slot_of.Statement.{statement}
 use Rattle.storage.proofs.storage.slot_of.Tie as tie
 
 cast-result : tie.Need-cast-result

@@ -1,8 +1,8 @@
 -- `storage::table::counted` meets its contract.
 use native.Mathlib.Omega.{arith}
 use borrow.Author.Needs.{needs}
-use Rattle.storage.proofs.table.counted.Statement.{statement}
 use Rattle.storage.specs.Table.{lives}
+use Rattle.storage.proofs.table.counted.Statement.{statement}
 use Rattle.storage.proofs.table.counted.Tie as tie
 
 add-result : tie.Need-add-result

@@ -1,7 +1,7 @@
 -- `storage::table::sound_counts` meets its contract.
 use borrow.Author.Tests.{le-leb, lt-leb, eq-eqb, ne-eqb}
-use Rattle.storage.proofs.table.sound_counts.Statement.{statement}
 use Rattle.storage.specs.Table.{sound-counts}
+use Rattle.storage.proofs.table.sound_counts.Statement.{statement}
 use Rattle.storage.proofs.table.sound_counts.Tie as tie
 
 returns : tie.Need-returns

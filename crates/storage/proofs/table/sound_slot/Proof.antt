@@ -3,8 +3,8 @@ use mathlib.Core.Bool.{Bool, true, cond, _&&_}
 use mathlib.Core.Path.{_≡_}
 use borrow.Author.Needs.{needs}
 use borrow.Author.Tests.{le-ltb, lt-ltb, le-leb, lt-leb, eq-eqb, ne-eqb}
-use Rattle.storage.proofs.table.sound_slot.Statement.{statement}
 use Rattle.storage.specs.Table.{sound-slot}
+use Rattle.storage.proofs.table.sound_slot.Statement.{statement}
 use Rattle.storage.proofs.table.sound_slot.Tie as tie
 
 -- the last test decides once the others hold

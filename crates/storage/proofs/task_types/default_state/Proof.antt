@@ -1,7 +1,7 @@
 -- `storage::task_types::default_state` meets its contract.
 use borrow.Author.Tests.{eq-eqb, ne-eqb}
-use Rattle.storage.proofs.task_types.default_state.Statement.{statement}
 use Rattle.storage.specs.Tasks.{default-state}
+use Rattle.storage.proofs.task_types.default_state.Statement.{statement}
 use Rattle.storage.proofs.task_types.default_state.Tie as tie
 
 returns : tie.Need-returns

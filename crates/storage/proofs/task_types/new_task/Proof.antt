@@ -1,7 +1,7 @@
 -- `storage::task_types::new_task` meets its contract.
 use borrow.Author.Needs.{needs}
-use Rattle.storage.proofs.task_types.new_task.Statement.{statement}
 use Rattle.storage.specs.Tasks.{new-task}
+use Rattle.storage.proofs.task_types.new_task.Statement.{statement}
 use Rattle.storage.proofs.task_types.new_task.Tie as tie
 
 title-len-requires : tie.Need-title-len-requires

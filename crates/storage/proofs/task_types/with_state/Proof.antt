@@ -1,8 +1,8 @@
 -- `storage::task_types::with_state` meets its contract.
 use borrow.Author.Needs.{needs}
 use borrow.Author.Tests.{le-leb, lt-leb}
-use Rattle.storage.proofs.task_types.with_state.Statement.{statement}
 use Rattle.storage.specs.Tasks.{with-state}
+use Rattle.storage.proofs.task_types.with_state.Statement.{statement}
 use Rattle.storage.proofs.task_types.with_state.Tie as tie
 
 cast-if1 : tie.Need-cast-if1
