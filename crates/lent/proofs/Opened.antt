@@ -16,7 +16,7 @@ use denote.Slice.{sliceVal, Room, at-slice, heres, codedHoleys}
 use denote.Lend.{Held}
 use denote.Index.{row, opens-slice, closes-slice}
 use denote.Steps.{nothing}
-use Rattle.lent.proofs.Lent.{Thing, part, hass, tokens}
+use Rattle.lent.proofs.Lent.{Thing, part, have, tokens}
 
 -- the group of one slice
 abbrev one : (R : RattleType) (κ : Lft) (q : Share) (γ : GName) (b o n : ℕ) → List Thing
@@ -28,13 +28,13 @@ opened 𝓤 R κ q γ ys zs b o Γ = ‵ (row R fullShare zs b o) ∷ ‵ (fobor
 
 module _ {M : Type 1} {𝓤 : URA M} {H : Heap 𝓤} {A : Atoms 𝓤} {K : Type 0} {W : Given 𝓤 H A} {Γ : List (Item 𝓤)} {G : Goal 𝓤 H} where
   pub opens-part : K → Soaks G → (R : RattleType) {κ : Lft} {q : Share} {γ : GName} (ys : List (R .Denot)) (b o n : ℕ)
-      → Step K W (opened 𝓤 R κ q γ ys ys b o Γ) G (‵ (hass (one R κ q γ b o n) (ys, tt)) ∷ ‵ (tokens (one R κ q γ b o n)) ∷ Γ) G
+      → Step K W (opened 𝓤 R κ q γ ys ys b o Γ) G (‵ (have (one R κ q γ b o n) (ys, tt)) ∷ ‵ (tokens (one R κ q γ b o n)) ∷ Γ) G
   opens-part t z R ys b o n = step (λ s.
       fsplit t $ fsplit t $ drop t $ fsplit t $ move t (3 ∷ []) $ fsplit t $ move t (1 ∷ []) $ drop t $ move t (3 ∷ []) $ drop t $ move t (1 ∷ 2 ∷ []) $
       opens-slice t z R ys b o $ s)
 
   pub closes-part : K → Soaks G → (R : RattleType) {κ : Lft} {q : Share} {γ : GName} (ys zs : List (R .Denot)) (b o n : ℕ) → length zs ≡ length ys → length zs ≡ n → Room R n
-      → Step K W (‵ (hass (one R κ q γ b o n) (zs, tt)) ∷ ‵ (tokens (one R κ q γ b o n)) ∷ Γ) G (opened 𝓤 R κ q γ ys zs b o Γ) G
+      → Step K W (‵ (have (one R κ q γ b o n) (zs, tt)) ∷ ‵ (tokens (one R κ q γ b o n)) ∷ Γ) G (opened 𝓤 R κ q γ ys zs b o Γ) G
   closes-part t z R {κ} {q} {γ} ys zs b o n same count room = step (λ s.
       closes-slice t z R ys zs same b o $ fjoin t $
       pureI t (at-slice R (record { ptr = (b, o); name = γ; now = zs }) (sliceVal (b, o) n ∷ [])) (tt, (tt, tt)) (ap (λ (m : ℕ). sliceVal (b, o) m ∷ []) (sym count), subst (Room R) (sym count) room) $

@@ -32,7 +32,7 @@ use denote.Triple.Statement.{Contract, Triple}
 use denote.Triple.Table.{entered, cited}
 use denote.Triple.Walked.{says, Stays, stay-slice, stay-none, walkOf, goes-slice, goes-none, Walks, ends-at, walked, walk-meets}
 use denote.Exit.{yes}
-use Rattle.lent.proofs.Lent.{Thing, part, hass, tokens, lent}
+use Rattle.lent.proofs.Lent.{Thing, part, have, tokens, lent}
 use Rattle.lent.proofs.Landed.{landed, landed-by}
 use Rattle.lent.proofs.Slots.{slot-fits}
 use Rattle.storage.specs.declared.Task.{Task}
@@ -83,7 +83,7 @@ module _ {M : Type 1} (𝓤 : URA M) (H : Heap 𝓤) (A : Atoms 𝓤) (W : Given
   Tab = part R b o n κ q γ ∷ []
 
   abbrev Has : List Task → List (Item 𝓤) → List (Item 𝓤)
-  Has zs Γ = ‵ (hass Tab (zs, tt)) ∷ ‵ (tokens Tab) ∷ Γ
+  Has zs Γ = ‵ (have Tab (zs, tt)) ∷ ‵ (tokens Tab) ∷ Γ
 
   module _ (room : Room R n) (slot-fits : slot < 2 ^ 64) where
     exits : (zs : List Task) → zs ≡ set ys slot blank → length zs ≡ n → ent 𝓤 (⋆ 𝓤 H A (Has zs [])) (Post (vunit))

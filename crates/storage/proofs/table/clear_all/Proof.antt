@@ -34,7 +34,7 @@ use denote.Triple.Spec.{Meets, tripleOf}
 use denote.Triple.Statement.{Contract, Triple}
 use denote.Triple.Table.{entered, cited}
 use denote.Triple.Walked.{says, Stays, stay-slice, walkOf, goes-slice, Walks, ends-at, walked, walk-meets}
-use Rattle.lent.proofs.Lent.{Thing, part, hass, tokens, lent}
+use Rattle.lent.proofs.Lent.{Thing, part, have, tokens, lent}
 use Rattle.lent.proofs.Landed.{landed-by}
 use Rattle.lent.proofs.Rest.{past}
 use Rattle.lent.proofs.Slots.{zero-fits, from-zero, next-in, slot-fits, next-fits, fewer, at-last}
@@ -89,7 +89,7 @@ module _ {M : Type 1} (𝓤 : URA M) (H : Heap 𝓤) (A : Atoms 𝓤) (W : Given
   Tab = part R b o n κ q γ ∷ []
 
   abbrev Has : List Task → List (Item 𝓤) → List (Item 𝓤)
-  Has zs Γ = ‵ (hass Tab (zs, tt)) ∷ ‵ (tokens Tab) ∷ Γ
+  Has zs Γ = ‵ (have Tab (zs, tt)) ∷ ‵ (tokens Tab) ∷ Γ
 
   module _ (room : Room R n) where
     exits : (zs : List Task) → zs ≡ replicate n blank → length zs ≡ n → ent 𝓤 (⋆ 𝓤 H A (Has zs [])) (Post (vunit))

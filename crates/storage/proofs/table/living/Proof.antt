@@ -34,7 +34,7 @@ use denote.Triple.Spec.{Meets, tripleOf}
 use denote.Triple.Statement.{Contract, Triple}
 use denote.Triple.Table.{entered, cited}
 use denote.Triple.Walked.{says, Stays, stay-slice, walkOf, goes-slice, Walks, ends-at, walked, walk-meets}
-use Rattle.lent.proofs.Lent.{Thing, part, hass, tokens, lent}
+use Rattle.lent.proofs.Lent.{Thing, part, have, tokens, lent}
 use Rattle.lent.proofs.Landed.{landed, landed-by}
 use Rattle.lent.proofs.Rest.{past}
 use Rattle.lent.proofs.Slots.{zero-fits, from-zero, next-in, slot-fits, next-fits, fewer}
@@ -101,7 +101,7 @@ module _ {M : Type 1} (𝓤 : URA M) (H : Heap 𝓤) (A : Atoms 𝓤) (W : Given
   Tab = part R b o n κ q γ ∷ []
 
   abbrev Has : List Task → List (Item 𝓤) → List (Item 𝓤)
-  Has zs Γ = ‵ (hass Tab (zs, tt)) ∷ ‵ (tokens Tab) ∷ Γ
+  Has zs Γ = ‵ (have Tab (zs, tt)) ∷ ‵ (tokens Tab) ∷ Γ
 
   module _ (room : Room R n) where
     exits : (k : ℕ) (zs : List Task) → k < 2 ^ 64 → k ≡ living-of ys → zs ≡ ys → length zs ≡ n → ent 𝓤 (⋆ 𝓤 H A (Has zs [])) (Post (vint w64 k))
@@ -161,7 +161,12 @@ module _ {M : Type 1} (𝓤 : URA M) (H : Heap 𝓤) (A : Atoms 𝓤) (W : Given
           land ! (from ! (stop !)) (store ! 16 refl (tt, record { fits = is₂ .1 })) $ drop ! $ drop ! $
           assigns-last ! (bin ! (load ! (from ! (stop !)) (look ! 12 refl)) (lit ! tt) (record { fits = next-fits (room .0) (ltb→lt (s .i) n more) })) (from ! (stop !)) (store ! 12 refl (tt, record { fits = next-fits (room .0) (ltb→lt (s .i) n more) })) $ forget ! 2 refl $ forget ! 4 refl $ forget ! 6 refl $ forget ! 8 refl $ forget ! 10 refl $
           again ! Less At s (record {
-            i = s .i + 1; k = r₂; ts = z₁ .0; i-in = next-in (ltb→lt (s .i) n more); k-few = still-few (s .k-few) e₂ (lives-most r₁); ts-is = read e₁ .1 ∙ s .ts-is;
+            i = s .i + 1;
+            k = r₂;
+            ts = z₁ .0;
+            i-in = next-in (ltb→lt (s .i) n more);
+            k-few = still-few (s .k-few) e₂ (lives-most r₁);
+            ts-is = read e₁ .1 ∙ s .ts-is;
             so-far = counts ys (s .i) (s .k) r₂ r₁ (ltb→lt (s .i) n more) (read e₁ .0 ∙ ap (λ (l : List Task). getD l (s .i) blank) (s .ts-is)) e₂ (s .so-far);
           }) (fewer (ltb→lt (s .i) n more)))))))))
           (λ out. jumps ! $ exec ! C Λ En mir.t-4 (atRet En Post) $

@@ -34,7 +34,7 @@ use denote.Triple.Spec.{Meets, tripleOf}
 use denote.Triple.Table.{entered}
 use denote.Triple.Walked.{says, Stays, stay-slice, stay-none, walkOf, goes-slice, goes-none, Walks, ends-at, walked, walk-meets}
 use denote.Exit.{yes}
-use Rattle.lent.proofs.Lent.{Thing, part, hass, tokens}
+use Rattle.lent.proofs.Lent.{Thing, part, have, tokens}
 use Rattle.lent.proofs.Opened.{opens-part, closes-part}
 use Rattle.lent.proofs.Rest.{past}
 use Rattle.lent.proofs.Slots.{slot-fits}
@@ -69,7 +69,7 @@ module _ {M : Type 1} (𝓤 : URA M) (H : Heap 𝓤) (A : Atoms 𝓤) (W : Given
   Tab = part R b o n κ q γ ∷ []
 
   abbrev Has : List Task → List (Item 𝓤) → List (Item 𝓤)
-  Has zs Γ = ‵ (hass Tab (zs, tt)) ∷ ‵ (tokens Tab) ∷ Γ
+  Has zs Γ = ‵ (have Tab (zs, tt)) ∷ ‵ (tokens Tab) ∷ Γ
 
   module _ (room : Room R n) (slot-fits : slot < 2 ^ 64) (t-is : Is R t (vals t)) where
     exits : (zs : List Task) → zs ≡ set ys slot t → length zs ≡ n → ent 𝓤 (⋆ 𝓤 H A (Has zs [])) (Post (vunit))

@@ -36,7 +36,7 @@ use denote.Triple.Statement.{Contract, Triple}
 use denote.Triple.Table.{entered, cited}
 use denote.Triple.Walked.{says, Stays, stay-slice, stay-none, walkOf, goes-slice, goes-none, Walks, ends-at, walked, walk-meets}
 use denote.Exit.{yes}
-use Rattle.lent.proofs.Lent.{Thing, part, hass, tokens, lent}
+use Rattle.lent.proofs.Lent.{Thing, part, have, tokens, lent}
 use Rattle.lent.proofs.Landed.{landed, landed-by}
 use Rattle.lent.proofs.Rest.{past}
 use Rattle.lent.proofs.Slots.{zero-fits, from-zero, next-in, slot-fits, next-fits as step-fits, fewer}
@@ -109,7 +109,7 @@ module _ {M : Type 1} (𝓤 : URA M) (H : Heap 𝓤) (A : Atoms 𝓤) (W : Given
   Tab = part R b o n κ q γ ∷ []
 
   abbrev Has : List Task → List (Item 𝓤) → List (Item 𝓤)
-  Has zs Γ = ‵ (hass Tab (zs, tt)) ∷ ‵ (tokens Tab) ∷ Γ
+  Has zs Γ = ‵ (have Tab (zs, tt)) ∷ ‵ (tokens Tab) ∷ Γ
 
   module _ (room : Room R n) (next-fits : next < 2 ^ 32) (held-fits : held < 2 ^ 32) where
     exits : (good : Bool) (zs : List Task) → good ≡ sound-table ys next held → zs ≡ ys → length zs ≡ n → ent 𝓤 (⋆ 𝓤 H A (Has zs [])) (Post (vbool good))
@@ -169,7 +169,11 @@ module _ {M : Type 1} (𝓤 : URA M) (H : Heap 𝓤) (A : Atoms 𝓤) (W : Given
           land ! (from ! (stop !)) (store ! 18 refl (tt, tt)) $ drop ! $ drop ! $
           assigns-last ! (bin ! (load ! (from ! (stop !)) (look ! 14 refl)) (lit ! tt) (record { fits = step-fits (room .0) (ltb→lt (s .i) n more) })) (from ! (stop !)) (store ! 14 refl (tt, record { fits = step-fits (room .0) (ltb→lt (s .i) n more) })) $ forget ! 2 refl $ forget ! 4 refl $ forget ! 6 refl $ forget ! 8 refl $ forget ! 12 refl $
           again ! Less At s (record {
-            i = s .i + 1; good = r₂; ts = z₁ .0; i-in = next-in (ltb→lt (s .i) n more); ts-is = read e₁ .1 ∙ s .ts-is;
+            i = s .i + 1;
+            good = r₂;
+            ts = z₁ .0;
+            i-in = next-in (ltb→lt (s .i) n more);
+            ts-is = read e₁ .1 ∙ s .ts-is;
             so-far = tests ys (s .i) held (s .good) r₂ _ r₁ (ltb→lt (s .i) n more) (read e₁ .0 ∙ ap (λ (l : List Task). getD l (s .i) blank) (s .ts-is)) e₂ (s .so-far);
           }) (fewer (ltb→lt (s .i) n more)))))))))
           (λ out. jumps ! $ exec ! C Λ En mir.t-5 (atRet En Post) $

@@ -88,12 +88,16 @@ made : (t : Task) (r : Stated) → Is R t (vals t) → Is stated-type.the-row r 
 made t r was is =
     struct.owes task.the-type task-laws.the-laws (restated t (r .state)) (
       struct.owed task.the-type task-laws.the-laws t (vals t) was .0,
-      (struct.owed task.the-type task-laws.the-laws t (vals t) was .1 .0,
-        (struct.owes state.the-type state-laws.the-laws (restated t (r .state) .state) (
-          struct.owed state.the-type state-laws.the-laws (t .state) (state-vals t) (state-is t was) .0,
-          (struct.owed stated-type.the-type stated-laws.the-laws r (stated-vals r) is .0, tt),
+      (
+        struct.owed task.the-type task-laws.the-laws t (vals t) was .1 .0,
+        (
+          struct.owes state.the-type state-laws.the-laws (restated t (r .state) .state) (
+            struct.owed state.the-type state-laws.the-laws (t .state) (state-vals t) (state-is t was) .0,
+            (struct.owed stated-type.the-type stated-laws.the-laws r (stated-vals r) is .0, tt),
+          ),
+          struct.owed task.the-type task-laws.the-laws t (vals t) was .1 .1 .1,
         ),
-          struct.owed task.the-type task-laws.the-laws t (vals t) was .1 .1 .1)),
+      ),
     )
 
 module _ {M : Type 1} (𝓤 : URA M) (H : Heap 𝓤) (A : Atoms 𝓤) (W : Given 𝓤 H A) (at-mem : Memory → SProp 𝓤) (run : Routine → Fun 𝓤) (κ : Lft) (q : Share) (b o : ℕ) (γ : GName) (t : Task) (new : ℕ) (new-fits : new < 2 ^ 32) where
