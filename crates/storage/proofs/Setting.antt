@@ -6,12 +6,10 @@ use native.Mathlib.Omega.{arith}
 use lib.ListN.{length, getD, set, List·getD-eq-default}
 use lib.Seq.{set-out}
 use borrow.Author.Tests.{le-leb}
-use Rattle.errors.specs.declared.Refusal.the-variants.{InvalidStatus}
 use Rattle.storage.specs.declared.Task.{Task}
 use Rattle.storage.specs.declared.Stated.{Stated}
 use Rattle.storage.specs.declared.StateResult.{StateResult}
-use Rattle.storage.specs.declared.StateResult.the-variants.{NotSet}
-use Rattle.storage.specs.Tasks.{blank, with-state, restated, After, after, set-state}
+use Rattle.storage.specs.Tasks.{blank, no-such-state, with-state, restated, After, after, set-state}
 use Rattle.storage.specs.Table.{set-state-at}
 
 -- what `with_state` says, stored
@@ -27,12 +25,12 @@ unfolding set-state-at
 set-inside table slot new-state r task e = ap (λ (s : After StateResult Task). after (s .answer) (set table slot (s .lent))) e
 
 -- the blank record has no state to take
-blank-refuses : (new-state : ℕ) → set-state blank new-state .answer ≡ NotSet (InvalidStatus new-state)
+blank-refuses : (new-state : ℕ) → set-state blank new-state .answer ≡ no-such-state new-state
 unfolding set-state with-state blank
 blank-refuses new-state = simp (le-leb 0 new-state (omega arith))
 
 -- past the last slot
-pub set-past : (table : List Task) (slot new-state : ℕ) (r : StateResult) → length table ≤ slot → r ≡ NotSet (InvalidStatus new-state)
+pub set-past : (table : List Task) (slot new-state : ℕ) (r : StateResult) → length table ≤ slot → r ≡ no-such-state new-state
     → after r table ≡ set-state-at table slot new-state
 unfolding set-state-at
 set-past table slot new-state r past e =

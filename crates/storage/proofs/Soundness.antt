@@ -8,12 +8,11 @@ use lib.Dec.{eqb, leb, ltb}
 use lib.ListN.{length, getD, set, replicate, length-set, length-replicate}
 use lib.Seq.{set-out}
 use borrow.Author.Tests.{eq-eqb, le-leb, lt-ltb, eqb-true, leb-true, leb-false, ltb-true, ltb-false}
-use Rattle.errors.specs.declared.Refusal.the-variants.{InvalidStatus}
 use Rattle.pools.specs.declared.InstructionsRef.{InstructionsRef}
 use Rattle.storage.specs.Storage.{len-after}
 use Rattle.storage.specs.Table.{set-state-at, sound-slot, sound-slots, sound-counts, sound-table}
-use Rattle.storage.specs.Tasks.{blank, stated, with-state, new-task, set-state}
-use Rattle.storage.specs.declared.StateResult.the-variants.{Set, NotSet}
+use Rattle.storage.specs.Tasks.{blank, stated, no-such-state, with-state, new-task, set-state}
+use Rattle.storage.specs.declared.StateResult.the-variants.{Set}
 use Rattle.storage.specs.declared.Stated.{Stated}
 use Rattle.storage.specs.declared.Task.{Task}
 use Rattle.storage.specs.declared.TaskId.{TaskId}
@@ -147,7 +146,7 @@ unfolding with-state
 state-below state new-state below = by (leb (state .len) new-state) (leb 255 new-state) refl
   where
     refused : Stated
-    refused = stated (state .state) (NotSet (InvalidStatus new-state))
+    refused = stated (state .state) (no-such-state new-state)
 
     by : (none large : Bool) → leb (state .len) new-state ≡ none → cond none refused (cond large refused (stated new-state Set)) .state < state .len
     by true large test = below

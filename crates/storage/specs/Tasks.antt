@@ -38,12 +38,15 @@ default-state len = cond (eqb len 0) (NoState MaxStatesError) (State (record { l
 abbrev pub stated : ℕ → StateResult → Stated
 stated state answer = record { state = state; answer = answer }
 
--- setting a state: 11 with the whole number where the task has no such state, and never 255
+-- 11, with the whole number that was asked for
+abbrev pub no-such-state : ℕ → StateResult
+no-such-state new-state = NotSet (InvalidStatus new-state)
+
+-- setting a state: refused where the task has no such state, and never 255
 unfoldable pub with-state : TaskState → ℕ → Stated
 with-state state new-state =
-    cond (leb (state .len) new-state) (stated (state .state) (NotSet (InvalidStatus new-state)))
-    (cond (leb 255 new-state) (stated (state .state) (NotSet (InvalidStatus new-state)))
-    (stated new-state Set))
+    cond (leb (state .len) new-state) (stated (state .state) (no-such-state new-state))
+    (cond (leb 255 new-state) (stated (state .state) (no-such-state new-state)) (stated new-state Set))
 
 -- a title as a record holds it: its first 128 bytes, zeros behind
 unfoldable pub title-of : List ℕ → List ℕ

@@ -3,14 +3,11 @@ ghost use mathlib.Core.Path.{_≡_};
 ghost use mathlib.Core.Bool.{_&&_};
 ghost use Prim.Native.Nat.{_+_, _<_, _^_};
 ghost use lib.ListN.{length, getD, set, replicate};
-ghost use Rattle.errors.specs.declared.Refusal.the-variants.{InvalidStatus};
-ghost use Rattle.storage.specs.declared.StateResult.the-variants.{NotSet};
 ghost use Rattle.storage.specs.Tasks.{blank, after};
 ghost use Rattle.storage.specs.Table.{set-state-at, lives, living-of, sound-slot, sound-counts, sound-table};
 use crate::StateResult;
 use crate::Task;
 use crate::task_types;
-use errors::Refusal;
 
 // The record of a slot; past the last slot the blank one.
 pub fn get(table: &mut [Task], slot: usize) -> Task
@@ -38,13 +35,6 @@ pub fn clear(table: &mut [Task], slot: usize)
     put(table, slot, task_types::blank());
 }
 
-// The answer to a state that no task has.
-fn no_such_state(new_state: u32) -> StateResult
-    ensures { λ r. ⌜ r ≡ NotSet (InvalidStatus «new_state») ⌝ }
-{
-    StateResult::NotSet(Refusal::InvalidStatus(new_state))
-}
-
 // The task of a slot put into a state; past the last slot there is no state to take.
 pub fn set_state_at(table: &mut [Task], slot: usize, new_state: u32) -> StateResult
     ensures { λ r. ⌜ after r (now (table .exit)) ≡ set-state-at (now (table .entry)) slot «new_state» ⌝ }
@@ -52,7 +42,7 @@ pub fn set_state_at(table: &mut [Task], slot: usize, new_state: u32) -> StateRes
     if slot < table.len() {
         return task_types::set_state(&mut table[slot], new_state);
     }
-    no_such_state(new_state)
+    task_types::no_such_state(new_state)
 }
 
 // The blank record written to every slot.

@@ -2,7 +2,7 @@
 ghost use mathlib.Core.Path.{_≡_};
 ghost use Prim.Native.Nat.{min};
 ghost use lib.ListN.{length};
-ghost use Rattle.storage.specs.Tasks.{blank, default-state, with-state, title-of, new-task, after, set-state};
+ghost use Rattle.storage.specs.Tasks.{blank, default-state, no-such-state, with-state, title-of, new-task, after, set-state};
 use crate::DefaultResult;
 use crate::StateResult;
 use crate::Stated;
@@ -36,21 +36,26 @@ pub fn default_state(len: u8) -> DefaultResult
     DefaultResult::State(TaskState { len, state: 0 })
 }
 
+// 11, with the state that was asked for.
+pub(crate) fn no_such_state(new_state: u32) -> StateResult
+    ensures { λ r. ⌜ r ≡ no-such-state «new_state» ⌝ }
+{
+    StateResult::NotSet(Refusal::InvalidStatus(new_state))
+}
+
 // The state byte that a task has after it was put into a state, and the answer.
 pub fn with_state(state: TaskState, new_state: u32) -> Stated
     ensures { λ r. ⌜ r ≡ with-state state «new_state» ⌝ }
 {
+    let refused = Stated {
+        state: state.state,
+        answer: no_such_state(new_state),
+    };
     if state.len as u32 <= new_state {
-        return Stated {
-            state: state.state,
-            answer: StateResult::NotSet(Refusal::InvalidStatus(new_state)),
-        };
+        return refused;
     }
     if 255 <= new_state {
-        return Stated {
-            state: state.state,
-            answer: StateResult::NotSet(Refusal::InvalidStatus(new_state)),
-        };
+        return refused;
     }
     Stated {
         state: new_state as u8,

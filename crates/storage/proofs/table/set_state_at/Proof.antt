@@ -41,20 +41,18 @@ use denote.Triple.Clauses.{ensured, lasts}
 use denote.Triple.Table.{entered, cited}
 use denote.Triple.Walked.{says, Stays, stay-slice, stay-none, walkOf, goes-slice, goes-none, Walks, ends-at, walked, walk-meets}
 use denote.Exit.{yes}
-use Rattle.errors.specs.declared.Refusal.the-variants.{InvalidStatus}
 use Rattle.lent.proofs.Lent.{Thing, part, have, tokens, lent}
 use Rattle.lent.proofs.Opened.{opens-part, closes-part}
 use Rattle.lent.proofs.Rest.{past}
 use Rattle.lent.proofs.Slots.{slot-fits}
 use Rattle.storage.specs.declared.Task.{Task}
 use Rattle.storage.specs.declared.StateResult.{StateResult}
-use Rattle.storage.specs.declared.StateResult.the-variants.{NotSet}
-use Rattle.storage.specs.Tasks.{blank, after, set-state}
+use Rattle.storage.specs.Tasks.{blank, no-such-state, after, set-state}
 use Rattle.storage.specs.Table.{set-state-at}
 use Rattle.storage.proofs.Records.{R, table-ty, place-fits}
 use Rattle.storage.proofs.Setting.{set-inside, set-past}
 use Rattle.storage.proofs.task_types.set_state.Symbol.{name as #set}
-use Rattle.storage.proofs.table.no_such_state.Symbol.{name as #none}
+use Rattle.storage.proofs.task_types.no_such_state.Symbol.{name as #none}
 use Rattle.storage.proofs.table.set_state_at.Key.{name as #this}
 use denote.Enum.Laws as enum
 use Rattle.storage.proofs.StateResult as answer
@@ -62,9 +60,9 @@ use Rattle.storage.proofs.StateResult.Laws as answer-laws
 use Rattle.storage.proofs.task_types.set_state as set
 use Rattle.storage.proofs.task_types.set_state.Symbol as set-def
 use Rattle.storage.proofs.task_types.set_state.Met as set-thm
-use Rattle.storage.proofs.table.no_such_state as none
-use Rattle.storage.proofs.table.no_such_state.Symbol as none-def
-use Rattle.storage.proofs.table.no_such_state.Met as none-thm
+use Rattle.storage.proofs.task_types.no_such_state as none
+use Rattle.storage.proofs.task_types.no_such_state.Symbol as none-def
+use Rattle.storage.proofs.task_types.no_such_state.Met as none-thm
 use Rattle.storage.proofs.table.set_state_at as f
 use Rattle.storage.proofs.table.set_state_at.Statement as stated
 use Rattle.storage.proofs.table.set_state_at.Code as code
@@ -178,7 +176,7 @@ module _ {M : Type 1} (𝓤 : URA M) (H : Heap 𝓤) (A : Atoms 𝓤) (W : Given
           (λ past. skips ! $ exec ! C Λ En mir.t-4 (atRet En Post) $ nothing ! $ nothing ! $
           lent 0 [] tt (u32 ∷ []) answer.the-row 𝓤 (none.clauses 𝓤 H A at-mem run) tt (state, tt) (vint w32 state ∷ [], tt) ! (fmOf 𝓤 H (W .laws) 𝓣) known-none tt tt (uint-makes 𝓤 H A W w32 state _ (refl, state-fits), tt) (λ αs δs. tt) (λ αs δs. id⊢ 𝓤 (emp 𝓤))
           (λ αs δs. (and-then ! (load ! (from ! (stop !)) (look ! 14 refl)) (no-more !)))
-          (λ αs δs w r z fits. heard ! (r ≡ NotSet (InvalidStatus state)) (λ e.
+          (λ αs δs w r z fits. heard ! (r ≡ no-such-state state) (λ e.
           peeks ! answer.the-row (Is answer.the-row) (shows 𝓤 H A answer.the-row) r (w ∷ []) (λ is. land ! (from ! (stop !)) (init ! 21 refl (enum.lawful answer.the-type answer-laws.the-laws 𝓤 H A W tt .typed r _ is .0)) $
           move ! (1 ∷ []) $ drop ! $ move ! (1 ∷ []) $ drop ! $
           returns ! (look ! 19 refl) $ forget ! 9 refl $ forget ! 11 refl $ forget ! 13 refl $ forget ! 15 refl $ forget ! 17 refl $ forget ! 19 refl $
@@ -213,4 +211,4 @@ set-state-at-spec 𝓤 H 𝓜 𝓖 𝓡 =
     (tables 𝓤 H 𝓜 𝓡 code.env .C) (tables 𝓤 H 𝓜 𝓡 code.env .Λ) #this code.function (code.unfolded 𝓤 H 𝓜 𝓡)
     (meets 𝓤 H (𝓖 .A) (givenOf 𝓤 H 𝓜 𝓖) (𝓜 .mem) (𝓡 .run) (tablesOf 𝓤 H 𝓜 (tables 𝓤 H 𝓜 𝓡 code.env))
     (cited 𝓤 H (set-con 𝓤 H (𝓖 .A) (𝓜 .mem) (𝓡 .run)) 𝓜 𝓡 code.env #set set-def.routine code.calls-storage·task-types·set-state (set-thm.met 𝓤 H 𝓜 𝓖 𝓡))
-    (cited 𝓤 H (none-con 𝓤 H (𝓖 .A) (𝓜 .mem) (𝓡 .run)) 𝓜 𝓡 code.env #none none-def.routine code.calls-storage·table·no-such-state (none-thm.met 𝓤 H 𝓜 𝓖 𝓡)))
+    (cited 𝓤 H (none-con 𝓤 H (𝓖 .A) (𝓜 .mem) (𝓡 .run)) 𝓜 𝓡 code.env #none none-def.routine code.calls-storage·task-types·no-such-state (none-thm.met 𝓤 H 𝓜 𝓖 𝓡)))
