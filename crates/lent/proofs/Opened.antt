@@ -27,12 +27,14 @@ abbrev opened : {M : Type 1} (𝓤 : URA M) (R : RattleType) (κ : Lft) (q : Sha
 opened 𝓤 R κ q γ ys zs b o Γ = ‵ (row R fullShare zs b o) ∷ ‵ (fobor κ q (Held R (length ys) b o γ)) ∷ ‵ (fobs γ (codedHoleys R .code (heres R ys))) ∷ ‵ (fauth γ (codedHoleys R .code (heres R ys))) ∷ Γ
 
 module _ {M : Type 1} {𝓤 : URA M} {H : Heap 𝓤} {A : Atoms 𝓤} {K : Type 0} {W : Given 𝓤 H A} {Γ : List (Item 𝓤)} {G : Goal 𝓤 H} where
+  -- the slice is opened
   pub opens-part : K → Soaks G → (R : RattleType) {κ : Lft} {q : Share} {γ : GName} (ys : List (R .Denot)) (b o n : ℕ)
       → Step K W (opened 𝓤 R κ q γ ys ys b o Γ) G (‵ (have (one R κ q γ b o n) (ys, tt)) ∷ ‵ (tokens (one R κ q γ b o n)) ∷ Γ) G
   opens-part t z R ys b o n = step (λ s.
       fsplit t $ fsplit t $ drop t $ fsplit t $ move t (3 ∷ []) $ fsplit t $ move t (1 ∷ []) $ drop t $ move t (3 ∷ []) $ drop t $ move t (1 ∷ 2 ∷ []) $
       opens-slice t z R ys b o $ s)
 
+  -- and closed, at elements of the same number
   pub closes-part : K → Soaks G → (R : RattleType) {κ : Lft} {q : Share} {γ : GName} (ys zs : List (R .Denot)) (b o n : ℕ) → length zs ≡ length ys → length zs ≡ n → Room R n
       → Step K W (‵ (have (one R κ q γ b o n) (zs, tt)) ∷ ‵ (tokens (one R κ q γ b o n)) ∷ Γ) G (opened 𝓤 R κ q γ ys zs b o Γ) G
   closes-part t z R {κ} {q} {γ} ys zs b o n same count room = step (λ s.

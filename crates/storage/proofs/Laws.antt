@@ -16,6 +16,7 @@ use Rattle.storage.specs.declared.Task.{Task}
 
 -- ---- how many slots are living
 
+-- the blank record does not live
 pub lives-blank : lives blank ≡ 0
 unfolding lives blank
 lives-blank = refl
@@ -64,12 +65,13 @@ pub length-state : (table : List Task) (slot new-state : ℕ) → length (set-st
 unfolding set-state-at
 length-state table slot new-state = length-set table slot _
 
--- the slot that was put into a state, and every other
+-- the slot that was put into a state
 pub slot-state : (table : List Task) (slot new-state : ℕ) → slot < length table
     → getD (set-state-at table slot new-state .lent) slot blank ≡ set-state (getD table slot blank) new-state .lent
 unfolding set-state-at
 slot-state table slot new-state inside = getD-set-same table slot _ blank inside
 
+-- every other slot
 pub other-state : (table : List Task) (slot other new-state : ℕ) → other ≢ slot
     → getD (set-state-at table slot new-state .lent) other blank ≡ getD table other blank
 unfolding set-state-at
@@ -88,6 +90,7 @@ len-after-max count id fits = by (ltb id count) refl
 
 -- ---- titles
 
+-- a record holds 128 title bytes
 pub length-title : (bytes : List ℕ) → length (title-of bytes) ≡ 128
 unfolding title-of no-title
 length-title bytes = length-take-le 128 (bytes ++ replicate 128 0) (simp (length-append, length-replicate) (omega arith))

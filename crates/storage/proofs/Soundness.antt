@@ -21,6 +21,7 @@ use Rattle.storage.proofs.Laws.{len-after-max}
 
 -- ---- one slot after another
 
+-- two tests that hold together hold
 both : (a b : Bool) → (a && b) ≡ true → (a ≡ true) × (b ≡ true)
 both true b p = (refl, p)
 both false b p = absurd (let z : _≡_ {A = ℕ} 0 1 = cc in omega arith)
@@ -78,12 +79,14 @@ max-is below = omega arith
 
 -- ---- the rules of a living record, and of the numbers beside the table
 
+-- what a living record keeps to
 pub record Living (task : Task) (slot count : ℕ) : Type 0 where
   pub place : task .id .0 ≡ slot
   pub held : task .id .0 < count
   pub title : task .«title_len» ≤ 128
   pub state : task .state .state < task .state .len
 
+-- a record that keeps to it is sound
 pub living-sound : {task : Task} {slot count : ℕ} → Living task slot count → sound-slot task slot count ≡ true
 unfolding sound-slot
 living-sound {task} {slot} {count} rules = by (task .living)
@@ -107,16 +110,19 @@ sound-living task slot count living sound =
     let one = both (eqb (task .id .0) slot) _ (two .0) in
     record { place = eqb-true _ _ (one .0); held = ltb-true _ _ (one .1); title = leb-true _ _ (two .1); state = ltb-true _ _ (three .1) }
 
+-- what the numbers keep to
 pub record Counts (slots next-id count : ℕ) : Type 0 where
   pub slots-are : slots ≡ 256
   pub next-most : next-id ≤ 256
   pub count-most : count ≤ 256
   pub count-below : count ≤ next-id
 
+-- numbers that keep to it are sound
 pub counts-sound : {slots next-id count : ℕ} → Counts slots next-id count → sound-counts slots next-id count ≡ true
 unfolding sound-counts
 counts-sound rules = simp (eq-eqb _ _ (rules .slots-are), le-leb _ _ (rules .next-most), le-leb _ _ (rules .count-most), le-leb _ _ (rules .count-below))
 
+-- and sound ones keep to it
 pub sound-counted : (slots next-id count : ℕ) → sound-counts slots next-id count ≡ true → Counts slots next-id count
 unfolding sound-counts
 sound-counted slots next-id count sound =
@@ -133,6 +139,7 @@ table-parts table next-id count sound =
     let parts = both (sound-counts (length table) next-id count) (sound-slots table 0 count) sound in
     (sound-counted (length table) next-id count (parts .0), parts .1)
 
+-- and the other way
 table-sound : (table : List Task) (next-id count : ℕ) → Counts (length table) next-id count → sound-slots table 0 count ≡ true
     → sound-table table next-id count ≡ true
 unfolding sound-table
@@ -170,7 +177,7 @@ pub sound-new : (id : TaskId) (title : List ℕ) (state : TaskState) (instructio
 unfolding new-task
 sound-new id title state instructions count held below = living-sound (record { place = refl; held = held; title = min-le 128 (length title); state = below })
 
--- a greater count keeps a record sound, and all slots
+-- a greater count keeps a record sound
 sound-later : (task : Task) (slot count more : ℕ) → count ≤ more → sound-slot task slot count ≡ true → sound-slot task slot more ≡ true
 sound-later task slot count more grown sound = by (task .living) refl
   where
@@ -180,6 +187,7 @@ sound-later task slot count more grown sound = by (task .living) refl
         living-sound (record { place = rules .place; held = omega (arith, rules .held); title = rules .title; state = rules .state })
     by false is = dead-sound task slot more is
 
+-- in all slots
 all-later : (table : List Task) (from count more : ℕ) → count ≤ more → sound-slots table from count ≡ true → sound-slots table from more ≡ true
 unfolding sound-slots
 all-later [] from count more grown sound = refl

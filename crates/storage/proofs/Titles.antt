@@ -14,6 +14,7 @@ module _ {A : Type 0} where
   sets-behind y l i [] = refl
   sets-behind y l i (x ∷ xs) = sets-behind y (set l i x) (suc i) xs
 
+  -- the first of equal elements
   take-replicate : (n m : ℕ) (a : A) → n ≤ m → take n (replicate m a) ≡ replicate n a
   take-replicate n m a some =
       let split : m ≡ n + (m - n) = omega arith in
@@ -27,6 +28,7 @@ module _ {A : Type 0} where
   sets-over (suc n) m a [] some = sym (take-replicate (suc n) m a some)
   sets-over (suc n) m a (x ∷ xs) some = sets-behind x (replicate n a) 0 xs ∙ ap (λ (l : List A). x ∷ l) (sets-over n m a xs (omega arith))
 
+-- a title written over zeros is as a record holds it
 pub title-written : (bytes : List ℕ) → sets (replicate 128 0) 0 bytes ≡ title-of bytes
 unfolding title-of no-title
 title-written bytes = sets-over 128 128 0 bytes (omega arith)

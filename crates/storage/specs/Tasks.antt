@@ -42,7 +42,7 @@ stated state answer = record { state = state; answer = answer }
 abbrev pub no-such-state : ℕ → StateResult
 no-such-state new-state = NotSet (InvalidStatus new-state)
 
--- setting a state: refused where the task has no such state, and never 255
+-- setting a state: refused where the task has no such state, or it is 255
 unfoldable pub with-state : TaskState → ℕ → Stated
 with-state state new-state =
     cond (leb (state .len) new-state) (stated (state .state) (no-such-state new-state))
@@ -79,6 +79,7 @@ pub record After (A B : Type 0) : Type 0 where
   pub answer : A
   pub lent : B
 
+-- the two together
 abbrev pub after : {A B : Type 0} → A → B → After A B
 after answer lent = record { answer = answer; lent = lent }
 
