@@ -1,1 +1,3 @@
 pub mod Tasks
+pub mod Table
+pub mod Storage

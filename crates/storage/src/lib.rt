@@ -1,6 +1,9 @@
 // Tasks: the record, its state, and the lent table of records, one to a slot.
+pub mod storage;
+pub mod table;
 pub mod task_types;
 
+use errors::Refusal;
 use pools::InstructionsRef;
 
 // Which task: never a pool reference, never an element's index.
@@ -20,4 +23,34 @@ pub struct Task {
     pub instructions_ref: InstructionsRef,
     pub title_len: usize,
     pub title: [u8; 128],
+}
+
+// The state of a task that is new.
+pub enum DefaultResult {
+    State(TaskState),
+    NoState(Refusal),
+}
+
+// What setting a state answers.
+pub enum StateResult {
+    Set,
+    NotSet(Refusal),
+}
+
+// The state byte after setting a state, and the answer.
+pub struct Stated {
+    pub state: u8,
+    pub answer: StateResult,
+}
+
+// What looking a task up answers.
+pub enum FindResult {
+    Found,
+    NotFound(Refusal),
+}
+
+// Whether one more task has room.
+pub enum RoomResult {
+    Room,
+    NoRoom(Refusal),
 }

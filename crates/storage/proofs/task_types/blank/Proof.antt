@@ -1,7 +1,7 @@
 -- `storage::task_types::blank` meets its contract.
 use mathlib.Core.Path.{refl}
-use Rattle.storage.proofs.task_types.blank.Statement.{statement}
 use Rattle.storage.specs.Tasks.{blank, no-title}
+use Rattle.storage.proofs.task_types.blank.Statement.{statement}
 use Rattle.storage.proofs.task_types.blank.Tie as tie
 
 returns : tie.Need-returns

@@ -1,0 +1,6 @@
+pub mod Again
+pub mod Lent
+pub mod Landed
+pub mod Opened
+pub mod Rest
+pub mod Slots
