@@ -1,0 +1,5 @@
+pub mod Numbers
+pub mod Image
+pub mod Slots
+pub mod Reading
+pub mod Writing
