@@ -1,3 +1,4 @@
 pub mod Endian
 pub mod Rules
 pub mod Puts
+pub mod Trips
