@@ -5,7 +5,7 @@ use mathlib.Core.List.{List, [], _∷_, _++_, append-assoc}
 use mathlib.Core.Path.{_≡_, refl, ap, sym, _∙_}
 use native.Mathlib.Omega.{arith}
 use lib.Dec.{leb}
-use lib.ListN.{length, take, length-append}
+use lib.ListN.{length, take, drop, length-append, length-take, length-drop}
 use lib.Seq.{sets, length-sets}
 use borrow.Author.Tests.{leb-true, leb-false}
 use Rattle.slices.proofs.Writes.{sets-append, sets-out}
@@ -14,7 +14,14 @@ use Rattle.image.specs.Numbers.{little-endian}
 use Rattle.image.specs.Image.{ImageTask, framed, body, header}
 use Rattle.image.specs.Slots.{task-of}
 use Rattle.image.specs.Reading.{on}
-use Rattle.image.specs.Writing.{Put, put, puts}
+use Rattle.image.specs.Writing.{Put, put, puts, task-in, sized, measure}
+use Rattle.image.specs.declared.SizeResult.the-variants.{Size, NoSize}
+use Rattle.errors.specs.declared.Refusal.{Refusal}
+use Rattle.errors.specs.declared.Refusal.the-variants.{BytesToStringConversionError}
+use Rattle.pools.specs.Pool.{bounds, entry-of}
+use Rattle.pools.specs.declared.BoundsResult.{BoundsResult}
+use Rattle.pools.specs.declared.BoundsResult.the-variants.{Bounds, NoBounds}
+use Rattle.utf8.specs.Utf8.{valid}
 use Rattle.image.proofs.Endian.{width-is}
 
 -- a place past the buffer's end counts as the end
@@ -74,3 +81,59 @@ framed-open bytes rest kind size e = rw e (simp append-assoc)
 pub body-open : (task : ImageTask) (rest : List ℕ) → body task ++ rest ≡ little-endian 4 (task .id) ++ (task .count ∷ task .state ∷ (little-endian 2 (length (task .title)) ++ (task .title ++ (task .instructions ++ rest))))
 unfolding body
 body-open task rest = simp append-assoc
+
+-- the first 14 bytes, the title and the instructions are the record
+pieces : (task : ImageTask) → little-endian 4 (8 + length (task .title) + length (task .instructions)) ++ little-endian 2 2 ++ little-endian 4 (task .id) ++ task .count ∷ task .state ∷ little-endian 2 (length (task .title)) ++ task .title ++ task .instructions ≡ framed 2 (body task)
+unfolding framed body
+pieces task =
+    let n : length (body task) ≡ 8 + length (task .title) + length (task .instructions) = omega (arith, body-size task) in
+    rw n (simp append-assoc)
+
+-- so a record is written
+pub record-put : (save : List ℕ) (at : ℕ) (slot : Task) (instructions : List ℕ) {first title one two three : List ℕ} {behind behind-title last : ℕ}
+    → title ≡ take (slot .«title_len») (slot .title)
+    → first ≡ little-endian 4 (8 + length title + length instructions) ++ little-endian 2 2 ++ little-endian 4 (slot .id .0) ++ slot .state .len ∷ slot .state .state ∷ little-endian 2 (length title)
+    → put behind one ≡ puts save at first → put behind-title two ≡ puts one behind title → put last three ≡ puts two behind-title instructions
+    → put last three ≡ puts save at (framed 2 (body (task-of slot instructions)))
+unfolding task-of
+record-put save at slot instructions {first} {title} t f a b c =
+    let x = then save at first title a b in
+    let y = then save at (first ++ title) instructions x c in
+    y ∙ rw (f, t) (ap (puts save at) (pieces (task-of slot instructions)))
+
+-- a piece is written
+pub put-is : (save : List ℕ) (at : ℕ) (bytes : List ℕ) {after : List ℕ} {last : ℕ} → after ≡ sets save at bytes → last ≡ on (length after) at (length bytes) → put last after ≡ puts save at bytes
+unfolding puts
+put-is save at bytes {after} {last} w n =
+    let l : length after ≡ length save = ap length w ∙ length-sets save at bytes in
+    rw (n, l, w)
+
+-- ---- the size of a record
+
+module _ (pool ends : List ℕ) (entries : ℕ) (slot : Task) {answer : BoundsResult} (b : answer ≡ bounds ends entries (slot .«instructions_ref»)) where
+  -- 12
+  pub no-entry : {refusal : Refusal} → answer ≡ NoBounds refusal → NoSize refusal ≡ measure pool ends entries slot
+  unfolding measure sized
+  no-entry c = rw (← b, c)
+
+  module _ {start end : ℕ} (c : answer ≡ Bounds start end) {title : List ℕ} {test : Bool} (t : title ≡ take (slot .«title_len») (slot .title)) (v : test ≡ valid title) where
+    -- 15
+    pub no-text : test ≡ false → NoSize BytesToStringConversionError ≡ measure pool ends entries slot
+    unfolding measure sized task-in task-of
+    no-text held = rw (← b, c, ← t, ← v, held)
+
+    -- a size
+    pub size-of : {entry : List ℕ} → test ≡ true → entry ≡ entry-of pool ends (slot .«instructions_ref» .0) → Size (14 + length title + length entry) ≡ measure pool ends entries slot
+    unfolding measure sized task-in task-of
+    size-of {entry} held e =
+        let n : 14 + length (take (slot .«title_len») (slot .title)) + length entry ≡ length (framed 2 (body (task-of slot entry))) = omega (arith, record-size (task-of slot entry)) in
+        rw (← b, c, ← e, ← t, ← v, held, t) (ap Size n)
+
+-- an entry is no longer than the pool
+pub entry-short : (pool ends : List ℕ) (i : ℕ) → length (entry-of pool ends i) ≤ length pool
+unfolding entry-of
+entry-short pool ends i = simp (length-take, length-drop) (omega arith)
+
+-- a part of a title's bytes is no longer than they are
+pub part-short : (start size : ℕ) (held : List ℕ) {part : List ℕ} → part ≡ take size (drop start held) → length part ≤ length held
+part-short start size held e = rw e (simp (length-take, length-drop) (omega arith))

@@ -1,3 +1,6 @@
+use Rattle.image.proofs.Rules.{clash}
+use Rattle.image.proofs.Walks.{broken, whole, text-is}
+use native.Mathlib.Omega.{arith}
 use borrow.Author.Needs.{needs}
 use Rattle.image.proofs.reading.front.Statement.{statement}
 use Rattle.image.proofs.reading.front.Tie as tie
@@ -23,7 +26,8 @@ add-if1 c = search needs
 
 -- src/reading.rt:29:9
 returns : tie.Need-returns
-returns c = ?
+returns c =
+    broken _ _ _ (λ r. omega arith)
 
 -- src/reading.rt:31:8
 u16-at-requires : tie.Need-u16-at-requires
@@ -31,11 +35,13 @@ u16-at-requires c κs = search needs
 
 -- src/reading.rt:32:9
 returns-2 : tie.Need-returns-2
-returns-2 c = ?
+returns-2 c =
+    broken _ _ _ (λ r. omega arith)
 
 -- src/reading.rt:35:9
 returns-3 : tie.Need-returns-3
-returns-3 c = ?
+returns-3 c =
+    broken _ _ _ (λ r. omega arith)
 
 -- src/reading.rt:37:9
 u32-at-requires-2 : tie.Need-u32-at-requires-2
@@ -43,11 +49,13 @@ u32-at-requires-2 c κs = search needs
 
 -- src/reading.rt:39:9
 returns-4 : tie.Need-returns-4
-returns-4 c = ?
+returns-4 c =
+    broken _ _ _ (λ r. omega arith)
 
 -- src/reading.rt:42:9
 returns-5 : tie.Need-returns-5
-returns-5 c = ?
+returns-5 c =
+    broken _ _ _ (λ r. omega arith)
 
 -- src/reading.rt:44:8
 u8-at-requires : tie.Need-u8-at-requires
@@ -59,7 +67,8 @@ u8-at-requires-2 c κs = search needs
 
 -- src/reading.rt:45:9
 returns-6 : tie.Need-returns-6
-returns-6 c = ?
+returns-6 c =
+    broken _ _ _ (λ r. omega arith)
 
 -- src/reading.rt:47:9
 u16-at-requires-2 : tie.Need-u16-at-requires-2
@@ -67,7 +76,8 @@ u16-at-requires-2 c κs = search needs
 
 -- src/reading.rt:49:9
 returns-7 : tie.Need-returns-7
-returns-7 c = ?
+returns-7 c =
+    broken _ _ _ (λ r. omega arith)
 
 -- src/reading.rt:51:15
 add-if8 : tie.Need-add-if8
@@ -75,7 +85,8 @@ add-if8 c = search needs
 
 -- src/reading.rt:52:9
 returns-8 : tie.Need-returns-8
-returns-8 c = ?
+returns-8 c =
+    broken _ _ _ (λ r. omega arith)
 
 -- src/reading.rt:54:22
 part-requires : tie.Need-part-requires
@@ -95,11 +106,25 @@ sub-t17 c = search needs
 
 -- src/reading.rt:55:9
 returns-9 : tie.Need-returns-9
-returns-9 c = ?
+returns-9 c =
+    whole _ _ _
+    (record {
+      uncut = omega arith;
+      kind-2 = omega arith;
+      large = omega arith;
+      rising = omega arith;
+      below = omega arith;
+      states = omega arith;
+      short = omega arith;
+      inside = omega arith;
+      text = text-is _ (c .before .before .before .before .before .u16-at2 .ensures .0) (c .before .before .part .ensures) (c .before .is-utf8 .ensures) (c .if9 .taken);
+    })
+    (c .before .before .before .before .before .before .before .before .before .before .before .u32-at2 .ensures .0) (c .before .before .before .before .before .before .before .before .before .before .before .before .before .before .before .before .u32-at .ensures .0) (c .before .before .before .before .before .u16-at2 .ensures .0)
 
 -- src/reading.rt:24:1
 returns-10 : tie.Need-returns-10
-returns-10 c = ?
+returns-10 c =
+    broken _ _ _ (λ r. clash (r .text) (text-is _ (c .before .before .before .before .before .u16-at2 .ensures .0) (c .before .before .part .ensures) (c .before .is-utf8 .ensures) (c .if9 .left)))
 
 pub front-spec : {M : Type 1} → statement M
 front-spec =

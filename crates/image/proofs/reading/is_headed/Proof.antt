@@ -1,3 +1,5 @@
+use Rattle.image.proofs.Walks.{not-headed, head-last}
+use native.Mathlib.Omega.{arith}
 use borrow.Author.Needs.{needs}
 use Rattle.image.proofs.reading.is_headed.Statement.{statement}
 use Rattle.image.proofs.reading.is_headed.Tie as tie
@@ -20,7 +22,8 @@ add-if1 c = search needs
 
 -- src/reading.rt:70:9
 returns : tie.Need-returns
-returns c = ?
+returns c =
+    not-headed _ (λ h. omega arith)
 
 -- src/reading.rt:72:8
 u16-at-requires : tie.Need-u16-at-requires
@@ -28,11 +31,13 @@ u16-at-requires c κs = search needs
 
 -- src/reading.rt:73:9
 returns-2 : tie.Need-returns-2
-returns-2 c = ?
+returns-2 c =
+    not-headed _ (λ h. omega arith)
 
 -- src/reading.rt:76:9
 returns-3 : tie.Need-returns-3
-returns-3 c = ?
+returns-3 c =
+    not-headed _ (λ h. omega arith)
 
 -- src/reading.rt:78:5
 u32-at-requires-2 : tie.Need-u32-at-requires-2
@@ -40,7 +45,8 @@ u32-at-requires-2 c κs = search needs
 
 -- src/reading.rt:65:1
 returns-4 : tie.Need-returns-4
-returns-4 c = ?
+returns-4 c =
+    head-last _ _ (omega arith) (omega arith) (omega arith) (c .u32-at2 .ensures .0)
 
 pub is-headed-spec : {M : Type 1} → statement M
 is-headed-spec =

@@ -1,3 +1,4 @@
+use Rattle.image.proofs.Records.{read-is}
 use borrow.Author.Needs.{needs}
 use Rattle.image.proofs.reading.read_record.Statement.{statement}
 use Rattle.image.proofs.reading.read_record.Tie as tie
@@ -69,7 +70,8 @@ on-requires-2 c κs = search needs
 
 -- src/reading.rt:154:1
 returns : tie.Need-returns
-returns c = ?
+returns c =
+    read-is _ _ _ (c .before .before .before .before .before .before .before .before .before .before .part .ensures) (c .before .before .before .before .before .before .before .before .before .u16-at .ensures .0) (c .before .before .before .before .before .before .before .before .part2 .ensures) (c .before .before .before .before .before .u32-at .ensures .0) (c .before .before .before .before .before .before .before .u8-at .ensures) (c .before .before .before .before .before .before .u8-at2 .ensures) (c .before .before .before .before .smaller .ensures) (c .before .before .before .title-of .ensures) (c .before .before .on .ensures) (c .before .u32-at2 .ensures .0) (c .on2 .ensures)
 
 pub read-record-spec : {M : Type 1} → statement M
 read-record-spec =

@@ -1,3 +1,5 @@
+use Rattle.storage.specs.Tasks.{no-title}
+use Rattle.image.specs.Slots.{title-of}
 use borrow.Author.Needs.{needs}
 use Rattle.image.proofs.reading.title_of.Statement.{statement}
 use Rattle.image.proofs.reading.title_of.Tie as tie
@@ -15,7 +17,9 @@ write-requires c κs = search needs
 
 -- src/reading.rt:145:1
 returns : tie.Need-returns
-returns c = ?
+unfolding title-of no-title
+returns c =
+    c .before .write .ensures
 
 pub title-of-spec : {M : Type 1} → statement M
 title-of-spec = tie.close (tie.spec slice-aggregate-write write-requires returns)

@@ -1,3 +1,5 @@
+use Rattle.image.specs.Image.{header, framed}
+use Rattle.image.specs.Numbers.{little-endian}
 use borrow.Author.Needs.{needs}
 use Rattle.image.proofs.writing.heading.Statement.{statement}
 use Rattle.image.proofs.writing.heading.Tie as tie
@@ -39,7 +41,9 @@ low-requires-8 c κs = search needs
 
 -- src/writing.rt:53:1
 returns : tie.Need-returns
-returns c = ?
+unfolding header framed little-endian
+returns c =
+    simp (c .before .before .before .before .before .before .before .low .ensures, c .before .before .before .before .before .before .low2 .ensures, c .before .before .before .before .before .low3 .ensures, c .before .before .before .before .low4 .ensures, c .before .before .before .low5 .ensures, c .before .before .low6 .ensures, c .before .low7 .ensures, c .low8 .ensures)
 
 pub heading-spec : {M : Type 1} → statement M
 heading-spec =

@@ -1,3 +1,8 @@
+use Prim.Native.Nat.{_≤_}
+use lib.ListN.{length}
+use Rattle.image.proofs.Puts.{no-entry, no-text, size-of, entry-short, part-short}
+use mathlib.Core.Path.{_≡_}
+use native.Mathlib.Omega.{arith}
 use borrow.Author.Needs.{needs}
 use Rattle.image.proofs.writing.measure.Statement.{statement}
 use Rattle.image.proofs.writing.measure.Tie as tie
@@ -42,19 +47,24 @@ get-requires c κs = search needs
 
 -- src/writing.rt:108:41
 add-t18 : tie.Need-add-t18
-add-t18 c = ?
+add-t18 c =
+    let start = c .before .before .before .before .before .before .before .before .before .before .before in
+    let x = start .fits in let y = c .before .before .before .before .held2 .given in let z = c .before .before .before .before .before .held .given in ?
 
 -- src/writing.rt:108:17
 returns : tie.Need-returns
-returns c = ?
+returns c =
+    size-of _ _ _ _ (c .before .before .before .before .before .before .before .before .bounds .ensures) (c .before .before .before .before .before .before .enum-told .given .1) (c .before .before .before .part .ensures) (c .before .before .is-utf8 .ensures) (c .before .if1 .taken) (c .get .ensures)
 
 -- src/writing.rt:98:1
 returns-2 : tie.Need-returns-2
-returns-2 c = ?
+returns-2 c =
+    no-entry _ _ _ _ (c .before .before .before .bounds .ensures) (c .before .refusal .given .1)
 
 -- src/writing.rt:98:1
 returns-3 : tie.Need-returns-3
-returns-3 c = ?
+returns-3 c =
+    no-text _ _ _ _ (c .before .before .before .before .before .before .before .bounds .ensures) (c .before .before .before .before .before .enum-told .given .1) (c .before .before .part .ensures) (c .before .is-utf8 .ensures) (c .if1 .left)
 
 pub measure-spec : {M : Type 1} → statement M
 measure-spec =

@@ -50,7 +50,8 @@ low-requires-10 c κs = search needs
 -- src/writing.rt:31:1
 returns : tie.Need-returns
 unfolding little-endian
-returns c = ?
+returns c =
+    simp (c .before .before .before .before .before .before .before .before .before .low .ensures, c .before .before .before .before .before .before .before .before .low2 .ensures, c .before .before .before .before .before .before .before .low3 .ensures, c .before .before .before .before .before .before .low4 .ensures, c .before .before .before .before .before .low5 .ensures, c .before .before .before .before .low6 .ensures, c .before .before .before .low7 .ensures, c .before .before .low8 .ensures, c .before .low9 .ensures, c .low10 .ensures)
 
 pub opening-spec : {M : Type 1} → statement M
 opening-spec =

@@ -1,3 +1,5 @@
+use Rattle.image.proofs.Puts.{put-is}
+use Rattle.image.specs.Writing.{puts}
 use borrow.Author.Needs.{needs}
 use Rattle.image.proofs.writing.put.Statement.{statement}
 use Rattle.image.proofs.writing.put.Tie as tie
@@ -20,7 +22,8 @@ same-length c = search needs
 
 -- src/writing.rt:16:1
 returns : tie.Need-returns
-returns c = ?
+returns c =
+    put-is _ _ _ (c .before .before .before .write .ensures) (c .on .ensures)
 
 pub put-spec : {M : Type 1} → statement M
 put-spec = tie.close (tie.spec write-requires on-requires same-length returns)

@@ -24,7 +24,8 @@ same-length c = search needs
 
 -- src/writing.rt:90:1
 returns : tie.Need-returns
-returns c = ?
+returns c =
+    rw (← c .before .before .before .before .before .heading .ensures) (c .before .before .put .ensures)
 
 pub write-header-spec : {M : Type 1} → statement M
 write-header-spec =

@@ -1,3 +1,8 @@
+use Rattle.image.proofs.Puts.{part-short}
+use lib.ListN.{length}
+use mathlib.Core.Path.{_≡_}
+use native.Mathlib.Omega.{arith}
+use Rattle.image.proofs.Puts.{record-put}
 use borrow.Author.Needs.{needs}
 use Rattle.image.proofs.writing.write_record.Statement.{statement}
 use Rattle.image.proofs.writing.write_record.Tie as tie
@@ -21,7 +26,10 @@ add-body c = search needs
 
 -- src/writing.rt:81:16
 add-body-2 : tie.Need-add-body-2
-add-body-2 c = ?
+add-body-2 c =
+    let start = c .before .before .before .before .before in
+    let held : length (start .args .task .title) ≡ 128 = search needs in
+    omega (arith, part-short 0 (start .args .task .«title_len») (start .args .task .title) (c .part .ensures), start .good .1 .0 .1)
 
 -- src/writing.rt:82:14
 cast-id : tie.Need-cast-id
@@ -53,7 +61,8 @@ same-length c = search needs
 
 -- src/writing.rt:75:1
 returns : tie.Need-returns
-returns c = ?
+returns c =
+    record-put _ _ _ _ (c .before .before .before .before .before .before .before .before .before .before .before .before .before .before .before .part .ensures) (c .before .before .before .before .before .before .before .before .before .before .before .before .before .opening .ensures) (c .before .before .before .before .before .before .before .before .before .before .put .ensures) (c .before .before .before .before .before .before .put2 .ensures) (c .before .before .put3 .ensures)
 
 pub write-record-spec : {M : Type 1} → statement M
 write-record-spec =
