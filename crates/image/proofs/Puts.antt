@@ -12,15 +12,11 @@ use Rattle.slices.proofs.Writes.{sets-append, sets-out}
 use Rattle.storage.specs.declared.Task.{Task}
 use Rattle.image.specs.Numbers.{little-endian}
 use Rattle.image.specs.Image.{ImageTask, framed, body, header}
-use Rattle.image.specs.Slots.{task-of}
+use Rattle.image.specs.Slots.{saved-task}
 use Rattle.image.specs.Reading.{on}
-use Rattle.image.specs.Writing.{Put, put, puts, task-in, sized, measure}
+use Rattle.image.specs.Writing.{Put, put, puts, size-of}
 use Rattle.image.specs.declared.SizeResult.the-variants.{Size, NoSize}
-use Rattle.errors.specs.declared.Refusal.{Refusal}
 use Rattle.errors.specs.declared.Refusal.the-variants.{BytesToStringConversionError}
-use Rattle.pools.specs.Pool.{bounds, entry-of}
-use Rattle.pools.specs.declared.BoundsResult.{BoundsResult}
-use Rattle.pools.specs.declared.BoundsResult.the-variants.{Bounds, NoBounds}
 use Rattle.utf8.specs.Utf8.{valid}
 use Rattle.image.proofs.Endian.{width-is}
 
@@ -94,12 +90,12 @@ pub record-put : (save : List ℕ) (at : ℕ) (slot : Task) (instructions : List
     → title ≡ take (slot .«title_len») (slot .title)
     → first ≡ little-endian 4 (8 + length title + length instructions) ++ little-endian 2 2 ++ little-endian 4 (slot .id .0) ++ slot .state .len ∷ slot .state .state ∷ little-endian 2 (length title)
     → put behind one ≡ puts save at first → put behind-title two ≡ puts one behind title → put last three ≡ puts two behind-title instructions
-    → put last three ≡ puts save at (framed 2 (body (task-of slot instructions)))
-unfolding task-of
+    → put last three ≡ puts save at (framed 2 (body (saved-task slot instructions)))
+unfolding saved-task
 record-put save at slot instructions {first} {title} t f a b c =
     let x = then save at first title a b in
     let y = then save at (first ++ title) instructions x c in
-    y ∙ rw (f, t) (ap (puts save at) (pieces (task-of slot instructions)))
+    y ∙ rw (f, t) (ap (puts save at) (pieces (saved-task slot instructions)))
 
 -- a piece is written
 pub put-is : (save : List ℕ) (at : ℕ) (bytes : List ℕ) {after : List ℕ} {last : ℕ} → after ≡ sets save at bytes → last ≡ on (length after) at (length bytes) → put last after ≡ puts save at bytes
@@ -110,29 +106,18 @@ put-is save at bytes {after} {last} w n =
 
 -- ---- the size of a record
 
-module _ (pool ends : List ℕ) (entries : ℕ) (slot : Task) {answer : BoundsResult} (b : answer ≡ bounds ends entries (slot .«instructions_ref»)) where
-  -- 12
-  pub no-entry : {refusal : Refusal} → answer ≡ NoBounds refusal → NoSize refusal ≡ measure pool ends entries slot
-  unfolding measure sized
-  no-entry c = rw (← b, c)
+module _ (slot : Task) (instructions : List ℕ) {title : List ℕ} {test : Bool} (t : title ≡ take (slot .«title_len») (slot .title)) (v : test ≡ valid title) where
+  -- 15
+  pub no-text : test ≡ false → NoSize BytesToStringConversionError ≡ size-of (saved-task slot instructions)
+  unfolding size-of saved-task
+  no-text held = rw (← t, ← v, held)
 
-  module _ {start end : ℕ} (c : answer ≡ Bounds start end) {title : List ℕ} {test : Bool} (t : title ≡ take (slot .«title_len») (slot .title)) (v : test ≡ valid title) where
-    -- 15
-    pub no-text : test ≡ false → NoSize BytesToStringConversionError ≡ measure pool ends entries slot
-    unfolding measure sized task-in task-of
-    no-text held = rw (← b, c, ← t, ← v, held)
-
-    -- a size
-    pub size-of : {entry : List ℕ} → test ≡ true → entry ≡ entry-of pool ends (slot .«instructions_ref» .0) → Size (14 + length title + length entry) ≡ measure pool ends entries slot
-    unfolding measure sized task-in task-of
-    size-of {entry} held e =
-        let n : 14 + length (take (slot .«title_len») (slot .title)) + length entry ≡ length (framed 2 (body (task-of slot entry))) = omega (arith, record-size (task-of slot entry)) in
-        rw (← b, c, ← e, ← t, ← v, held, t) (ap Size n)
-
--- an entry is no longer than the pool
-pub entry-short : (pool ends : List ℕ) (i : ℕ) → length (entry-of pool ends i) ≤ length pool
-unfolding entry-of
-entry-short pool ends i = simp (length-take, length-drop) (omega arith)
+  -- a size
+  pub size-is : test ≡ true → Size (14 + length title + length instructions) ≡ size-of (saved-task slot instructions)
+  unfolding size-of saved-task
+  size-is held =
+      let n : 14 + length (take (slot .«title_len») (slot .title)) + length instructions ≡ length (framed 2 (body (saved-task slot instructions))) = omega (arith, record-size (saved-task slot instructions)) in
+      rw (← t, ← v, held, t) (ap Size n)
 
 -- a part of a title's bytes is no longer than they are
 pub part-short : (start size : ℕ) (held : List ℕ) {part : List ℕ} → part ≡ take size (drop start held) → length part ≤ length held

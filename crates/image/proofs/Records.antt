@@ -10,7 +10,7 @@ use Rattle.pools.specs.declared.InstructionsRef.{InstructionsRef}
 use Rattle.storage.specs.Tasks.{no-title}
 use Rattle.image.specs.Numbers.{number-at}
 use Rattle.image.specs.Image.{ImageTask, task-at}
-use Rattle.image.specs.Slots.{title-of, slot-of, task-of}
+use Rattle.image.specs.Slots.{title-of, loaded-task, saved-task}
 use Rattle.image.specs.Reading.{on, read-record}
 
 -- a record that was read
@@ -24,7 +24,7 @@ pub read-is : (image : List ℕ) (at : ℕ) (reference : InstructionsRef) {bytes
       end = end;
     }
     ≡ read-record image at reference
-unfolding read-record slot-of task-at
+unfolding read-record loaded-task task-at
 read-is image at reference {bytes} whole size title id len state title-len held start body end =
     let e : bytes ≡ drop at image = whole ∙ take-all (length image) (drop at image) (omega (arith, length-drop at image)) in
     rw (end, body, start, held, title-len, title, size, id, len, state, e)
@@ -35,8 +35,8 @@ unfolding title-of no-title
 title-again title short = rw (sets-eq title no-title 0 (omega arith)) (take-append-seam title (drop (0 + length title) no-title))
 
 -- a task in a slot is the task
-pub slot-again : (task : ImageTask) (reference : InstructionsRef) → length (task .title) ≤ 128 → task-of (slot-of task reference) (task .instructions) ≡ task
-unfolding slot-of task-of
-slot-again task reference short =
+pub saved-again : (task : ImageTask) (reference : InstructionsRef) → length (task .title) ≤ 128 → saved-task (loaded-task task reference) (task .instructions) ≡ task
+unfolding loaded-task saved-task
+saved-again task reference short =
     let n : min (length (task .title)) 128 ≡ length (task .title) = omega arith in
     rw (n, title-again (task .title) short)

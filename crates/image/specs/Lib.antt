@@ -3,3 +3,4 @@ pub mod Image
 pub mod Slots
 pub mod Reading
 pub mod Writing
+pub mod Table

@@ -6,7 +6,7 @@ use lib.ListN.{length, drop}
 use Rattle.errors.specs.declared.Refusal.the-variants.{BadImage}
 use Rattle.pools.specs.declared.InstructionsRef.{InstructionsRef}
 use Rattle.image.specs.Image.{ImageTask, Image, Read, sound, bad-at, body-length, id-in, title-length, task-at, good, read-image}
-use Rattle.image.specs.Slots.{slot-of}
+use Rattle.image.specs.Slots.{loaded-task}
 use Rattle.image.specs.declared.Front.{Front}
 use Rattle.image.specs.declared.Front.the-variants.{Whole, Broken}
 use Rattle.image.specs.declared.Walked.{Walked}
@@ -49,7 +49,7 @@ on length place count = min (place + count) length
 -- the record at a place: its task in a slot, and where its instructions start and end
 unfoldable pub read-record : List ℕ → ℕ → InstructionsRef → Record
 read-record image place reference = record {
-  task = slot-of (task-at (drop place image)) reference;
+  task = loaded-task (task-at (drop place image)) reference;
   start = on (length image) place (14 + title-length (drop place image));
   end = on (length image) place (6 + body-length (drop place image));
 }

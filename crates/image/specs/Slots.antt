@@ -14,8 +14,8 @@ unfoldable pub title-of : List ℕ → List ℕ
 title-of title = sets no-title 0 title
 
 -- a living slot with the task, its instructions named by a reference
-unfoldable pub slot-of : ImageTask → InstructionsRef → Task
-slot-of task reference = record {
+unfoldable pub loaded-task : ImageTask → InstructionsRef → Task
+loaded-task task reference = record {
   living = true;
   id = record { 0 = task .id };
   state = record { len = task .count; state = task .state };
@@ -25,8 +25,8 @@ slot-of task reference = record {
 }
 
 -- the task of a slot, with its instructions
-unfoldable pub task-of : Task → List ℕ → ImageTask
-task-of slot instructions = record {
+unfoldable pub saved-task : Task → List ℕ → ImageTask
+saved-task slot instructions = record {
   id = slot .id .0;
   count = slot .state .len;
   state = slot .state .state;

@@ -11,7 +11,7 @@ use Rattle.pools.specs.Pool.{bounds, entry-of}
 use Rattle.storage.specs.declared.Task.{Task}
 use Rattle.utf8.specs.Utf8.{valid}
 use Rattle.image.specs.Image.{ImageTask, framed, body}
-use Rattle.image.specs.Slots.{task-of}
+use Rattle.image.specs.Slots.{saved-task}
 use Rattle.image.specs.Reading.{on}
 use Rattle.image.specs.declared.SizeResult.{SizeResult}
 use Rattle.image.specs.declared.SizeResult.the-variants.{Size, NoSize}
@@ -31,12 +31,16 @@ puts save place bytes = put (on (length save) place (length bytes)) (sets save p
 
 -- the task of a slot, its instructions being its entry of the pool
 unfoldable pub task-in : List ℕ → List ℕ → Task → ImageTask
-task-in pool ends slot = task-of slot (entry-of pool ends (slot .«instructions_ref» .0))
+task-in pool ends slot = saved-task slot (entry-of pool ends (slot .«instructions_ref» .0))
 
 -- the size of a task's record, where its title is UTF-8
+unfoldable pub size-of : ImageTask → SizeResult
+size-of task = cond (valid (task .title)) (Size (length (framed 2 (body task)))) (NoSize BytesToStringConversionError)
+
+-- the same, where there is an entry
 unfoldable pub sized : ImageTask → BoundsResult → SizeResult
 sized task (NoBounds refusal) = NoSize refusal
-sized task (Bounds start end) = cond (valid (task .title)) (Size (length (framed 2 (body task)))) (NoSize BytesToStringConversionError)
+sized task (Bounds start end) = size-of task
 
 -- S_SAVE tests each task: 12, then 15
 unfoldable pub measure : List ℕ → List ℕ → ℕ → Task → SizeResult

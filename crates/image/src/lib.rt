@@ -49,3 +49,9 @@ pub enum Walked {
     },
     Stuck(usize),
 }
+
+// What saving a table answers: the image's length.
+pub enum SaveResult {
+    Saved(usize),
+    NotSaved(Refusal),
+}

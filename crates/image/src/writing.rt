@@ -4,8 +4,8 @@ ghost use mathlib.Core.List.{_∷_, _++_};
 ghost use Prim.Native.Nat.{_%_};
 ghost use Rattle.image.specs.Numbers.{little-endian};
 ghost use Rattle.image.specs.Image.{framed, body, header};
-ghost use Rattle.image.specs.Slots.{task-of};
-ghost use Rattle.image.specs.Writing.{put, puts, measure};
+ghost use Rattle.image.specs.Slots.{saved-task};
+ghost use Rattle.image.specs.Writing.{put, puts, size-of, measure};
 use crate::SizeResult;
 use crate::numbers::on;
 use errors::Refusal;
@@ -73,7 +73,7 @@ fn heading(next_id: usize, count: usize) -> [u8; 14]
 
 // Writes a task's record from a place on, and answers the place behind it.
 pub fn write_record(save: &mut [u8], instructions: &[u8], task: Task, at: usize) -> usize
-    ensures { λ r. ⌜ put r (now (save .exit)) ≡ puts (now (save .entry)) at (framed 2 (body (task-of task (now (instructions .entry))))) ⌝ }
+    ensures { λ r. ⌜ put r (now (save .exit)) ≡ puts (now (save .entry)) at (framed 2 (body (saved-task task (now (instructions .entry))))) ⌝ }
 {
     let held = task.title;
     let title = slices::part(&held, 0, task.title_len);
@@ -94,6 +94,19 @@ pub fn write_header(save: &mut [u8], next_id: u32, count: u32) -> usize
     put(save, &first, 0)
 }
 
+// The size of a task's record, where its title is UTF-8.
+fn size_of(instructions: &[u8], task: Task) -> SizeResult
+    ensures { λ r. ⌜ r ≡ size-of (saved-task task (now (instructions .entry))) ⌝ }
+{
+    let held = task.title;
+    let title = slices::part(&held, 0, task.title_len);
+    let size = 14 + title.len() + instructions.len();
+    if utf8::is_utf8(title) {
+        return SizeResult::Size(size);
+    }
+    SizeResult::NoSize(Refusal::BytesToStringConversionError)
+}
+
 // The size of a task's record: 12 where its reference names no entry, then 15 where its title is not UTF-8.
 pub fn measure(pool: &[u8], ends: &[u32; 1024], entries: usize, task: Task) -> SizeResult
     ensures { λ r. ⌜ r ≡ measure (now (pool .entry)) (now (ends .entry)) entries task ⌝ }
@@ -102,12 +115,7 @@ pub fn measure(pool: &[u8], ends: &[u32; 1024], entries: usize, task: Task) -> S
     match pools::bounds(ends, entries, reference) {
         BoundsResult::NoBounds(refusal) => SizeResult::NoSize(refusal),
         BoundsResult::Bounds { start: _, end: _ } => {
-            let held = task.title;
-            let title = slices::part(&held, 0, task.title_len);
-            if utf8::is_utf8(title) {
-                return SizeResult::Size(14 + title.len() + pools::get(pool, ends, reference).len());
-            }
-            SizeResult::NoSize(Refusal::BytesToStringConversionError)
+            size_of(pools::get(pool, ends, reference), task)
         }
     }
 }
