@@ -4,3 +4,6 @@ pub mod Puts
 pub mod Trips
 pub mod Walks
 pub mod Records
+pub mod Saves
+pub mod Stores
+pub mod Loads
