@@ -22,7 +22,7 @@ use Rattle.image.proofs.Records.{saved-again}
 use Rattle.image.proofs.Rules.{Rules}
 use Rattle.image.proofs.Saves.{Holds, Lists, end, dead, alive, save-lists}
 use Rattle.image.proofs.Stores.{Pool, Stored, stored}
-use Rattle.image.proofs.Trips.{not-bad, Step, Goes, ends, goes-on, goes, Loaded, loaded, load-sound, load-save, read-none}
+use Rattle.image.proofs.Trips.{not-bad, Step, Goes, at-end, goes-on, goes, Loaded, loaded, load-sound, load-save, read-none}
 
 -- ---- the slots of a table that is loaded
 
@@ -37,7 +37,7 @@ blank-dead = refl
 -- slots that are blank hold no tasks
 all-dead : {pool ends : List ℕ} {entries : ℕ} (table : List Task) (n low : ℕ) → Empty table low → Lists table pool ends entries n low []
 all-dead table zero low empty = end
-all-dead table (suc n) low empty = dead (rw (empty low (omega arith)) blank-dead) (all-dead table n (low + 1) (λ j h. empty j (omega arith)))
+all-dead table (suc n) low empty = dead {i = low} (rw (empty low (omega arith)) blank-dead) (all-dead table n (low + 1) (λ j h. empty j (omega arith)))
 
 -- blank slots before others
 dead-run : {table : List Task} {pool ends : List ℕ} {entries : ℕ} {tasks : List ImageTask} (d m n low i : ℕ) → d + n ≡ m → low + d ≡ i → ((j : ℕ) → low ≤ j → j < i → getD table j blank ≡ blank) → Lists table pool ends entries n i tasks → Lists table pool ends entries m low tasks
@@ -47,7 +47,7 @@ dead-run {table} {pool} {ends} {entries} {tasks} zero m n low i e k empty l =
     subst (λ (x : ℕ). Lists table pool ends entries x low tasks) p (subst (λ (x : ℕ). Lists table pool ends entries n x tasks) q l)
 dead-run (suc d) zero n low i e k empty l = absurd (omega arith)
 dead-run (suc d) (suc m) n low i e k empty l =
-    dead (rw (empty low (omega arith) (omega arith)) blank-dead) (dead-run d m n (low + 1) i (omega arith) (omega arith) (λ j h g. empty j (omega arith) g) l)
+    dead {i = low} (rw (empty low (omega arith) (omega arith)) blank-dead) (dead-run d m n (low + 1) i (omega arith) (omega arith) (λ j h g. empty j (omega arith) g) l)
 
 -- the pool has room for the tasks
 pub record Room (l : Loading) (tasks : List ImageTask) : Type 0 where
@@ -62,9 +62,6 @@ record Done (low : ℕ) (l f : Loading) (tasks : List ImageTask) : Type 0 where
   long : length (f .table) ≡ length (l .table)
   pool : Pool f
   lists : (n : ℕ) → n + low ≡ length (f .table) → Lists (f .table) (f .pool) (f .ends) (f .entries) n low tasks
-
-reference-to : ℕ → InstructionsRef
-reference-to n = record { 0 = n }
 
 loaded-id : (task : ImageTask) (reference : InstructionsRef) → loaded-task task reference .id .0 ≡ task .id
 unfolding loaded-task
@@ -84,7 +81,9 @@ unfolding task-in
 holds pool ends entries n next-id low task fine named entry =
     record {
       living = loaded-living task (record { 0 = n });
-      task-is = rw (loaded-reference task (record { 0 = n }), entry) (saved-again task (record { 0 = n }) (fine .short));
+      task-is =
+          ap (saved-task (loaded-task task (record { 0 = n }))) (ap (λ (r : InstructionsRef). entry-of pool ends (r .0)) (loaded-reference task (record { 0 = n })) ∙ entry)
+          ∙ saved-again task (record { 0 = n }) (fine .short);
       named = rw (loaded-reference task (record { 0 = n })) named;
       text = fine .text;
     }
@@ -101,20 +100,21 @@ bytes-of-more : (task : ImageTask) (tasks : List ImageTask) → instruction-byte
 unfolding instruction-bytes
 bytes-of-more task tasks = refl
 
+-- the table after one task
+slots-set : (l : Loading) (task : ImageTask) {s : Loading} → Stored l s (loaded-task task (record { 0 = l .entries })) (task .instructions) → s .table ≡ set (l .table) (task .id) (loaded-task task (record { 0 = l .entries }))
+slots-set l task t = t .slots ∙ ap (λ (k : ℕ). set (l .table) k (loaded-task task (record { 0 = l .entries }))) (loaded-id task (record { 0 = l .entries }))
+
 -- one task, and then the others
 module _ {next-id low : ℕ} {task : ImageTask} {tasks : List ImageTask} {l s f : Loading} (fine : Fine next-id low task) (inside : next-id ≤ length (l .table)) (empty : Empty (l .table) low)
     (t : Stored l s (loaded-task task (record { 0 = l .entries })) (task .instructions)) (d : Done (task .id + 1) s f tasks) where
-  slot-set : s .table ≡ set (l .table) (task .id) (loaded-task task (record { 0 = l .entries }))
-  slot-set = t .slots ∙ ap (λ (k : ℕ). set (l .table) k (loaded-task task (record { 0 = l .entries }))) (loaded-id task (record { 0 = l .entries }))
-
   slot-is : getD (f .table) (task .id) blank ≡ loaded-task task (record { 0 = l .entries })
-  slot-is = d .slots (task .id) (omega arith) ∙ rw slot-set (getD-set-same (l .table) (task .id) (loaded-task task (record { 0 = l .entries })) blank (omega (arith, fine .below)))
+  slot-is = d .slots (task .id) (omega arith) ∙ rw (slots-set l task t) (getD-set-same (l .table) (task .id) (loaded-task task (record { 0 = l .entries })) blank (omega (arith, fine .below)))
 
   slot-before : (j : ℕ) → j < task .id → getD (f .table) j blank ≡ getD (l .table) j blank
-  slot-before j less = d .slots j (omega arith) ∙ rw slot-set (getD-set-other (l .table) (task .id) j (loaded-task task (record { 0 = l .entries })) blank (λ e. omega arith))
+  slot-before j less = d .slots j (omega arith) ∙ rw (slots-set l task t) (getD-set-other (l .table) (task .id) j (loaded-task task (record { 0 = l .entries })) blank (λ e. omega arith))
 
   long-is : length (f .table) ≡ length (l .table)
-  long-is = d .long ∙ rw slot-set (length-set (l .table) (task .id) (loaded-task task (record { 0 = l .entries })))
+  long-is = d .long ∙ rw (slots-set l task t) (length-set (l .table) (task .id) (loaded-task task (record { 0 = l .entries })))
 
   held : Holds (f .pool) (f .ends) (f .entries) (getD (f .table) (task .id) blank) task
   held =
@@ -151,10 +151,87 @@ load-done none l inside empty p room =
 load-done (more {low} {task} {tasks} fine r) l inside empty p room =
     let b = bytes-of-more task tasks in
     let t = stored l (loaded-task task (record { 0 = l .entries })) (task .instructions) p (omega (arith, room .few)) (omega (arith, room .small)) in
-    let k : length (load-slot (loaded-task task (record { 0 = l .entries })) (task .instructions) l .table) ≡ length (l .table) = ap length (t .slots) ∙ length-set _ _ _ in
+    let k : length (load-slot (loaded-task task (record { 0 = l .entries })) (task .instructions) l .table) ≡ length (l .table) = ap length (slots-set l task t) ∙ length-set (l .table) (task .id) (loaded-task task (record { 0 = l .entries })) in
     rw (load-more task tasks l)
     (done-more fine inside empty t
     (load-done r _ (omega arith)
-    (λ j h. rw (t .slots, loaded-id task (record { 0 = l .entries })) (getD-set-other (l .table) (task .id) j (loaded-task task (record { 0 = l .entries })) blank (λ e. omega arith) ∙ empty j (omega (arith, fine .rising))))
+    (λ j h. rw (slots-set l task t) (getD-set-other (l .table) (task .id) j (loaded-task task (record { 0 = l .entries })) blank (λ e. omega arith) ∙ empty j (omega (arith, fine .rising))))
     (t .still)
     (record { few = omega (arith, room .few, t .one-more); small = omega (arith, room .small, t .bytes-more, t .same-pool) })))
+
+-- ---- the records of an image that is loaded
+
+module _ (image : List ℕ) (place : ℕ) (reference : InstructionsRef) {next-id low : ℕ} (r : Rules next-id low (drop place image)) where
+  end-is : read-record image place reference .end ≡ place + (6 + body-length (drop place image))
+  unfolding read-record on
+  end-is = omega (arith, r .uncut, length-drop place image)
+
+  start-is : read-record image place reference .start ≡ place + (14 + title-length (drop place image))
+  unfolding read-record on
+  start-is = omega (arith, r .uncut, r .inside, length-drop place image)
+
+  task-read : read-record image place reference .task ≡ loaded-task (task-at (drop place image)) reference
+  unfolding read-record
+  task-read = refl
+
+  instructions-read : instructions-of image (read-record image place reference) ≡ task-at (drop place image) .instructions
+  unfolding task-at
+  instructions-read =
+      let n : place + (6 + body-length (drop place image)) - (place + (14 + title-length (drop place image))) ≡ body-length (drop place image) - 8 - title-length (drop place image) = omega (arith, r .inside) in
+      rw (end-is, start-is, n, ← drop-drop, ← drop-drop)
+
+records-more : (n : ℕ) (image : List ℕ) (place : ℕ) (l : Loading) → load-records (suc n) image place l ≡ load-records n image (read-record image place (record { 0 = l .entries }) .end) (load-slot (read-record image place (record { 0 = l .entries }) .task) (instructions-of image (read-record image place (record { 0 = l .entries }))) l)
+unfolding load-records
+records-more n image place l = refl
+
+records-none : (image : List ℕ) (place : ℕ) (l : Loading) → load-records 0 image place l ≡ l
+unfolding load-records
+records-none image place l = refl
+
+-- records one after another load the tasks that they hold
+pub records-tasks : (bound next-id low place : ℕ) (image : List ℕ) (tasks : List ImageTask) (l : Loading) → read-from bound next-id low place (drop place image) ≡ sound tasks → load-records (length tasks) image place l ≡ load-tasks tasks l
+records-tasks zero next-id low place image tasks l e = not-bad (sym (read-none next-id low place (drop place image)) ∙ e)
+records-tasks (suc bound) next-id low place image tasks l e =
+    by (records-tasks bound next-id (id-in (drop place image) + 1) (place + (6 + body-length (drop place image))) image) (goes bound next-id low place (drop place image) tasks e)
+  where
+    by : ((rest : List ImageTask) (k : Loading) → read-from bound next-id (id-in (drop place image) + 1) (place + (6 + body-length (drop place image))) (drop (place + (6 + body-length (drop place image))) image) ≡ sound rest → load-records (length rest) image (place + (6 + body-length (drop place image))) k ≡ load-tasks rest k) → Goes bound next-id low place (drop place image) tasks → load-records (length tasks) image place l ≡ load-tasks tasks l
+    by later (at-end empty none-left) =
+        let n : [] ≡ tasks = cc in
+        subst (λ (ts : List ImageTask). load-records (length ts) image place l ≡ load-tasks ts l) n (records-none image place l ∙ sym (load-none l))
+    by later (goes-on some s) =
+        subst (λ (ts : List ImageTask). load-records (length ts) image place l ≡ load-tasks ts l) (s .all)
+        (records-more (length (s .rest)) image place l
+        ∙ rw (instructions-read image place (record { 0 = l .entries }) (s .rules), end-is image place (record { 0 = l .entries }) (s .rules), task-read image place (record { 0 = l .entries }) (s .rules), load-more (task-at (drop place image)) (s .rest) l)
+        (later (s .rest) _ (rw drop-drop at (s .later))))
+
+-- ---- the whole
+
+blanks : (n j : ℕ) → getD (replicate n blank) j blank ≡ blank
+blanks zero j = refl
+blanks (suc n) zero = refl
+blanks (suc n) (suc j) = blanks n j
+
+-- the table with every slot blank
+abbrev pub cleared : Loading → Loading
+cleared l = record { table = replicate (length (l .table)) blank; pool = l .pool; ends = l .ends; bytes = l .bytes; entries = l .entries }
+
+-- loading an image is loading its tasks by rising id into a blank table
+pub load-table-tasks : (bytes : List ℕ) (image : Image) (l : Loading) → 0 < length bytes → read-image bytes ≡ sound image → load-table bytes l ≡ load-tasks (image .tasks) (cleared l)
+unfolding load-table
+load-table-tasks bytes image l some e =
+    let h = loaded bytes image some e in
+    rw (← h .count-is) (records-tasks (length bytes) _ 0 14 bytes (image .tasks) (cleared l) (h .read))
+
+-- document 01: saving after loading a non-empty image gives the same bytes
+pub reload : (bytes : List ℕ) (image : Image) (l : Loading) (save : List ℕ) → Bytes bytes → 0 < length bytes → read-image bytes ≡ sound image
+    → 256 ≤ length (l .table) → Pool l → Room l (image .tasks) → length bytes ≤ length save
+    → save-table (image .next-id) (load-table bytes l .table) (load-table bytes l .pool) (load-table bytes l .ends) (load-table bytes l .entries) save ≡ saved-table (Saved (length bytes)) (sets save 0 bytes)
+reload bytes image l save b some e wide p room fits =
+    let z = load-sound bytes image some e b in
+    let w : written image ≡ bytes = load-save bytes image some e b in
+    let n : length (replicate (length (l .table)) blank) ≡ length (l .table) = length-replicate (length (l .table)) blank in
+    let d = load-done (z .tasks) (cleared l) (omega (arith, z .few)) (λ j h. blanks (length (l .table)) j) (record { lent = p .lent; sound = p .sound }) (record { few = room .few; small = room .small }) in
+    let short : length (written image) ≤ length save = rw w fits in
+    rw (load-table-tasks bytes image l some e)
+    (save-lists image (d .lists (length (load-tasks (image .tasks) (cleared l) .table)) (omega arith)) save short
+    ∙ rw w)

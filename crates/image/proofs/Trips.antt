@@ -272,11 +272,11 @@ pub record Again (next-id low : ℕ) (bytes : List ℕ) (tasks : List ImageTask)
   pub same : bytes ≡ records tasks
   pub rises : Rising next-id low tasks
 
-no-bytes : (bytes : List ℕ) → length bytes ≡ 0 → bytes ≡ []
+pub no-bytes : (bytes : List ℕ) → length bytes ≡ 0 → bytes ≡ []
 no-bytes [] e = refl
 no-bytes (b ∷ bytes) e = absurd (omega arith)
 
-read-none : (next-id low place : ℕ) (bytes : List ℕ) → read-from 0 next-id low place bytes ≡ bad-at place
+pub read-none : (next-id low place : ℕ) (bytes : List ℕ) → read-from 0 next-id low place bytes ≡ bad-at place
 unfolding read-from
 read-none next-id low place bytes = refl
 
@@ -311,7 +311,7 @@ pub record Step (bound next-id low place : ℕ) (bytes : List ℕ) (tasks : List
 
 -- reading ends at the bytes' end or goes on from a record
 pub data Goes (bound next-id low place : ℕ) (bytes : List ℕ) (tasks : List ImageTask) : Type 0 where
-  ends : length bytes ≡ 0 → sound [] ≡ sound tasks → Goes bound next-id low place bytes tasks
+  at-end : length bytes ≡ 0 → sound [] ≡ sound tasks → Goes bound next-id low place bytes tasks
   goes-on : 0 < length bytes → Step bound next-id low place bytes tasks → Goes bound next-id low place bytes tasks
 
 pub goes : (bound next-id low place : ℕ) (bytes : List ℕ) (tasks : List ImageTask) → read-from (suc bound) next-id low place bytes ≡ sound tasks → Goes bound next-id low place bytes tasks
@@ -331,7 +331,7 @@ goes bound next-id low place bytes tasks e = by-end (eqb (length bytes) 0) refl 
     by-good false g j = not-bad j
 
     by-end : (c : Bool) → eqb (length bytes) 0 ≡ c → cond c (sound []) (cond (good next-id low bytes) (joined (task-at bytes) rest) (bad-at place)) ≡ sound tasks → Goes bound next-id low place bytes tasks
-    by-end true q j = ends (eqb-true (length bytes) 0 q) j
+    by-end true q j = at-end (eqb-true (length bytes) 0 q) j
     by-end false q j =
         let some : length bytes ≡ 0 → ⊥ = eqb-false (length bytes) 0 q in
         goes-on (omega arith) (by-good (good next-id low bytes) refl j)
@@ -343,7 +343,7 @@ read-again (suc bound) next-id low place bytes tasks b e =
     (goes bound next-id low place bytes tasks e)
   where
     by : ((us : List ImageTask) → read-from bound next-id (id-in bytes + 1) (place + (6 + body-length bytes)) (drop (6 + body-length bytes) bytes) ≡ sound us → Again next-id (id-in bytes + 1) (drop (6 + body-length bytes) bytes) us) → Goes bound next-id low place bytes tasks → Again next-id low bytes tasks
-    by later (ends empty none-left) = no-records (no-bytes bytes empty) none-left
+    by later (at-end empty none-left) = no-records (no-bytes bytes empty) none-left
     by later (goes-on some s) = subst (λ (l : List ImageTask). Again next-id low bytes l) (s .all) (one-more b (s .rules) (later (s .rest) (s .later)))
 
 -- ---- the image, read and written again
