@@ -7,3 +7,5 @@ pub mod Records
 pub mod Saves
 pub mod Stores
 pub mod Loads
+pub mod Cases
+pub mod Places

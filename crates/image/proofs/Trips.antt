@@ -294,11 +294,11 @@ one-more {next-id} {low} {bytes} {tasks} b r a =
       rises = more {tasks = tasks} (fine-is b r) (rw (task-id bytes) (a .rises));
     }
 
-joined-sound : (task : ImageTask) (tasks : List ImageTask) → joined task (sound tasks) ≡ sound (task ∷ tasks)
+pub joined-sound : (task : ImageTask) (tasks : List ImageTask) → joined task (sound tasks) ≡ sound (task ∷ tasks)
 unfolding joined
 joined-sound task tasks = refl
 
-joined-bad : (task : ImageTask) (place : ℕ) → joined task (bad-at place) ≡ bad-at place
+pub joined-bad : (task : ImageTask) (place : ℕ) → joined task (bad-at place) ≡ bad-at place
 unfolding joined
 joined-bad task place = refl
 
