@@ -16,7 +16,7 @@ use Rattle.image.specs.Image.{ImageTask, Image, written, Fine, Rising, n
 use Rattle.image.specs.Slots.{loaded-task, saved-task}
 use Rattle.image.specs.Reading.{on, instruction-bytes, read-record}
 use Rattle.image.specs.Writing.{task-in}
-use Rattle.image.specs.Table.{Loading, load-slot, load-tasks, instructions-of, load-records, load-table, saved-table, save-table}
+use Rattle.image.specs.Table.{Loading, next-reference, load-slot, load-tasks, instructions-of, load-records, load-table, saved-table, save-table}
 use Rattle.image.specs.declared.SaveResult.the-variants.{Saved}
 use Rattle.image.proofs.Records.{saved-again}
 use Rattle.image.proofs.Rules.{Rules}
@@ -75,20 +75,25 @@ loaded-reference : (task : ImageTask) (reference : InstructionsRef) → loaded-t
 unfolding loaded-task
 loaded-reference task reference = refl
 
+-- the next reference names the next entry
+reference-is : (n : ℕ) → n ≤ 1024 → next-reference n .0 ≡ n
+unfolding next-reference
+reference-is n few = omega arith
+
 -- a task in a slot, its entry being its instructions
-holds : (pool ends : List ℕ) (entries n next-id low : ℕ) (task : ImageTask) → Fine next-id low task → n < min entries 1024 → entry-of pool ends n ≡ task .instructions → Holds pool ends entries (loaded-task task (record { 0 = n })) task
+holds : (pool ends : List ℕ) (entries n next-id low : ℕ) (task : ImageTask) (reference : InstructionsRef) → reference .0 ≡ n → Fine next-id low task → n < min entries 1024 → entry-of pool ends n ≡ task .instructions → Holds pool ends entries (loaded-task task reference) task
 unfolding task-in
-holds pool ends entries n next-id low task fine named entry =
+holds pool ends entries n next-id low task reference is fine named entry =
     record {
-      living = loaded-living task (record { 0 = n });
+      living = loaded-living task reference;
       task-is =
-          ap (saved-task (loaded-task task (record { 0 = n }))) (ap (λ (r : InstructionsRef). entry-of pool ends (r .0)) (loaded-reference task (record { 0 = n })) ∙ entry)
-          ∙ saved-again task (record { 0 = n }) (fine .short);
-      named = rw (loaded-reference task (record { 0 = n })) named;
+          ap (saved-task (loaded-task task reference)) (ap (λ (r : InstructionsRef). entry-of pool ends (r .0)) (loaded-reference task reference) ∙ ap (entry-of pool ends) is ∙ entry)
+          ∙ saved-again task reference (fine .short);
+      named = rw (loaded-reference task reference, is) named;
       text = fine .text;
     }
 
-load-more : (task : ImageTask) (tasks : List ImageTask) (l : Loading) → load-tasks (task ∷ tasks) l ≡ load-tasks tasks (load-slot (loaded-task task (record { 0 = l .entries })) (task .instructions) l)
+load-more : (task : ImageTask) (tasks : List ImageTask) (l : Loading) → load-tasks (task ∷ tasks) l ≡ load-tasks tasks (load-slot (loaded-task task (next-reference (l .entries))) (task .instructions) l)
 unfolding load-tasks
 load-more task tasks l = refl
 
@@ -101,26 +106,26 @@ unfolding instruction-bytes
 bytes-of-more task tasks = refl
 
 -- the table after one task
-slots-set : (l : Loading) (task : ImageTask) {s : Loading} → Stored l s (loaded-task task (record { 0 = l .entries })) (task .instructions) → s .table ≡ set (l .table) (task .id) (loaded-task task (record { 0 = l .entries }))
-slots-set l task t = t .slots ∙ ap (λ (k : ℕ). set (l .table) k (loaded-task task (record { 0 = l .entries }))) (loaded-id task (record { 0 = l .entries }))
+slots-set : (l : Loading) (task : ImageTask) {s : Loading} → Stored l s (loaded-task task (next-reference (l .entries))) (task .instructions) → s .table ≡ set (l .table) (task .id) (loaded-task task (next-reference (l .entries)))
+slots-set l task t = t .slots ∙ ap (λ (k : ℕ). set (l .table) k (loaded-task task (next-reference (l .entries)))) (loaded-id task (next-reference (l .entries)))
 
 -- one task, and then the others
 module _ {next-id low : ℕ} {task : ImageTask} {tasks : List ImageTask} {l s f : Loading} (fine : Fine next-id low task) (inside : next-id ≤ length (l .table)) (empty : Empty (l .table) low)
-    (t : Stored l s (loaded-task task (record { 0 = l .entries })) (task .instructions)) (d : Done (task .id + 1) s f tasks) where
-  slot-is : getD (f .table) (task .id) blank ≡ loaded-task task (record { 0 = l .entries })
-  slot-is = d .slots (task .id) (omega arith) ∙ rw (slots-set l task t) (getD-set-same (l .table) (task .id) (loaded-task task (record { 0 = l .entries })) blank (omega (arith, fine .below)))
+    (t : Stored l s (loaded-task task (next-reference (l .entries))) (task .instructions)) (d : Done (task .id + 1) s f tasks) where
+  slot-is : getD (f .table) (task .id) blank ≡ loaded-task task (next-reference (l .entries))
+  slot-is = d .slots (task .id) (omega arith) ∙ rw (slots-set l task t) (getD-set-same (l .table) (task .id) (loaded-task task (next-reference (l .entries))) blank (omega (arith, fine .below)))
 
   slot-before : (j : ℕ) → j < task .id → getD (f .table) j blank ≡ getD (l .table) j blank
-  slot-before j less = d .slots j (omega arith) ∙ rw (slots-set l task t) (getD-set-other (l .table) (task .id) j (loaded-task task (record { 0 = l .entries })) blank (λ e. omega arith))
+  slot-before j less = d .slots j (omega arith) ∙ rw (slots-set l task t) (getD-set-other (l .table) (task .id) j (loaded-task task (next-reference (l .entries))) blank (λ e. omega arith))
 
   long-is : length (f .table) ≡ length (l .table)
-  long-is = d .long ∙ rw (slots-set l task t) (length-set (l .table) (task .id) (loaded-task task (record { 0 = l .entries })))
+  long-is = d .long ∙ rw (slots-set l task t) (length-set (l .table) (task .id) (loaded-task task (next-reference (l .entries))))
 
   held : Holds (f .pool) (f .ends) (f .entries) (getD (f .table) (task .id) blank) task
   held =
       let n = stands (f .ends) (f .bytes) (f .entries) (d .pool .sound) in
       rw slot-is
-      (holds (f .pool) (f .ends) (f .entries) (l .entries) next-id low task fine (omega (arith, d .count, t .one-more, n .few))
+      (holds (f .pool) (f .ends) (f .entries) (l .entries) next-id low task (next-reference (l .entries)) (reference-is (l .entries) (omega (arith, d .count, t .one-more, n .few))) fine (omega (arith, d .count, t .one-more, n .few))
       (d .entries (l .entries) (omega (arith, t .one-more)) ∙ t .new))
 
   done-more : Done low l f (task ∷ tasks)
@@ -150,12 +155,12 @@ load-done none l inside empty p room =
     })
 load-done (more {low} {task} {tasks} fine r) l inside empty p room =
     let b = bytes-of-more task tasks in
-    let t = stored l (loaded-task task (record { 0 = l .entries })) (task .instructions) p (omega (arith, room .few)) (omega (arith, room .small)) in
-    let k : length (load-slot (loaded-task task (record { 0 = l .entries })) (task .instructions) l .table) ≡ length (l .table) = ap length (slots-set l task t) ∙ length-set (l .table) (task .id) (loaded-task task (record { 0 = l .entries })) in
+    let t = stored l (loaded-task task (next-reference (l .entries))) (task .instructions) p (omega (arith, room .few)) (omega (arith, room .small)) in
+    let k : length (load-slot (loaded-task task (next-reference (l .entries))) (task .instructions) l .table) ≡ length (l .table) = ap length (slots-set l task t) ∙ length-set (l .table) (task .id) (loaded-task task (next-reference (l .entries))) in
     rw (load-more task tasks l)
     (done-more fine inside empty t
     (load-done r _ (omega arith)
-    (λ j h. rw (slots-set l task t) (getD-set-other (l .table) (task .id) j (loaded-task task (record { 0 = l .entries })) blank (λ e. omega arith) ∙ empty j (omega (arith, fine .rising))))
+    (λ j h. rw (slots-set l task t) (getD-set-other (l .table) (task .id) j (loaded-task task (next-reference (l .entries))) blank (λ e. omega arith) ∙ empty j (omega (arith, fine .rising))))
     (t .still)
     (record { few = omega (arith, room .few, t .one-more); small = omega (arith, room .small, t .bytes-more, t .same-pool) })))
 
@@ -180,7 +185,7 @@ module _ (image : List ℕ) (place : ℕ) (reference : InstructionsRef) {next-id
       let n : place + (6 + body-length (drop place image)) - (place + (14 + title-length (drop place image))) ≡ body-length (drop place image) - 8 - title-length (drop place image) = omega (arith, r .inside) in
       rw (end-is, start-is, n, ← drop-drop, ← drop-drop)
 
-records-more : (n : ℕ) (image : List ℕ) (place : ℕ) (l : Loading) → load-records (suc n) image place l ≡ load-records n image (read-record image place (record { 0 = l .entries }) .end) (load-slot (read-record image place (record { 0 = l .entries }) .task) (instructions-of image (read-record image place (record { 0 = l .entries }))) l)
+records-more : (n : ℕ) (image : List ℕ) (place : ℕ) (l : Loading) → load-records (suc n) image place l ≡ load-records n image (read-record image place (next-reference (l .entries)) .end) (load-slot (read-record image place (next-reference (l .entries)) .task) (instructions-of image (read-record image place (next-reference (l .entries)))) l)
 unfolding load-records
 records-more n image place l = refl
 
@@ -201,7 +206,7 @@ records-tasks (suc bound) next-id low place image tasks l e =
     by later (goes-on some s) =
         subst (λ (ts : List ImageTask). load-records (length ts) image place l ≡ load-tasks ts l) (s .all)
         (records-more (length (s .rest)) image place l
-        ∙ rw (instructions-read image place (record { 0 = l .entries }) (s .rules), end-is image place (record { 0 = l .entries }) (s .rules), task-read image place (record { 0 = l .entries }) (s .rules), load-more (task-at (drop place image)) (s .rest) l)
+        ∙ rw (instructions-read image place (next-reference (l .entries)) (s .rules), end-is image place (next-reference (l .entries)) (s .rules), task-read image place (next-reference (l .entries)) (s .rules), load-more (task-at (drop place image)) (s .rest) l)
         (later (s .rest) _ (rw drop-drop at (s .later))))
 
 -- ---- the whole

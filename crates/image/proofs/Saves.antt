@@ -7,7 +7,8 @@ use native.Mathlib.Omega.{arith}
 use lib.Dec.{leb}
 use lib.ListN.{length, getD, length-append}
 use lib.Seq.{sets, length-sets}
-use borrow.Author.Tests.{lt-ltb, le-leb}
+use borrow.Author.Tests.{lt-ltb, le-leb, lt-leb}
+use Rattle.errors.specs.declared.Refusal.the-variants.{SaveBufferTooShort}
 use Rattle.pools.specs.Pool.{bounds}
 use Rattle.slices.proofs.Writes.{sets-append}
 use Rattle.storage.specs.Tasks.{blank}
@@ -17,8 +18,8 @@ use Rattle.image.specs.Numbers.{little-endian}
 use Rattle.image.specs.Image.{ImageTask, Image, framed, body, header, records, written}
 use Rattle.image.specs.Reading.{on}
 use Rattle.image.specs.Writing.{put, puts, task-in, size-of, sized, measure}
-use Rattle.image.specs.Table.{Measured, measured, grown, measures, save-slot, save-slots, saved-table, saved-as, save-table}
-use Rattle.image.specs.declared.SaveResult.the-variants.{Saved}
+use Rattle.image.specs.Table.{Measured, measured, added, measure-slot, count-slot, grown, measures, save-slot, save-slots, saved-table, saved-as, save-table}
+use Rattle.image.specs.declared.SaveResult.the-variants.{Saved, NotSaved}
 use Rattle.image.specs.declared.SizeResult.the-variants.{Size}
 use Rattle.image.proofs.Puts.{puts-puts}
 
@@ -53,14 +54,14 @@ unfolding puts on
 put-inside place save bytes = omega (arith, length-sets save place bytes)
 
 module _ {table : List Task} {pool ends : List ℕ} {entries : ℕ} where
-  -- measuring adds up the records
-  pub lists-measured : {n i : ℕ} {tasks : List ImageTask} → Lists table pool ends entries n i tasks → (size count : ℕ) → measures n i table pool ends entries size count ≡ measured (size + length (records tasks)) (count + length tasks)
-  unfolding measures grown records
-  lists-measured end size count = same-measured (omega arith) (omega arith)
-  lists-measured (dead h l) size count = rw h (lists-measured l size count)
-  lists-measured (alive {n} {i} {task} {tasks} h l) size count =
-      rw (h .living, holds-size pool ends entries (getD table i blank) task h)
-      (lists-measured l (size + length (framed 2 (body task))) (count + 1)
+  -- measuring adds up the records, no further than the limit
+  pub lists-measured : {n i : ℕ} {tasks : List ImageTask} → Lists table pool ends entries n i tasks → (limit count size : ℕ) → size ≤ limit → measures n i table pool ends entries limit count size ≡ measured (min (size + length (records tasks)) limit) (count + length tasks)
+  unfolding measures measure-slot count-slot added grown records on
+  lists-measured end limit count size h = same-measured (omega arith) (omega arith)
+  lists-measured (dead d l) limit count size h = rw d (lists-measured l limit count size h)
+  lists-measured (alive {n} {i} {task} {tasks} d l) limit count size h =
+      rw (d .living, holds-size pool ends entries (getD table i blank) task d)
+      (lists-measured l limit (count + 1) (min (size + length (framed 2 (body task))) limit) (omega arith)
       ∙ same-measured (omega (arith, length-append (framed 2 (body task)) (records tasks))) (omega arith))
 
   -- saving writes one record after another
@@ -96,13 +97,24 @@ written-length image =
     length-append (header (image .next-id) (length (image .tasks))) (records (image .tasks))
     ∙ ap (λ (k : ℕ). k + length (records (image .tasks))) (header-length (image .next-id) (length (image .tasks)))
 
--- a table that holds an image's tasks is saved as the image, where it fits, and bytes past it stay
-pub save-lists : {table : List Task} {pool ends : List ℕ} {entries : ℕ} (image : Image) → Lists table pool ends entries (length table) 0 (image .tasks) → (save : List ℕ) → length (written image) ≤ length save
-    → save-table (image .next-id) table pool ends entries save ≡ saved-table (Saved (length (written image))) (sets save 0 (written image))
-unfolding save-table saved-as
-save-lists {table} {pool} {ends} {entries} image l save fits =
-    let n = written-length image in
-    let size : 14 + length (records (image .tasks)) ≤ length save = omega arith in
-    let inside : 14 ≤ length (puts save 0 (header (image .next-id) (length (image .tasks))) .save) = rw (puts-save save 0 (header (image .next-id) (length (image .tasks))), length-sets save 0 (header (image .next-id) (length (image .tasks)))) (omega arith) in
-    let none : 0 + length (image .tasks) ≡ length (image .tasks) = omega arith in
-    rw (lists-measured l 14 0, none, le-leb (14 + length (records (image .tasks))) (length save) size, lists-saved l 14 _ inside, whole-saved save image, n)
+module _ {table : List Task} {pool ends : List ℕ} {entries : ℕ} (image : Image) (l : Lists table pool ends entries (length table) 0 (image .tasks)) (save : List ℕ) where
+  measured-whole : 13 ≤ length save → measures (length table) 0 table pool ends entries (length save + 1) 0 14 ≡ measured (min (length (written image)) (length save + 1)) (length (image .tasks))
+  measured-whole some =
+      let n = written-length image in
+      lists-measured l (length save + 1) 0 14 (omega arith) ∙ same-measured (omega arith) (omega arith)
+
+  -- a table that holds an image's tasks is saved as the image, where it fits, and bytes past it stay
+  pub save-lists : length (written image) ≤ length save → save-table (image .next-id) table pool ends entries save ≡ saved-table (Saved (length (written image))) (sets save 0 (written image))
+  unfolding save-table saved-as
+  save-lists fits =
+      let n = written-length image in
+      let size : min (length (written image)) (length save + 1) ≡ length (written image) = omega arith in
+      let inside : 14 ≤ length (puts save 0 (header (image .next-id) (length (image .tasks))) .save) = rw (puts-save save 0 (header (image .next-id) (length (image .tasks))), length-sets save 0 (header (image .next-id) (length (image .tasks)))) (omega arith) in
+      rw (measured-whole (omega arith), size, le-leb (length (written image)) (length save) fits, lists-saved l 14 _ inside, whole-saved save image)
+
+  -- where it does not fit the answer is 24, and nothing is written
+  pub too-short : 13 ≤ length save → length save < length (written image) → save-table (image .next-id) table pool ends entries save ≡ saved-table (NotSaved SaveBufferTooShort) save
+  unfolding save-table saved-as
+  too-short some over =
+      let size : min (length (written image)) (length save + 1) ≡ length save + 1 = omega arith in
+      rw (measured-whole some, size, lt-leb (length save + 1) (length save) (omega arith))

@@ -1,6 +1,7 @@
 // The task image: tested, read a record at a time, measured and written a record at a time.
 mod numbers;
 pub mod reading;
+pub mod steps;
 pub mod writing;
 
 use errors::Refusal;
@@ -54,4 +55,12 @@ pub enum Walked {
 pub enum SaveResult {
     Saved(usize),
     NotSaved(Refusal),
+}
+
+// A record that was loaded: its task, where the next one starts, and the pool's bytes and entries in use.
+pub struct LoadedRecord {
+    pub task: Task,
+    pub end: usize,
+    pub bytes: usize,
+    pub entries: usize,
 }

@@ -1,6 +1,6 @@
 // Little-endian numbers in bytes, with zeros past the end.
 ghost use mathlib.Core.Path.{_≡_};
-ghost use Prim.Native.Nat.{_+_, _<_, min};
+ghost use Prim.Native.Nat.{_-_, _<_, min};
 ghost use lib.ListN.{getD};
 ghost use Rattle.image.specs.Numbers.{number-at};
 ghost use Rattle.image.specs.Reading.{on};
@@ -59,4 +59,14 @@ pub(crate) fn smaller(a: usize, b: usize) -> usize
         return a;
     }
     b
+}
+
+// The difference of two numbers, 0 where it is below.
+pub(crate) fn less(a: usize, b: usize) -> usize
+    ensures { λ r. ⌜ r ≡ a - b ⌝ }
+{
+    if a < b {
+        return 0;
+    }
+    a - b
 }

@@ -1,0 +1,57 @@
+use borrow.Author.Needs.{needs}
+use Rattle.image.proofs.steps.measure_slot.Statement.{statement}
+use Rattle.image.proofs.steps.measure_slot.Tie as tie
+use Rattle.image.proofs.steps.measure_slot.Reads as reads
+use Rattle.image.proofs.steps.measure_slot.Lts as lts
+use Rattle.image.proofs.numbers.on.Reads as on-reads
+use Rattle.image.proofs.writing.measure.Reads as measure-reads
+
+-- src/steps.rt:29:22
+measure-requires : tie.Need-measure-requires
+measure-requires c κs = search needs
+
+-- src/steps.rt:30:30
+enum-known-more : tie.Need-enum-known-more
+enum-known-more c = search needs
+
+-- src/steps.rt:30:56
+on-requires : tie.Need-on-requires
+on-requires c κs = search needs
+
+-- src/steps.rt:31:32
+enum-known-refusal : tie.Need-enum-known-refusal
+enum-known-refusal c = search needs
+
+-- src/steps.rt:29:9
+same-length : tie.Need-same-length
+same-length c = search needs
+
+-- src/steps.rt:29:9
+returns : tie.Need-returns
+returns c = ?
+
+-- src/steps.rt:29:9
+same-length-2 : tie.Need-same-length-2
+same-length-2 c = search needs
+
+-- src/steps.rt:29:9
+returns-2 : tie.Need-returns-2
+returns-2 c = ?
+
+-- src/steps.rt:18:1
+returns-3 : tie.Need-returns-3
+returns-3 c = ?
+
+pub measure-slot-spec : {M : Type 1} → statement M
+measure-slot-spec =
+    tie.close
+    (tie.spec
+    measure-requires
+    enum-known-more
+    on-requires
+    enum-known-refusal
+    same-length
+    returns
+    same-length-2
+    returns-2
+    returns-3)
