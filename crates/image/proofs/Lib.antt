@@ -9,3 +9,4 @@ pub mod Stores
 pub mod Loads
 pub mod Cases
 pub mod Places
+pub mod Turns

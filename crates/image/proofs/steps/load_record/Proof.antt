@@ -1,3 +1,8 @@
+use native.Mathlib.Omega.{arith}
+use mathlib.Core.Path.{ap}
+use Rattle.image.specs.declared.LoadedRecord.{LoadedRecord}
+use Rattle.image.specs.Table.{Stepped, loaded-record}
+use Rattle.image.proofs.Turns.{few-entries, loaded-more, loaded-not}
 use borrow.Author.Needs.{needs}
 use Rattle.image.proofs.steps.load_record.Statement.{statement}
 use Rattle.image.proofs.steps.load_record.Tie as tie
@@ -39,7 +44,8 @@ enum-known-used c = search needs
 
 -- src/steps.rt:76:22
 add-t25 : tie.Need-add-t25
-add-t25 c = ?
+add-t25 c =
+    omega (arith, few-entries _ _ _ _ _ (c .before .before .before .before .before .intern-instructions .ensures) (c .before .used .given .1))
 
 -- src/steps.rt:78:41
 enum-told : tie.Need-enum-told
@@ -55,7 +61,10 @@ same-length-2 c = search needs
 
 -- src/steps.rt:55:1
 returns : tie.Need-returns
-returns c = ?
+returns c =
+    let start = c .before .before .before .before .before .before .before .before .before .before .before .before .before .before .before .before .before in
+    ap (λ (l : Stepped LoadedRecord). loaded-record l (start .args .image .now))
+    (loaded-more _ _ _ _ _ _ (c .before .before .before .before .before .before .before .before .before .before .before .before .before .before .smaller .ensures) (c .before .before .before .before .before .before .before .before .before .before .before .before .read-record .ensures) (c .before .before .before .before .before .before .before .before .before .less .ensures) (c .before .before .before .before .before .before .before .before .part .ensures) (c .before .before .before .before .before .intern-instructions .ensures) (c .before .used .given .1))
 
 -- src/steps.rt:55:1
 same-length-3 : tie.Need-same-length-3
@@ -67,7 +76,10 @@ same-length-4 c = search needs
 
 -- src/steps.rt:55:1
 returns-2 : tie.Need-returns-2
-returns-2 c = ?
+returns-2 c =
+    let start = c .before .before .before .before .before .before .before .before .before .before .before .before .before .before .before .before in
+    ap (λ (l : Stepped LoadedRecord). loaded-record l (start .args .image .now))
+    (loaded-not _ _ _ _ _ _ (c .before .before .before .before .before .before .before .before .before .before .before .before .before .smaller .ensures) (c .before .before .before .before .before .before .before .before .before .before .before .read-record .ensures) (c .before .before .before .before .before .before .before .before .less .ensures) (c .before .before .before .before .before .before .before .part .ensures) (c .before .before .before .before .intern-instructions .ensures) (c .enum-told .given .1))
 
 pub load-record-spec : {M : Type 1} → statement M
 load-record-spec =

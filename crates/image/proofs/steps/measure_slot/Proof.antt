@@ -1,3 +1,7 @@
+use mathlib.Core.Path.{ap}
+use Rattle.image.specs.Table.{stepped}
+use Rattle.image.specs.declared.SizeResult.{SizeResult}
+use Rattle.image.proofs.Turns.{unmeasured, measured-more, measured-not}
 use borrow.Author.Needs.{needs}
 use Rattle.image.proofs.steps.measure_slot.Statement.{statement}
 use Rattle.image.proofs.steps.measure_slot.Tie as tie
@@ -28,7 +32,10 @@ same-length c = search needs
 
 -- src/steps.rt:29:9
 returns : tie.Need-returns
-returns c = ?
+returns c =
+    let start = c .before .before .before .before .before .before .before .before .before in
+    ap (λ (a : SizeResult). stepped a (start .args .pool .now) (start .args .ends .now))
+    (measured-more _ _ _ _ _ _ (c .before .before .before .before .before .before .before .if1 .taken) (c .before .before .before .before .measure .ensures) (c .before .before .more .given .1) (c .on .ensures))
 
 -- src/steps.rt:29:9
 same-length-2 : tie.Need-same-length-2
@@ -36,11 +43,17 @@ same-length-2 c = search needs
 
 -- src/steps.rt:29:9
 returns-2 : tie.Need-returns-2
-returns-2 c = ?
+returns-2 c =
+    let start = c .before .before .before .before .before .before .before .before in
+    ap (λ (a : SizeResult). stepped a (start .args .pool .now) (start .args .ends .now))
+    (measured-not _ _ _ _ _ _ (c .before .before .before .before .before .before .if1 .taken) (c .before .before .before .measure .ensures) (c .before .refusal .given .1))
 
 -- src/steps.rt:18:1
 returns-3 : tie.Need-returns-3
-returns-3 c = ?
+returns-3 c =
+    let start = c .before .before in
+    ap (λ (a : SizeResult). stepped a (start .args .pool .now) (start .args .ends .now))
+    (unmeasured _ _ _ _ _ _ (c .if1 .left))
 
 pub measure-slot-spec : {M : Type 1} → statement M
 measure-slot-spec =
