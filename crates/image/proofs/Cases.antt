@@ -1,12 +1,11 @@
 -- Document 01's image I1, and small images that are refused, by computing.
 use Prim.Native.Nat.{ℕ}
-use mathlib.Core.Bool.{cond, _&&_}
 use mathlib.Core.List.{List, [], _∷_, _++_}
 use mathlib.Core.Path.{_≡_, refl}
+use Rattle.image.specs.Image.{Image, framed, header, body, records, written, sound, bad-at, task-at, headed, good, joined, read-from, counted, read-image}
+use Rattle.image.specs.Numbers.{little-endian, number-at}
 use Rattle.utf8.specs.Grammar.{UTF8-char}
 use Rattle.utf8.specs.Utf8.{valid, from, lead, holds}
-use Rattle.image.specs.Numbers.{little-endian, number-at}
-use Rattle.image.specs.Image.{Image, framed, header, body, records, written, Read, sound, bad-at, task-at, headed, good, joined, read-from, counted, read-image}
 
 -- 08 00 00 00 01 00 01 00 00 00 01 00 00 00 0A 00 00 00 02 00 00 00 00 00 03 00 02 00 41 62
 abbrev pub I1 : List ℕ

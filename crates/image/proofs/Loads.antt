@@ -1,28 +1,28 @@
 -- An image that is loaded into a table: its tasks stand in the living slots, and saving gives the same bytes.
 use Prim.Native.Nat.{ℕ, zero, suc, _+_, _-_, _<_, _≤_, min}
-use mathlib.Core.Bool.{Bool, true, false}
-use mathlib.Core.List.{List, [], _∷_}
+use mathlib.Core.Bool.{true, false}
+use mathlib.Core.List.{List, [], _∷_, append-nil}
 use mathlib.Core.Path.{_≡_, refl, ap, sym, _∙_, subst}
 use native.Mathlib.Omega.{arith}
-use lib.ListN.{length, getD, set, take, drop, replicate, length-set, length-drop, length-replicate}
+use lib.ListN.{length, getD, set, drop, replicate, length-set, length-drop, length-replicate}
 use lib.Seq.{sets, drop-drop, getD-set-same, getD-set-other}
-use Rattle.pools.specs.Pool.{entry-of, end-to-end}
-use Rattle.pools.specs.declared.InstructionsRef.{InstructionsRef}
-use Rattle.pools.proofs.Ends.{stands}
-use Rattle.storage.specs.Tasks.{blank}
-use Rattle.storage.specs.declared.Task.{Task}
-use Rattle.image.specs.Numbers.{Bytes}
-use Rattle.image.specs.Image.{ImageTask, Image, written, Fine, Rising, none, more, Read, sound, body-length, id-in, title-length, task-count, task-at, read-from, read-image}
-use Rattle.image.specs.Slots.{loaded-task, saved-task}
-use Rattle.image.specs.Reading.{on, instruction-bytes, read-record}
-use Rattle.image.specs.Writing.{task-in}
-use Rattle.image.specs.Table.{Loading, next-reference, load-slot, load-tasks, instructions-of, load-records, load-table, saved-table, save-table}
-use Rattle.image.specs.declared.SaveResult.the-variants.{Saved}
 use Rattle.image.proofs.Records.{saved-again}
 use Rattle.image.proofs.Rules.{Rules}
-use Rattle.image.proofs.Saves.{Holds, Lists, end, dead, alive, save-lists}
+use Rattle.image.proofs.Saves.{Holds, Lists, end, dead, alive, header-length, save-lists}
 use Rattle.image.proofs.Stores.{Pool, Stored, stored}
-use Rattle.image.proofs.Trips.{not-bad, Step, Goes, at-end, goes-on, goes, Loaded, loaded, load-sound, load-save, read-none}
+use Rattle.image.proofs.Trips.{not-bad, Goes, at-end, goes-on, goes, loaded, load-sound, load-save, read-none}
+use Rattle.image.specs.Image.{ImageTask, Image, header, records, written, Fine, Rising, none, more, sound, body-length, id-in, title-length, task-at, read-from, read-image}
+use Rattle.image.specs.Numbers.{number-at, Bytes}
+use Rattle.image.specs.Reading.{on, instruction-bytes, read-record}
+use Rattle.image.specs.Slots.{loaded-task, saved-task}
+use Rattle.image.specs.Table.{Loading, next-reference, load-slot, load-tasks, instructions-of, load-record, placed, load-records, load-table, saved-table, save-table}
+use Rattle.image.specs.Writing.{task-in}
+use Rattle.image.specs.declared.SaveResult.the-variants.{Saved}
+use Rattle.pools.proofs.Ends.{stands}
+use Rattle.pools.specs.Pool.{entry-of}
+use Rattle.pools.specs.declared.InstructionsRef.{InstructionsRef}
+use Rattle.storage.specs.Tasks.{blank}
+use Rattle.storage.specs.declared.Task.{Task}
 
 -- ---- the slots of a table that is loaded
 
@@ -186,7 +186,7 @@ module _ (image : List ℕ) (place : ℕ) (reference : InstructionsRef) {next-id
       rw (end-is, start-is, n, ← drop-drop, ← drop-drop)
 
 records-more : (n : ℕ) (image : List ℕ) (place : ℕ) (l : Loading) → load-records (suc n) image place l ≡ load-records n image (read-record image place (next-reference (l .entries)) .end) (load-slot (read-record image place (next-reference (l .entries)) .task) (instructions-of image (read-record image place (next-reference (l .entries)))) l)
-unfolding load-records
+unfolding load-records load-record placed load-slot
 records-more n image place l = refl
 
 records-none : (image : List ℕ) (place : ℕ) (l : Loading) → load-records 0 image place l ≡ l
@@ -240,3 +240,18 @@ reload bytes image l save b some e wide p room fits =
     rw (load-table-tasks bytes image l some e)
     (save-lists image (d .lists (length (load-tasks (image .tasks) (cleared l) .table)) (omega arith)) save short
     ∙ rw w)
+
+none-written : written (record { next-id = 0; tasks = [] }) ≡ header 0 0
+unfolding written records
+none-written = append-nil (header 0 0)
+
+-- document 01: a zero-length image means none, and saving after it gives a lone kind 1 of zeros
+pub reload-none : (l : Loading) (save : List ℕ) → 14 ≤ length save
+    → save-table 0 (load-table [] l .table) (load-table [] l .pool) (load-table [] l .ends) (load-table [] l .entries) save ≡ saved-table (Saved 14) (sets save 0 (header 0 0))
+unfolding load-table load-records number-at
+reload-none l save fits =
+    let w : written (record { next-id = 0; tasks = [] }) ≡ header 0 0 = none-written in
+    let n : length (header 0 0) ≡ 14 = header-length 0 0 in
+    let short : length (written (record { next-id = 0; tasks = [] })) ≤ length save = rw (w, n) fits in
+    save-lists (record { next-id = 0; tasks = [] }) (all-dead (replicate (length (l .table)) blank) (length (replicate (length (l .table)) blank)) 0 (λ j h. blanks (length (l .table)) j)) save short
+    ∙ rw (w, n)

@@ -1,18 +1,18 @@
 -- The place in 25: the start of the first record that is cut or breaks a rule.
-use Prim.Native.Nat.{ℕ, zero, suc, _+_, _<_, _≤_}
+use Prim.Native.Nat.{ℕ, zero, suc, _+_, _<_}
 use mathlib.Core.Bool.{Bool, true, false, cond}
-use mathlib.Core.List.{List, [], _∷_, _++_}
-use mathlib.Core.Path.{_≡_, refl, ap, sym, _∙_, subst}
+use mathlib.Core.List.{List, [], _++_}
+use mathlib.Core.Path.{_≡_, refl, sym, _∙_, subst}
 use native.Mathlib.Omega.{arith}
 use lib.Dec.{eqb}
 use lib.ListN.{length, drop, length-drop}
 use borrow.Author.Tests.{eqb-false}
-use Rattle.image.specs.Numbers.{Bytes}
-use Rattle.image.specs.Image.{ImageTask, framed, body, Fine, Read, sound, bad-at, body-length, id-in, task-at, good, joined, read-from}
 use Rattle.image.proofs.Endian.{bytes-drop}
 use Rattle.image.proofs.Puts.{record-size}
 use Rattle.image.proofs.Rules.{Rules, good-rules, rules-good, clash}
 use Rattle.image.proofs.Trips.{not-bad, read-next, record-again, fine-is, task-id, whole-length, joined-sound, joined-bad}
+use Rattle.image.specs.Image.{ImageTask, framed, body, Fine, Read, sound, bad-at, body-length, id-in, task-at, good, joined, read-from}
+use Rattle.image.specs.Numbers.{Bytes}
 
 -- fine records, and then bytes that no such record starts
 pub data Breaks (next-id : ℕ) : ℕ → ℕ → List ℕ → ℕ → Type 0 where

@@ -1,24 +1,23 @@
 -- Writing one piece after another, and the pieces of a record.
-use Prim.Native.Nat.{ℕ, _+_, _%_, _≤_, min}
+use Prim.Native.Nat.{ℕ, _+_, _≤_, min}
 use mathlib.Core.Bool.{Bool, true, false}
-use mathlib.Core.List.{List, [], _∷_, _++_, append-assoc}
+use mathlib.Core.List.{List, _∷_, _++_, append-assoc}
 use mathlib.Core.Path.{_≡_, refl, ap, sym, _∙_}
 use native.Mathlib.Omega.{arith}
 use lib.Dec.{leb}
 use lib.ListN.{length, take, drop, length-append, length-take, length-drop}
 use lib.Seq.{sets, length-sets}
 use borrow.Author.Tests.{leb-true, leb-false}
-use Rattle.slices.proofs.Writes.{sets-append, sets-out}
-use Rattle.storage.specs.declared.Task.{Task}
+use Rattle.errors.specs.declared.Refusal.the-variants.{BytesToStringConversionError}
+use Rattle.image.specs.Image.{ImageTask, framed, body}
 use Rattle.image.specs.Numbers.{little-endian}
-use Rattle.image.specs.Image.{ImageTask, framed, body, header}
-use Rattle.image.specs.Slots.{saved-task}
 use Rattle.image.specs.Reading.{on}
+use Rattle.image.specs.Slots.{saved-task}
 use Rattle.image.specs.Writing.{Put, put, puts, size-of}
 use Rattle.image.specs.declared.SizeResult.the-variants.{Size, NoSize}
-use Rattle.errors.specs.declared.Refusal.the-variants.{BytesToStringConversionError}
+use Rattle.slices.proofs.Writes.{sets-append, sets-out}
+use Rattle.storage.specs.declared.Task.{Task}
 use Rattle.utf8.specs.Utf8.{valid}
-use Rattle.image.proofs.Endian.{width-is}
 
 -- a place past the buffer's end counts as the end
 sets-on : (save : List ℕ) (place count : ℕ) (bytes : List ℕ) → sets save (on (length save) place count) bytes ≡ sets save (place + count) bytes

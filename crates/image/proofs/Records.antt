@@ -1,17 +1,17 @@
 -- A record that is read into a slot, and the slot's task again.
 use Prim.Native.Nat.{ℕ, _+_, _≤_, min}
 use mathlib.Core.Bool.{true}
-use mathlib.Core.List.{List, _++_}
-use mathlib.Core.Path.{_≡_, refl, ap, sym, _∙_}
+use mathlib.Core.List.{List}
+use mathlib.Core.Path.{_≡_, _∙_}
 use native.Mathlib.Omega.{arith}
 use lib.ListN.{length, getD, take, drop, length-drop}
-use lib.Seq.{sets, sets-eq, take-all, take-append-seam}
+use lib.Seq.{sets-eq, take-all, take-append-seam}
+use Rattle.image.specs.Image.{ImageTask, task-at}
+use Rattle.image.specs.Numbers.{number-at}
+use Rattle.image.specs.Reading.{on, read-record}
+use Rattle.image.specs.Slots.{title-of, loaded-task, saved-task}
 use Rattle.pools.specs.declared.InstructionsRef.{InstructionsRef}
 use Rattle.storage.specs.Tasks.{no-title}
-use Rattle.image.specs.Numbers.{number-at}
-use Rattle.image.specs.Image.{ImageTask, task-at}
-use Rattle.image.specs.Slots.{title-of, loaded-task, saved-task}
-use Rattle.image.specs.Reading.{on, read-record}
 
 -- a record that was read
 pub read-is : (image : List ℕ) (at : ℕ) (reference : InstructionsRef) {bytes title held : List ℕ} {id len state size title-len start end body : ℕ}

@@ -7,8 +7,8 @@ use native.Mathlib.Omega.{arith}
 use lib.Dec.{ltb, leb, eqb}
 use lib.ListN.{length, getD, take, drop}
 use borrow.Author.Tests.{ltb-true, leb-true, eqb-true, lt-ltb, le-leb, eq-eqb}
-use Rattle.utf8.specs.Utf8.{valid}
 use Rattle.image.specs.Image.{body-length, kind, next-id-in, id-in, title-length, good, headed}
+use Rattle.utf8.specs.Utf8.{valid}
 
 -- the rules of a kind 2 record
 pub record Rules (next-id low : ℕ) (bytes : List ℕ) : Type 0 where

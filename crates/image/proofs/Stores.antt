@@ -7,13 +7,12 @@ use native.Mathlib.Omega.{arith}
 use lib.ListN.{length, getD, set, List·getD-append}
 use lib.Seq.{getD-at}
 use borrow.Author.Tests.{lt-ltb, le-leb}
-use Rattle.pools.specs.Pool.{entry-of, entries-of, has-room, Pooled, pooled, new-entry, interned, end-to-end}
-use Rattle.pools.specs.declared.InternResult.{InternResult}
-use Rattle.pools.specs.declared.InternResult.the-variants.{Interned}
+use Rattle.image.specs.Table.{Loading, bytes-after, entries-after, load-slot}
 use Rattle.pools.proofs.Interns.{when-room}
 use Rattle.pools.proofs.Laws.{length-entries, getD-entries, joined, still-sound, same-lengths}
+use Rattle.pools.specs.Pool.{entry-of, entries-of, has-room, Pooled, new-entry, interned, end-to-end}
+use Rattle.pools.specs.declared.InternResult.{InternResult}
 use Rattle.storage.specs.declared.Task.{Task}
-use Rattle.image.specs.Table.{Loading, bytes-after, entries-after, load-slot}
 
 -- a pool lent with 1,024 ends, its entries end to end
 pub record Pool (l : Loading) : Type 0 where

@@ -8,12 +8,11 @@ use lib.Dec.{eqb}
 use lib.ListN.{length, getD, take, drop, length-append, length-take, length-drop, take-append-drop}
 use lib.Seq.{drop-cons, drop-drop, take-append-seam, drop-append-seam}
 use borrow.Author.Tests.{ne-eqb, eq-eqb, eqb-true, eqb-false}
-use Rattle.utf8.specs.Utf8.{valid}
-use Rattle.image.specs.Numbers.{little-endian, number-at, Bytes}
-use Rattle.image.specs.Image.{ImageTask, Image, framed, header, body, records, written, Fine, Rising, none, more, Sound, Read, sound, bad-at, body-length, kind, next-id-in, task-count, id-in, title-length, task-at, headed, good, joined, read-from, counted, read-image}
 use Rattle.image.proofs.Endian.{number-back, number-again, number-drop, number-fits, bytes-drop}
-use Rattle.image.proofs.Rules.{Rules, rules-good, good-rules, Head, head-headed, headed-head}
 use Rattle.image.proofs.Puts.{body-size, framed-open, body-open}
+use Rattle.image.proofs.Rules.{Rules, rules-good, good-rules, Head, head-headed, headed-head}
+use Rattle.image.specs.Image.{ImageTask, Image, framed, header, body, records, written, Fine, Rising, none, more, Sound, Read, sound, bad-at, body-length, kind, next-id-in, task-count, id-in, title-length, task-at, headed, good, joined, read-from, counted, read-image}
+use Rattle.image.specs.Numbers.{little-endian, number-at, Bytes}
 
 -- what was found is not a place
 pub not-bad : {A B : Type 0} {place : ℕ} {found : A} → bad-at place ≡ sound found → B

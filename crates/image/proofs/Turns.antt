@@ -5,23 +5,22 @@ use mathlib.Core.List.{List}
 use mathlib.Core.Path.{_≡_, refl, ap, sym, _∙_}
 use native.Mathlib.Omega.{arith}
 use lib.ListN.{length, take, drop}
-use Rattle.errors.specs.declared.Refusal.{Refusal}
 use Rattle.errors.specs.declared.Refusal.the-variants.{PoolFull}
+use Rattle.errors.specs.declared.Refusal.{Refusal}
+use Rattle.image.specs.Image.{framed, body}
+use Rattle.image.specs.Reading.{on, read-record}
+use Rattle.image.specs.Slots.{saved-task}
+use Rattle.image.specs.Table.{stepped, added, measure-slot, save-slot, bytes-after, entries-after, next-reference, instructions-of, load-record}
+use Rattle.image.specs.Writing.{put, puts, task-in, measure}
+use Rattle.image.specs.declared.Record.{Record}
+use Rattle.image.specs.declared.SizeResult.the-variants.{Size, NoSize}
+use Rattle.image.specs.declared.SizeResult.{SizeResult}
+use Rattle.pools.proofs.Interns.{room, when-full}
 use Rattle.pools.specs.Pool.{entry-of, has-room, Pooled, pooled, interned}
 use Rattle.pools.specs.declared.InstructionsRef.{InstructionsRef}
-use Rattle.pools.specs.declared.InternResult.{InternResult}
 use Rattle.pools.specs.declared.InternResult.the-variants.{Interned, NotInterned}
-use Rattle.pools.proofs.Interns.{room, when-full}
+use Rattle.pools.specs.declared.InternResult.{InternResult}
 use Rattle.storage.specs.declared.Task.{Task}
-use Rattle.image.specs.Image.{framed, body}
-use Rattle.image.specs.Slots.{saved-task}
-use Rattle.image.specs.Reading.{on, read-record}
-use Rattle.image.specs.Writing.{put, puts, task-in, measure}
-use Rattle.image.specs.Table.{Stepped, stepped, added, measure-slot, save-slot, bytes-after, entries-after, next-reference, instructions-of, load-record}
-use Rattle.image.specs.declared.LoadedRecord.{LoadedRecord}
-use Rattle.image.specs.declared.Record.{Record}
-use Rattle.image.specs.declared.SizeResult.{SizeResult}
-use Rattle.image.specs.declared.SizeResult.the-variants.{Size, NoSize}
 
 -- a test that holds picks the first
 picked : {A : Type 0} (a b : A) (test : Bool) → test ≡ true → cond test a b ≡ a

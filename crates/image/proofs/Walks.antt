@@ -1,25 +1,25 @@
 -- How the test goes through an image: the record at the front, the records one after another, and the count last.
 use Prim.Native.Nat.{ℕ, suc, _+_, _-_, _*_, _<_, _≤_, max}
 use mathlib.Core.Bool.{Bool, true, false, cond}
-use mathlib.Core.List.{List, [], _∷_}
-use mathlib.Core.Path.{_≡_, refl, ap, sym, _∙_, subst}
+use mathlib.Core.List.{List}
+use mathlib.Core.Path.{_≡_, refl, ap, sym, _∙_}
 use native.Mathlib.Nat.{sub-zero}
 use native.Mathlib.Omega.{arith}
-use lib.Dec.{leb, eqb}
-use lib.ListN.{length, getD, take, drop, length-drop}
+use lib.Dec.{leb}
+use lib.ListN.{length, take, drop, length-drop}
 use lib.Seq.{drop-drop, take-all}
 use borrow.Author.Tests.{ne-eqb, eq-eqb, le-leb}
 use Rattle.errors.specs.declared.Refusal.the-variants.{BadImage}
-use Rattle.utf8.specs.Utf8.{valid}
-use Rattle.image.specs.Image.{ImageTask, Read, sound, bad-at, body-length, kind, next-id-in, task-count, id-in, title-length, task-at, headed, good, joined, read-from, counted, read-image}
-use Rattle.image.specs.Reading.{front, s-len, instruction-bytes, walked, tested}
-use Rattle.image.specs.declared.Front.{Front}
-use Rattle.image.specs.declared.Front.the-variants.{Whole, Broken}
-use Rattle.image.specs.declared.ImageResult.the-variants.{Sound, NotSound}
-use Rattle.image.specs.declared.Walked.{Walked}
-use Rattle.image.specs.declared.Walked.the-variants.{All, Stuck}
 use Rattle.image.proofs.Rules.{Rules, rules-good, good-rules, Head, head-headed, headed-head, refuted}
 use Rattle.image.proofs.Trips.{read-next, read-some, instructions-length}
+use Rattle.image.specs.Image.{ImageTask, Read, sound, bad-at, body-length, kind, next-id-in, task-count, id-in, title-length, task-at, headed, good, joined, read-from, counted, read-image}
+use Rattle.image.specs.Reading.{front, s-len, instruction-bytes, walked, tested}
+use Rattle.image.specs.declared.Front.the-variants.{Whole, Broken}
+use Rattle.image.specs.declared.Front.{Front}
+use Rattle.image.specs.declared.ImageResult.the-variants.{Sound, NotSound}
+use Rattle.image.specs.declared.Walked.the-variants.{All, Stuck}
+use Rattle.image.specs.declared.Walked.{Walked}
+use Rattle.utf8.specs.Utf8.{valid}
 
 -- ---- the record at the front
 

@@ -144,15 +144,6 @@ abbrev pub record-loaded : Record → Pooled → ℕ → ℕ → Stepped LoadedR
 record-loaded r p bytes entries =
     stepped (record { task = r .task; end = r .end; bytes = bytes-after (p .answer) bytes; entries = entries-after (p .answer) entries }) (p .pool) (p .ends)
 
--- n records from a place on
-unfoldable pub load-records : ℕ → List ℕ → ℕ → Loading → Loading
-load-records zero image place l = l
-load-records (suc n) image place l =
-    load-records n image (read-record image place (next-reference (l .entries)) .end)
-    (load-slot (read-record image place (next-reference (l .entries)) .task)
-    (instructions-of image (read-record image place (next-reference (l .entries))))
-    l)
-
 -- one record: its task, its end, and its instructions interned
 unfoldable pub load-record : List ℕ → List ℕ → List ℕ → ℕ → ℕ → ℕ → Stepped LoadedRecord
 load-record pool ends image place bytes entries =
@@ -166,6 +157,23 @@ pub record WithImage : Type 0 where
 
 abbrev pub loaded-record : Stepped LoadedRecord → List ℕ → WithImage
 loaded-record loaded image = record { loaded = loaded; image = image }
+
+-- the table and the pool after a record
+unfoldable pub placed : Stepped LoadedRecord → Loading → Loading
+placed r l = record {
+  table = set (l .table) (r .answer .task .id .0) (r .answer .task);
+  pool = r .pool;
+  ends = r .ends;
+  bytes = r .answer .bytes;
+  entries = r .answer .entries;
+}
+
+-- n records from a place on
+unfoldable pub load-records : ℕ → List ℕ → ℕ → Loading → Loading
+load-records zero image place l = l
+load-records (suc n) image place l =
+    load-records n image (load-record (l .pool) (l .ends) image place (l .bytes) (l .entries) .answer .end)
+    (placed (load-record (l .pool) (l .ends) image place (l .bytes) (l .entries)) l)
 
 -- creation: every slot blank, then each task of the image at its slot
 unfoldable pub load-table : List ℕ → Loading → Loading

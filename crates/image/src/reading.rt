@@ -11,9 +11,9 @@ use crate::Record;
 use crate::Walked;
 use crate::numbers::on;
 use crate::numbers::smaller;
+use crate::numbers::u8_at;
 use crate::numbers::u16_at;
 use crate::numbers::u32_at;
-use crate::numbers::u8_at;
 use errors::Refusal;
 use pools::InstructionsRef;
 use storage::Task;
@@ -92,7 +92,11 @@ fn walk(image: &[u8], next_id: u32) -> Walked
             Front::Broken => {
                 return Walked::Stuck(at);
             }
-            Front::Whole { id, size, instructions } => {
+            Front::Whole {
+                id,
+                size,
+                instructions,
+            } => {
                 low = id + 1;
                 at += size;
                 sum += instructions;
@@ -125,7 +129,11 @@ pub fn test_image(image: &[u8]) -> ImageResult
             Walked::Stuck(place) => {
                 return ImageResult::NotSound(Refusal::BadImage(place));
             }
-            Walked::All { count, low, instructions } => {
+            Walked::All {
+                count,
+                low,
+                instructions,
+            } => {
                 if count == u32_at(image, 10) as usize {
                     return ImageResult::Sound {
                         next_id,

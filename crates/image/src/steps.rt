@@ -69,7 +69,10 @@ pub fn load_record(
     let end = record.end;
     let instructions = slices::part(image, start, less(end, start));
     match pools::intern_instructions(pool, ends, bytes, entries, instructions) {
-        InternResult::Interned { entry: _, bytes: used } => LoadedRecord {
+        InternResult::Interned {
+            entry: _,
+            bytes: used,
+        } => LoadedRecord {
             task,
             end,
             bytes: used,

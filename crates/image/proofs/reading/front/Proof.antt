@@ -1,110 +1,82 @@
-use Rattle.image.proofs.Rules.{clash}
-use Rattle.image.proofs.Walks.{broken, whole, text-is}
+-- `image::reading::front` meets its contract.
 use native.Mathlib.Omega.{arith}
 use borrow.Author.Needs.{needs}
+use Rattle.image.proofs.Rules.{clash}
+use Rattle.image.proofs.Walks.{broken, whole, text-is}
 use Rattle.image.proofs.reading.front.Statement.{statement}
 use Rattle.image.proofs.reading.front.Tie as tie
-use Rattle.image.proofs.reading.front.Reads as reads
-use Rattle.image.proofs.reading.front.Lts as lts
-use Rattle.image.proofs.numbers.u16_at.Reads as u16-at-reads
-use Rattle.image.proofs.numbers.u32_at.Reads as u32-at-reads
-use Rattle.image.proofs.numbers.u8_at.Reads as u8-at-reads
-use Rattle.slices.proofs.part.Reads as part-reads
-use Rattle.utf8.proofs.is_utf8.Reads as is-utf8-reads
 
--- src/reading.rt:27:16
 u32-at-requires : tie.Need-u32-at-requires
 u32-at-requires c κs = search needs
 
--- src/reading.rt:27:16
 cast-body : tie.Need-cast-body
 cast-body c = search needs
 
--- src/reading.rt:28:22
 add-if1 : tie.Need-add-if1
 add-if1 c = search needs
 
--- src/reading.rt:29:9
 returns : tie.Need-returns
 returns c =
     broken _ _ _ (λ r. omega arith)
 
--- src/reading.rt:31:8
 u16-at-requires : tie.Need-u16-at-requires
 u16-at-requires c κs = search needs
 
--- src/reading.rt:32:9
 returns-2 : tie.Need-returns-2
 returns-2 c =
     broken _ _ _ (λ r. omega arith)
 
--- src/reading.rt:35:9
 returns-3 : tie.Need-returns-3
 returns-3 c =
     broken _ _ _ (λ r. omega arith)
 
--- src/reading.rt:37:9
 u32-at-requires-2 : tie.Need-u32-at-requires-2
 u32-at-requires-2 c κs = search needs
 
--- src/reading.rt:39:9
 returns-4 : tie.Need-returns-4
 returns-4 c =
     broken _ _ _ (λ r. omega arith)
 
--- src/reading.rt:42:9
 returns-5 : tie.Need-returns-5
 returns-5 c =
     broken _ _ _ (λ r. omega arith)
 
--- src/reading.rt:44:8
 u8-at-requires : tie.Need-u8-at-requires
 u8-at-requires c κs = search needs
 
--- src/reading.rt:44:28
 u8-at-requires-2 : tie.Need-u8-at-requires-2
 u8-at-requires-2 c κs = search needs
 
--- src/reading.rt:45:9
 returns-6 : tie.Need-returns-6
 returns-6 c =
     broken _ _ _ (λ r. omega arith)
 
--- src/reading.rt:47:9
 u16-at-requires-2 : tie.Need-u16-at-requires-2
 u16-at-requires-2 c κs = search needs
 
--- src/reading.rt:49:9
 returns-7 : tie.Need-returns-7
 returns-7 c =
     broken _ _ _ (λ r. omega arith)
 
--- src/reading.rt:51:15
 add-if8 : tie.Need-add-if8
 add-if8 c = search needs
 
--- src/reading.rt:52:9
 returns-8 : tie.Need-returns-8
 returns-8 c =
     broken _ _ _ (λ r. omega arith)
 
--- src/reading.rt:54:22
 part-requires : tie.Need-part-requires
 part-requires c κs = search needs
 
--- src/reading.rt:54:8
 is-utf8-requires : tie.Need-is-utf8-requires
 is-utf8-requires c κs = search needs
 
--- src/reading.rt:57:19
 add-t15 : tie.Need-add-t15
 add-t15 c = search needs
 
--- src/reading.rt:58:27
 sub-t17 : tie.Need-sub-t17
 sub-t17 c = search needs
 
--- src/reading.rt:55:9
 returns-9 : tie.Need-returns-9
 returns-9 c =
     whole _ _ _
@@ -121,7 +93,6 @@ returns-9 c =
     })
     (c .before .before .before .before .before .before .before .before .before .before .before .u32-at2 .ensures .0) (c .before .before .before .before .before .before .before .before .before .before .before .before .before .before .before .before .u32-at .ensures .0) (c .before .before .before .before .before .u16-at2 .ensures .0)
 
--- src/reading.rt:24:1
 returns-10 : tie.Need-returns-10
 returns-10 c =
     broken _ _ _ (λ r. clash (r .text) (text-is _ (c .before .before .before .before .before .u16-at2 .ensures .0) (c .before .before .part .ensures) (c .before .is-utf8 .ensures) (c .if9 .left)))

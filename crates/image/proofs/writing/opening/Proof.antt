@@ -1,53 +1,39 @@
-use native.Mathlib.Omega.{arith}
-use Rattle.image.specs.Numbers.{little-endian}
+-- `image::writing::opening` meets its contract.
 use borrow.Author.Needs.{needs}
 use Rattle.image.proofs.writing.opening.Statement.{statement}
+use Rattle.image.specs.Numbers.{little-endian}
 use Rattle.image.proofs.writing.opening.Tie as tie
-use Rattle.image.proofs.writing.opening.Reads as reads
-use Rattle.image.proofs.writing.opening.Lts as lts
-use Rattle.image.proofs.writing.low.Reads as low-reads
 
--- src/writing.rt:35:9
 low-requires : tie.Need-low-requires
 low-requires c κs = search needs
 
--- src/writing.rt:36:9
 low-requires-2 : tie.Need-low-requires-2
 low-requires-2 c κs = search needs
 
--- src/writing.rt:37:9
 low-requires-3 : tie.Need-low-requires-3
 low-requires-3 c κs = search needs
 
--- src/writing.rt:38:9
 low-requires-4 : tie.Need-low-requires-4
 low-requires-4 c κs = search needs
 
--- src/writing.rt:41:9
 low-requires-5 : tie.Need-low-requires-5
 low-requires-5 c κs = search needs
 
--- src/writing.rt:42:9
 low-requires-6 : tie.Need-low-requires-6
 low-requires-6 c κs = search needs
 
--- src/writing.rt:43:9
 low-requires-7 : tie.Need-low-requires-7
 low-requires-7 c κs = search needs
 
--- src/writing.rt:44:9
 low-requires-8 : tie.Need-low-requires-8
 low-requires-8 c κs = search needs
 
--- src/writing.rt:47:9
 low-requires-9 : tie.Need-low-requires-9
 low-requires-9 c κs = search needs
 
--- src/writing.rt:48:9
 low-requires-10 : tie.Need-low-requires-10
 low-requires-10 c κs = search needs
 
--- src/writing.rt:31:1
 returns : tie.Need-returns
 unfolding little-endian
 returns c =

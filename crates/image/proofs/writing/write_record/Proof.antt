@@ -1,65 +1,48 @@
-use Rattle.image.proofs.Puts.{part-short}
-use lib.ListN.{length}
+-- `image::writing::write_record` meets its contract.
 use mathlib.Core.Path.{_≡_}
 use native.Mathlib.Omega.{arith}
-use Rattle.image.proofs.Puts.{record-put}
+use lib.ListN.{length}
 use borrow.Author.Needs.{needs}
+use Rattle.image.proofs.Puts.{part-short, record-put}
 use Rattle.image.proofs.writing.write_record.Statement.{statement}
 use Rattle.image.proofs.writing.write_record.Tie as tie
-use Rattle.image.proofs.writing.write_record.Reads as reads
-use Rattle.image.proofs.writing.write_record.Lts as lts
-use Rattle.image.proofs.writing.opening.Reads as opening-reads
-use Rattle.image.proofs.writing.put.Reads as put-reads
-use Rattle.slices.proofs.part.Reads as part-reads
 
--- src/writing.rt:79:30
 slice-aggregate-part : tie.Need-slice-aggregate-part
 slice-aggregate-part c = search needs
 
--- src/writing.rt:79:9
 part-requires : tie.Need-part-requires
 part-requires c κs = search needs
 
--- src/writing.rt:81:16
 add-body : tie.Need-add-body
 add-body c = search needs
 
--- src/writing.rt:81:16
 add-body-2 : tie.Need-add-body-2
 add-body-2 c =
     let start = c .before .before .before .before .before in
     let held : length (start .args .task .title) ≡ 128 = search needs in
     omega (arith, part-short 0 (start .args .task .«title_len») (start .args .task .title) (c .part .ensures), start .good .1 .0 .1)
 
--- src/writing.rt:82:14
 cast-id : tie.Need-cast-id
 cast-id c = search needs
 
--- src/writing.rt:83:17
 opening-requires : tie.Need-opening-requires
 opening-requires c κs = search needs
 
--- src/writing.rt:84:28
 slice-aggregate-put : tie.Need-slice-aggregate-put
 slice-aggregate-put c = search needs
 
--- src/writing.rt:84:9
 put-requires : tie.Need-put-requires
 put-requires c κs = search needs
 
--- src/writing.rt:85:9
 put-requires-2 : tie.Need-put-requires-2
 put-requires-2 c κs = search needs
 
--- src/writing.rt:86:5
 put-requires-3 : tie.Need-put-requires-3
 put-requires-3 c κs = search needs
 
--- src/writing.rt:75:1
 same-length : tie.Need-same-length
 same-length c = search needs
 
--- src/writing.rt:75:1
 returns : tie.Need-returns
 returns c =
     record-put _ _ _ _ (c .before .before .before .before .before .before .before .before .before .before .before .before .before .before .before .part .ensures) (c .before .before .before .before .before .before .before .before .before .before .before .before .before .opening .ensures) (c .before .before .before .before .before .before .before .before .before .before .put .ensures) (c .before .before .before .before .before .before .put2 .ensures) (c .before .before .put3 .ensures)
