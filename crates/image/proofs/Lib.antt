@@ -1,7 +1,8 @@
 pub mod Endian
 pub mod Rules
 pub mod Puts
-pub mod Trips
+pub mod SaveLoad
+pub mod LoadSave
 pub mod Walks
 pub mod Records
 pub mod Saves

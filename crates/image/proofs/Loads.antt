@@ -6,11 +6,12 @@ use mathlib.Core.Path.{_≡_, refl, ap, sym, _∙_, subst}
 use native.Mathlib.Omega.{arith}
 use lib.ListN.{length, getD, set, drop, replicate, length-set, length-drop, length-replicate}
 use lib.Seq.{sets, drop-drop, getD-set-same, getD-set-other}
+use Rattle.image.proofs.LoadSave.{Goes, at-end, goes-on, goes, loaded, load-sound, load-save, read-none}
 use Rattle.image.proofs.Records.{saved-again}
 use Rattle.image.proofs.Rules.{Rules}
+use Rattle.image.proofs.SaveLoad.{not-bad}
 use Rattle.image.proofs.Saves.{Holds, Lists, end, dead, alive, header-length, save-lists}
 use Rattle.image.proofs.Stores.{Pool, Stored, stored}
-use Rattle.image.proofs.Trips.{not-bad, Goes, at-end, goes-on, goes, loaded, load-sound, load-save, read-none}
 use Rattle.image.specs.Image.{ImageTask, Image, header, records, written, Fine, Rising, none, more, sound, body-length, id-in, title-length, task-at, read-from, read-image}
 use Rattle.image.specs.Numbers.{number-at, Bytes}
 use Rattle.image.specs.Reading.{on, instruction-bytes, read-record}

@@ -8,9 +8,10 @@ use lib.Dec.{eqb}
 use lib.ListN.{length, drop, length-drop}
 use borrow.Author.Tests.{eqb-false}
 use Rattle.image.proofs.Endian.{bytes-drop}
+use Rattle.image.proofs.LoadSave.{record-again, fine-is, task-id, whole-length, joined-sound, joined-bad}
 use Rattle.image.proofs.Puts.{record-size}
 use Rattle.image.proofs.Rules.{Rules, good-rules, rules-good, clash}
-use Rattle.image.proofs.Trips.{not-bad, read-next, record-again, fine-is, task-id, whole-length, joined-sound, joined-bad}
+use Rattle.image.proofs.SaveLoad.{not-bad, read-next}
 use Rattle.image.specs.Image.{ImageTask, framed, body, Fine, Read, sound, bad-at, body-length, id-in, task-at, good, joined, read-from}
 use Rattle.image.specs.Numbers.{Bytes}
 

@@ -10,8 +10,9 @@ use lib.ListN.{length, take, drop, length-drop}
 use lib.Seq.{drop-drop, take-all}
 use borrow.Author.Tests.{ne-eqb, eq-eqb, le-leb}
 use Rattle.errors.specs.declared.Refusal.the-variants.{BadImage}
+use Rattle.image.proofs.LoadSave.{read-some, instructions-length}
 use Rattle.image.proofs.Rules.{Rules, rules-good, good-rules, Head, head-headed, headed-head, refuted}
-use Rattle.image.proofs.Trips.{read-next, read-some, instructions-length}
+use Rattle.image.proofs.SaveLoad.{read-next}
 use Rattle.image.specs.Image.{ImageTask, Read, sound, bad-at, body-length, kind, next-id-in, task-count, id-in, title-length, task-at, headed, good, joined, read-from, counted, read-image}
 use Rattle.image.specs.Reading.{front, s-len, instruction-bytes, walked, tested}
 use Rattle.image.specs.declared.Front.the-variants.{Whole, Broken}
