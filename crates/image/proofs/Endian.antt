@@ -80,3 +80,8 @@ pub number-fits : (width : ℕ) {bytes : List ℕ} → Bytes bytes → (place : 
 unfolding number-at
 number-fits zero b place = omega arith
 number-fits (suc width) b place = omega (arith, byte-at b place, number-fits width b (place + 1))
+
+-- a slice's elements are bytes
+pub bytes-of : (bytes : List ℕ) → ((place : ℕ) → getD bytes place 0 < 256) → Bytes bytes
+bytes-of [] below = none
+bytes-of (b ∷ bytes) below = byte (below 0) (bytes-of bytes (λ place. below (suc place)))

@@ -11,3 +11,4 @@ pub mod Loads
 pub mod Cases
 pub mod Places
 pub mod Turns
+pub mod Tested

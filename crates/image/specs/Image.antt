@@ -73,24 +73,27 @@ pub data Read (A : Type 0) : Type 0 where
   sound : A → Read A
   bad-at : ℕ → Read A
 
--- the fields of a record at the front of some bytes
+-- the body length of a record at the front of some bytes
 abbrev pub body-length : List ℕ → ℕ
 body-length bytes = number-at 4 bytes 0
 
+-- its kind
 abbrev pub kind : List ℕ → ℕ
 kind bytes = number-at 2 bytes 4
 
--- of kind 1
+-- the next id of a kind 1
 abbrev pub next-id-in : List ℕ → ℕ
 next-id-in bytes = number-at 4 bytes 6
 
+-- its task count
 abbrev pub task-count : List ℕ → ℕ
 task-count bytes = number-at 4 bytes 10
 
--- of kind 2
+-- the id of a kind 2
 abbrev pub id-in : List ℕ → ℕ
 id-in bytes = number-at 4 bytes 6
 
+-- its title length
 abbrev pub title-length : List ℕ → ℕ
 title-length bytes = number-at 2 bytes 12
 

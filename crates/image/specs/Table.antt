@@ -107,11 +107,12 @@ pub record Loading : Type 0 where
   pub bytes : ℕ
   pub entries : ℕ
 
--- the bytes in use after interning, and the entries
+-- the bytes in use after interning; creation tests 22 before it, so there is room
 unfoldable pub bytes-after : InternResult → ℕ → ℕ
 bytes-after (Interned entry bytes) before = bytes
 bytes-after (NotInterned refusal) before = before
 
+-- the entries after interning
 unfoldable pub entries-after : InternResult → ℕ → ℕ
 entries-after (Interned entry bytes) before = before + 1
 entries-after (NotInterned refusal) before = before
@@ -155,6 +156,7 @@ pub record WithImage : Type 0 where
   pub loaded : Stepped LoadedRecord
   pub image : List ℕ
 
+-- these two together
 abbrev pub loaded-record : Stepped LoadedRecord → List ℕ → WithImage
 loaded-record loaded image = record { loaded = loaded; image = image }
 

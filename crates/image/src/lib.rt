@@ -31,26 +31,6 @@ pub enum SizeResult {
     NoSize(Refusal),
 }
 
-// The record at the front of what is left.
-pub enum Front {
-    Whole {
-        id: u32,
-        size: usize,
-        instructions: usize,
-    },
-    Broken,
-}
-
-// The records walked through: how many, the last id plus 1 and the bytes of their instructions; or where the first bad one starts.
-pub enum Walked {
-    All {
-        count: usize,
-        low: u32,
-        instructions: usize,
-    },
-    Stuck(usize),
-}
-
 // What saving a table answers: the image's length.
 pub enum SaveResult {
     Saved(usize),
@@ -63,4 +43,24 @@ pub struct LoadedRecord {
     pub end: usize,
     pub bytes: usize,
     pub entries: usize,
+}
+
+// The record at the front of what is left.
+enum Front {
+    Whole {
+        id: u32,
+        size: usize,
+        instructions: usize,
+    },
+    Broken,
+}
+
+// The records walked through: how many, the last id plus 1 and the bytes of their instructions; or where the first bad one starts.
+enum Walked {
+    All {
+        count: usize,
+        low: u32,
+        instructions: usize,
+    },
+    Stuck(usize),
 }
