@@ -56,13 +56,13 @@ pub record Room (l : Loading) (tasks : List ImageTask) : Type 0 where
   pub small : l .bytes + instruction-bytes tasks ≤ min 65536 (length (l .pool))
 
 -- what loading tasks with ids from `low` on keeps, and where they are then
-record Done (low : ℕ) (l f : Loading) (tasks : List ImageTask) : Type 0 where
-  slots : (j : ℕ) → j < low → getD (f .table) j blank ≡ getD (l .table) j blank
-  entries : (i : ℕ) → i < l .entries → entry-of (f .pool) (f .ends) i ≡ entry-of (l .pool) (l .ends) i
-  count : l .entries + length tasks ≡ f .entries
-  long : length (f .table) ≡ length (l .table)
-  pool : Pool f
-  lists : (n : ℕ) → n + low ≡ length (f .table) → Lists (f .table) (f .pool) (f .ends) (f .entries) n low tasks
+pub record Done (low : ℕ) (l f : Loading) (tasks : List ImageTask) : Type 0 where
+  pub slots : (j : ℕ) → j < low → getD (f .table) j blank ≡ getD (l .table) j blank
+  pub entries : (i : ℕ) → i < l .entries → entry-of (f .pool) (f .ends) i ≡ entry-of (l .pool) (l .ends) i
+  pub count : l .entries + length tasks ≡ f .entries
+  pub long : length (f .table) ≡ length (l .table)
+  pub pool : Pool f
+  pub lists : (n : ℕ) → n + low ≡ length (f .table) → Lists (f .table) (f .pool) (f .ends) (f .entries) n low tasks
 
 loaded-id : (task : ImageTask) (reference : InstructionsRef) → loaded-task task reference .id .0 ≡ task .id
 unfolding loaded-task
@@ -143,7 +143,7 @@ module _ {next-id low : ℕ} {task : ImageTask} {tasks : List ImageTask} {l s f 
       }
 
 -- the tasks loaded into a table that is blank from their first id on
-load-done : {next-id low : ℕ} {tasks : List ImageTask} → Rising next-id low tasks → (l : Loading) → next-id ≤ length (l .table) → Empty (l .table) low → Pool l → Room l tasks → Done low l (load-tasks tasks l) tasks
+pub load-done : {next-id low : ℕ} {tasks : List ImageTask} → Rising next-id low tasks → (l : Loading) → next-id ≤ length (l .table) → Empty (l .table) low → Pool l → Room l tasks → Done low l (load-tasks tasks l) tasks
 load-done none l inside empty p room =
     rw (load-none l)
     (record {
@@ -228,19 +228,22 @@ load-table-tasks bytes image l some e =
     let h = loaded bytes image some e in
     rw (← h .count-is) (records-tasks (length bytes) _ 0 14 bytes (image .tasks) (cleared l) (h .read))
 
--- document 01: saving after loading a non-empty image gives the same bytes
-pub reload : (bytes : List ℕ) (image : Image) (l : Loading) (save : List ℕ) → Bytes bytes → 0 < length bytes → read-image bytes ≡ sound image
-    → 256 ≤ length (l .table) → Pool l → Room l (image .tasks) → length bytes ≤ length save
-    → save-table (image .next-id) (load-table bytes l .table) (load-table bytes l .pool) (load-table bytes l .ends) (load-table bytes l .entries) save ≡ saved-table (Saved (length bytes)) (sets save 0 bytes)
-reload bytes image l save b some e wide p room fits =
-    let z = load-sound bytes image some e b in
-    let w : written image ≡ bytes = load-save bytes image some e b in
-    let n : length (replicate (length (l .table)) blank) ≡ length (l .table) = length-replicate (length (l .table)) blank in
-    let d = load-done (z .tasks) (cleared l) (omega (arith, z .few)) (λ j h. blanks (length (l .table)) j) (record { lent = p .lent; sound = p .sound }) (record { few = room .few; small = room .small }) in
-    let short : length (written image) ≤ length save = rw w fits in
-    rw (load-table-tasks bytes image l some e)
-    (save-lists image (d .lists (length (load-tasks (image .tasks) (cleared l) .table)) (omega arith)) save short
-    ∙ rw w)
+module _ (bytes : List ℕ) (image : Image) (l : Loading) (b : Bytes bytes) (some : 0 < length bytes) (e : read-image bytes ≡ sound image) (wide : 256 ≤ length (l .table)) (p : Pool l) (room : Room l (image .tasks)) where
+  -- after loading, the living slots hold the image's tasks, each with its own entry, and the pool is end to end
+  pub load-holds : Done 0 (cleared l) (load-table bytes l) (image .tasks)
+  load-holds =
+      let z = load-sound bytes image some e b in
+      let n : length (replicate (length (l .table)) blank) ≡ length (l .table) = length-replicate (length (l .table)) blank in
+      rw (load-table-tasks bytes image l some e)
+      (load-done (z .tasks) (cleared l) (omega (arith, z .few)) (λ j h. blanks (length (l .table)) j) (record { lent = p .lent; sound = p .sound }) (record { few = room .few; small = room .small }))
+
+  -- document 01: saving after loading a non-empty image gives the same bytes
+  pub reload : (save : List ℕ) → length bytes ≤ length save
+      → save-table (image .next-id) (load-table bytes l .table) (load-table bytes l .pool) (load-table bytes l .ends) (load-table bytes l .entries) save ≡ saved-table (Saved (length bytes)) (sets save 0 bytes)
+  reload save fits =
+      let w : written image ≡ bytes = load-save bytes image some e b in
+      let short : length (written image) ≤ length save = rw w fits in
+      save-lists image (load-holds .lists (length (load-table bytes l .table)) (omega arith)) save short ∙ rw w
 
 none-written : written (record { next-id = 0; tasks = [] }) ≡ header 0 0
 unfolding written records

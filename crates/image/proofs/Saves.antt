@@ -5,12 +5,13 @@ use mathlib.Core.List.{List, [], _∷_}
 use mathlib.Core.Path.{_≡_, refl, ap, sym, _∙_}
 use native.Mathlib.Omega.{arith}
 use lib.Dec.{leb}
-use lib.ListN.{length, getD, length-append}
-use lib.Seq.{sets, length-sets}
+use lib.ListN.{length, getD, take, drop, length-append}
+use lib.Seq.{sets, sets-eq, length-sets, take-append-seam}
 use borrow.Author.Tests.{lt-ltb, le-leb, lt-leb, leb-true, leb-false}
 use Rattle.errors.specs.declared.Refusal.the-variants.{SaveBufferTooShort}
 use Rattle.image.proofs.Puts.{puts-puts}
-use Rattle.image.specs.Image.{ImageTask, Image, framed, body, header, records, written}
+use Rattle.image.proofs.SaveLoad.{save-load}
+use Rattle.image.specs.Image.{ImageTask, Image, framed, body, header, records, written, Sound, sound, read-image}
 use Rattle.image.specs.Numbers.{little-endian}
 use Rattle.image.specs.Reading.{on}
 use Rattle.image.specs.Table.{Measured, measured, added, measure-slot, count-slot, grown, measures, save-slot, save-slots, saved-table, saved-as, save-table}
@@ -140,3 +141,8 @@ module _ {table : List Task} {pool ends : List ℕ} {entries : ℕ} (image : Ima
   pub too-short : length save < length (written image) → save-table (image .next-id) table pool ends entries save ≡ saved-table (NotSaved SaveBufferTooShort) save
   unfolding save-table
   too-short past = over-short (image .next-id) table pool ends save (over-whole past)
+
+-- a saved image loads to the same tasks
+pub saved-loads : (image : Image) (save : List ℕ) → Sound image → length (written image) ≤ length save → read-image (take (length (written image)) (sets save 0 (written image))) ≡ sound image
+saved-loads image save s fits =
+    rw (sets-eq (written image) save 0 (omega arith), take-append-seam (written image) (drop (0 + length (written image)) save)) (save-load image s)
