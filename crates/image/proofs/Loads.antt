@@ -22,7 +22,7 @@ use Rattle.image.specs.declared.SaveResult.the-variants.{Saved}
 use Rattle.pools.proofs.Ends.{stands}
 use Rattle.pools.specs.Pool.{entry-of}
 use Rattle.pools.specs.declared.InstructionsRef.{InstructionsRef}
-use Rattle.storage.specs.Tasks.{blank}
+use Rattle.storage.specs.Tasks.{blank, new-task}
 use Rattle.storage.specs.declared.Task.{Task}
 
 -- ---- the slots of a table that is loaded
@@ -65,15 +65,15 @@ pub record Done (low : ℕ) (l f : Loading) (tasks : List ImageTask) : Type 0 wh
   pub lists : (n : ℕ) → n + low ≡ length (f .table) → Lists (f .table) (f .pool) (f .ends) (f .entries) n low tasks
 
 loaded-id : (task : ImageTask) (reference : InstructionsRef) → loaded-task task reference .id .0 ≡ task .id
-unfolding loaded-task
+unfolding loaded-task new-task
 loaded-id task reference = refl
 
 loaded-living : (task : ImageTask) (reference : InstructionsRef) → loaded-task task reference .living ≡ true
-unfolding loaded-task
+unfolding loaded-task new-task
 loaded-living task reference = refl
 
 loaded-reference : (task : ImageTask) (reference : InstructionsRef) → loaded-task task reference .«instructions_ref» ≡ reference
-unfolding loaded-task
+unfolding loaded-task new-task
 loaded-reference task reference = refl
 
 -- the next reference names the next entry

@@ -3,20 +3,17 @@ ghost use mathlib.Core.Path.{_≡_};
 ghost use Prim.Native.Nat.{_≤_, _<_};
 ghost use lib.ListN.{length, drop};
 ghost use Rattle.image.specs.Image.{headed, read-from, read-image};
-ghost use Rattle.image.specs.Slots.{title-of};
 ghost use Rattle.image.specs.Reading.{front, walked, tested, read-record};
 use crate::Front;
 use crate::ImageResult;
 use crate::Record;
 use crate::Walked;
 use crate::numbers::on;
-use crate::numbers::smaller;
 use crate::numbers::u8_at;
 use crate::numbers::u16_at;
 use crate::numbers::u32_at;
 use errors::Refusal;
 use pools::InstructionsRef;
-use storage::Task;
 use storage::TaskId;
 use storage::TaskState;
 
@@ -149,15 +146,6 @@ pub fn test_image(image: &[u8]) -> ImageResult
     ImageResult::NotSound(Refusal::BadImage(0))
 }
 
-// The first 128 bytes of a title, and zeros behind.
-fn title_of(title: &[u8]) -> [u8; 128]
-    ensures { λ r. ⌜ r ≡ title-of (now (title .entry)) ⌝ }
-{
-    let mut held = [0u8; 128];
-    slices::write(&mut held, title, 0);
-    held
-}
-
 // The record at a place of the image, its instructions to be named by a reference.
 pub fn read_record(image: &[u8], at: usize, reference: InstructionsRef) -> Record
     ensures { λ r. ⌜ r ≡ read-record (now (image .entry)) at reference ⌝ }
@@ -170,14 +158,8 @@ pub fn read_record(image: &[u8], at: usize, reference: InstructionsRef) -> Recor
         len: u8_at(record, 10),
         state: u8_at(record, 11),
     };
-    let task = Task {
-        living: true,
-        id: TaskId(u32_at(record, 6)),
-        state,
-        instructions_ref: reference,
-        title_len: smaller(title.len(), 128),
-        title: title_of(title),
-    };
+    let id = TaskId(u32_at(record, 6));
+    let task = storage::task_types::new_task(id, title, state, reference);
     Record {
         task,
         start: on(length, at, 14 + title_size),

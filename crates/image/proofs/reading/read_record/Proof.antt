@@ -22,11 +22,8 @@ u8-at-requires-2 c κs = search needs
 u32-at-requires : tie.Need-u32-at-requires
 u32-at-requires c κs = search needs
 
-smaller-requires : tie.Need-smaller-requires
-smaller-requires c κs = search needs
-
-title-of-requires : tie.Need-title-of-requires
-title-of-requires c κs = search needs
+new-task-requires : tie.Need-new-task-requires
+new-task-requires c κs = search needs
 
 add-on : tie.Need-add-on
 add-on c = search needs
@@ -48,7 +45,11 @@ on-requires-2 c κs = search needs
 
 returns : tie.Need-returns
 returns c =
-    read-is _ _ _ (c .before .before .before .before .before .before .before .before .before .before .part .ensures) (c .before .before .before .before .before .before .before .before .before .u16-at .ensures .0) (c .before .before .before .before .before .before .before .before .part2 .ensures) (c .before .before .before .before .before .u32-at .ensures .0) (c .before .before .before .before .before .before .before .u8-at .ensures) (c .before .before .before .before .before .before .u8-at2 .ensures) (c .before .before .before .before .smaller .ensures) (c .before .before .before .title-of .ensures) (c .before .before .on .ensures) (c .before .u32-at2 .ensures .0) (c .on2 .ensures)
+    let made = c .before .before .before in
+    let read = made .before in
+    read-is _ _ _ (read .before .before .before .before .before .part .ensures) (read .before .before .before .before .u16-at .ensures .0) (read .before .before .before .part2 .ensures)
+    (read .u32-at .ensures .0) (read .before .before .u8-at .ensures) (read .before .u8-at2 .ensures) (made .new-task .ensures)
+    (c .before .before .on .ensures) (c .before .u32-at2 .ensures .0) (c .on2 .ensures)
 
 pub read-record-spec : {M : Type 1} → statement M
 read-record-spec =
@@ -60,8 +61,7 @@ read-record-spec =
     u8-at-requires
     u8-at-requires-2
     u32-at-requires
-    smaller-requires
-    title-of-requires
+    new-task-requires
     add-on
     on-requires
     u32-at-requires-2
