@@ -1,3 +1,4 @@
 pub mod Cut
 pub mod Operated
 pub mod Execute
+pub mod Steps

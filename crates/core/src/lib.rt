@@ -2,9 +2,12 @@
 mod cut;
 mod execute;
 mod operated;
+pub mod steps;
 
+use errors::Refusal;
 use inlinevec::Frames;
 use inlinevec::Loops;
+use opcodes::Registers;
 
 // Where a machine stands between two calls.
 pub enum Phase {
@@ -26,4 +29,19 @@ pub struct Machine {
     pub next_id: u32,
     pub count: u32,
     pub saved: usize,
+}
+
+// Why the steps of a code halted.
+pub enum Halt {
+    AtEnd,
+    OutOfFuel,
+    Outer,
+    Refused(Refusal),
+}
+
+// Where they halted, and the fuel that is left.
+pub struct Stepped {
+    pub registers: Registers,
+    pub left: u64,
+    pub halt: Halt,
 }
