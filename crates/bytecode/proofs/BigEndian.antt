@@ -27,3 +27,9 @@ four code at =
     let third : getD code (at + 2 + 0) 0 ≡ getD code (at + 2) 0 = ap (λ (place : ℕ). getD code place 0) (omega arith) in
     let fourth : getD code (at + 2 + 1) 0 ≡ getD code (at + 3) 0 = ap (λ (place : ℕ). getD code place 0) (omega arith) in
     omega arith
+
+-- the two bytes behind an opcode
+pub two-behind : (code : List ℕ) (at : ℕ) → big-endian 2 code (at + 1) ≡ getD code (at + 1) 0 * 256 + getD code (at + 2) 0
+two-behind code at =
+    let second : getD code (at + 1 + 1) 0 ≡ getD code (at + 2) 0 = ap (λ (place : ℕ). getD code place 0) (omega arith) in
+    omega (arith, two code (at + 1))

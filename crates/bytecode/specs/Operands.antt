@@ -1,7 +1,8 @@
 -- Operands in the code: big-endian numbers, and how far an instruction reaches.
-use Prim.Native.Nat.{ℕ, zero, suc, _+_, _*_}
+use Prim.Native.Nat.{ℕ, zero, suc, _+_, _*_, _<_}
 use mathlib.Core.Bool.{Bool, cond}
 use mathlib.Core.List.{List}
+use mathlib.Core.Path.{_≡_}
 use lib.ListN.{getD, length}
 use lib.Dec.{eqb, leb}
 use Rattle.bytecode.specs.Opcodes.{operand-size, PUSH-CALLDATA, M-STI}
@@ -33,3 +34,14 @@ behind code at = at + 1 + operand-size (getD code at 0) + data-size code at
 -- the next instruction's place, or that the code's end cuts this one
 unfoldable pub extent : List ℕ → ℕ → Extent
 extent code at = cond (leb (behind code at) (length code)) (Next (behind code at)) Cut
+
+-- a table that has the operand size of each opcode byte
+pub record Follows (sizes : List ℕ) : Type 0 where
+  pub rule : (op : ℕ) → op < 256 → getD sizes op 0 ≡ operand-size op
+
+-- the same by a table of operand sizes
+unfoldable pub behind-by : List ℕ → List ℕ → ℕ → ℕ
+behind-by sizes code at = at + 1 + getD sizes (getD code at 0) 0 + data-size code at
+
+unfoldable pub extent-by : List ℕ → List ℕ → ℕ → Extent
+extent-by sizes code at = cond (leb (behind-by sizes code at) (length code)) (Next (behind-by sizes code at)) Cut

@@ -3,8 +3,7 @@ ghost use mathlib.Core.Path.{_≡_};
 ghost use Prim.Native.Nat.{_+_, _<_, _≤_};
 ghost use lib.Dec.{leb};
 ghost use lib.ListN.{length, getD};
-ghost use Rattle.bytecode.specs.Opcodes.{operand-size};
-ghost use Rattle.bytecode.specs.Operands.{big-endian, operand, data-size, extent};
+ghost use Rattle.bytecode.specs.Operands.{big-endian, operand, data-size, Follows, extent-by};
 use crate::Extent;
 use crate::OperandResult;
 use crate::opcodes::*;
@@ -17,11 +16,11 @@ fn wide(byte: u8) -> u32
     byte as u32
 }
 
-// How many operand bytes follow an opcode byte.
-pub fn operand_size(op: u8) -> usize
-    ensures { λ r. ⌜ r ≡ operand-size op ⌝ }
+// The table of operand sizes, to be lent to `extent`: a constant that is indexed is built anew at each call.
+pub fn operand_sizes() -> [u8; 256]
+    ensures { λ r. ⌜ Follows r ⌝ }
 {
-    wide(OPERAND_SIZES[op as usize]) as usize
+    OPERAND_SIZES
 }
 
 // Whether so many bytes stand in the code from a place on.
@@ -83,39 +82,45 @@ pub fn prepare_u32_from_be_checked(code: &[u8], at: usize) -> OperandResult
     OperandResult::NoOperand(Refusal::UnexpectedEOB)
 }
 
+// The byte at a place, 0 past the end.
+fn byte(code: &[u8], at: usize) -> u32
+    ensures { λ r. ⌜ (r ≡ getD (now (code .entry)) at 0) × (r < 256) ⌝ }
+{
+    if at < code.len() {
+        return wide(code[at]);
+    }
+    0
+}
+
 // How many bytes stand behind the operands of the instruction at a place.
 fn data_size(code: &[u8], at: usize) -> usize
-    requires { ⌜ at + 1 + operand-size (getD (now code) at 0) ≤ length (now code) ⌝ }
+    requires { ⌜ at < length (now code) ⌝ }
     ensures { λ r. ⌜ (r ≡ data-size (now (code .entry)) at) × (r < 65536) ⌝ }
 {
     let op = code[at];
     if op == PUSH_CALLDATA {
-        return two_bytes(code, at + 1) as usize;
+        return (byte(code, at + 1) * 256 + byte(code, at + 2)) as usize;
     }
     if op == M_STI {
-        if code[at + 4] == 1 {
-            return two_bytes(code, at + 1) as usize;
+        if byte(code, at + 4) == 1 {
+            return (byte(code, at + 1) * 256 + byte(code, at + 2)) as usize;
         }
         return 0;
     }
     0
 }
 
-// The place behind the instruction at a place, or that the code's end cuts it.
-pub fn extent(code: &[u8], at: usize) -> Extent
-    ensures { λ r. ⌜ r ≡ extent (now (code .entry)) at ⌝ }
+// The place behind the instruction at a place, by a table of operand sizes, or that the code's end cuts it.
+pub fn extent(sizes: &[u8; 256], code: &[u8], at: usize) -> Extent
+    ensures { λ r. ⌜ r ≡ extent-by (now (sizes .entry)) (now (code .entry)) at ⌝ }
 {
     if code.len() <= at {
         return Extent::Cut;
     }
-    let operands = operand_size(code[at]);
-    if code.len() - at - 1 < operands {
-        return Extent::Cut;
+    let operands = wide(sizes[code[at] as usize]) as usize;
+    let next = at + 1 + operands + data_size(code, at);
+    if next <= code.len() {
+        return Extent::Next(next);
     }
-    let data = at + 1 + operands;
-    let size = data_size(code, at);
-    if code.len() - data < size {
-        return Extent::Cut;
-    }
-    Extent::Next(data + size)
+    Extent::Cut
 }

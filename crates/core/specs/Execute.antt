@@ -1,6 +1,6 @@
 -- One instruction that needs no task, frame or pool: the byte at the place picks it.
 use Prim.Native.Nat.{ℕ}
-use mathlib.Core.Bool.{true, false, cond}
+use mathlib.Core.Bool.{Bool, true, false, cond, _||_}
 use mathlib.Core.List.{List}
 use lib.Dec.{eqb}
 use lib.ListN.{getD}
@@ -51,15 +51,18 @@ operated stack code registers next op count =
     (cond (eqb op JUMP-IF-FALSE) (on-stack (jump-if-false stack code registers next) stack)
     (plain stack registers next op count))))))
 
+-- EQ and NEQ
+unfoldable pub is-equality : ℕ → Bool
+is-equality op = eqb op EQ || eqb op NEQ
+
 -- over memory too
 unfoldable pub execute : List ℕ → List ℕ → List ℕ → Registers → ℕ → ℕ → ℕ → OnMemory
 execute stack memory code registers next op count =
-    cond (eqb op EQ) (kept (op-eq stack memory registers next true) memory)
-    (cond (eqb op NEQ) (kept (op-eq stack memory registers next false) memory)
+    cond (is-equality op) (kept (op-eq stack memory registers next (eqb op EQ)) memory)
     (cond (eqb op M-STI) (m-sti stack memory code registers next)
     (cond (eqb op M-ST) (m-st stack memory code registers next)
     (cond (eqb op M-MUTA) (changed stack (op-m-muta stack memory registers next))
-    (kept (operated stack code registers next op count) memory)))))
+    (kept (operated stack code registers next op count) memory))))
 
 -- whole, or cut by the code's end
 unfoldable pub by-extent : List ℕ → List ℕ → List ℕ → Registers → ℕ → ℕ → Extent → OnMemory

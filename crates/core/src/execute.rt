@@ -3,7 +3,8 @@ ghost use mathlib.Core.Path.{_≡_};
 ghost use Prim.Native.Nat.{_≤_, _<_};
 ghost use lib.ListN.{length};
 ghost use Rattle.opcodes.specs.Registers.{on-stack, on-memory};
-ghost use Rattle.core.specs.Execute.{plain, operated, execute, instruct};
+ghost use Rattle.core.specs.Execute.{plain, operated, is-equality, execute, instruct};
+ghost use Rattle.bytecode.specs.Operands.{Follows};
 use crate::cut::cut;
 use crate::operated::jump_if_false;
 use crate::operated::m_st;
@@ -99,6 +100,16 @@ fn operated(
     plain(stack, registers, next, op, count)
 }
 
+// EQ and NEQ.
+fn is_equality(op: u8) -> bool
+    ensures { λ r. ⌜ r ≡ is-equality op ⌝ }
+{
+    if op == EQ {
+        return true;
+    }
+    op == NEQ
+}
+
 // Over memory too.
 fn execute(
     stack: &mut [u64; 1000],
@@ -112,11 +123,8 @@ fn execute(
     requires { ⌜ registers .place ≤ 9223372036854775808 ⌝ }
     ensures { λ r. ⌜ on-memory r (now (stack .exit)) (now (memory .exit)) ≡ execute (now (stack .entry)) (now (memory .entry)) (now (code .entry)) registers next op count ⌝ }
 {
-    if op == EQ {
-        return op_eq(stack, memory, registers, next, true);
-    }
-    if op == NEQ {
-        return op_eq(stack, memory, registers, next, false);
+    if is_equality(op) {
+        return op_eq(stack, memory, registers, next, op == EQ);
     }
     if op == M_STI {
         return m_sti(stack, memory, code, registers, next);
@@ -130,20 +138,21 @@ fn execute(
     operated(stack, code, registers, next, op, count)
 }
 
-// The instruction at the place, which lies in the code.
+// The instruction at the place, which lies in the code, by the table of operand sizes.
 pub(crate) fn instruct(
     stack: &mut [u64; 1000],
     memory: &mut [u8],
+    sizes: &[u8; 256],
     code: &[u8],
     registers: Registers,
     count: u32,
 ) -> Did
-    requires { ⌜ registers .place < length (now code) ⌝ }
+    requires { ⌜ (registers .place < length (now code)) × Follows (now sizes) ⌝ }
     ensures { λ r. ⌜ on-memory r (now (stack .exit)) (now (memory .exit)) ≡ instruct (now (stack .entry)) (now (memory .entry)) (now (code .entry)) registers count ⌝ }
 {
     let place = registers.place;
     let op = code[place];
-    match extent(code, place) {
+    match extent(sizes, code, place) {
         Extent::Next(next) => execute(stack, memory, code, registers, next, op, count),
         Extent::Cut => cut(stack, registers, op),
     }

@@ -5,70 +5,72 @@ use lib.ListN.{length}
 use borrow.Author.Needs.{needs}
 use borrow.Author.Tests.{le-leb, lt-leb}
 use Rattle.bytecode.proofs.operands.extent.Statement.{statement}
-use Rattle.bytecode.specs.Operands.{extent, behind}
+use Rattle.bytecode.specs.Operands.{extent-by, behind-by}
 use Rattle.bytecode.proofs.operands.extent.Tie as tie
 
 returns : tie.Need-returns
-unfolding extent behind
+unfolding extent-by behind-by
 returns c =
-    let past : length (c .before .before .args .code .now) < behind (c .before .before .args .code .now) (c .before .before .args .at) = omega arith in simp (lt-leb _ _ past)
+    let start = c .before .before in
+    let past : length (start .args .code .now) < behind-by (start .args .sizes .now) (start .args .code .now) (start .args .at) = omega arith in
+    simp (lt-leb _ _ past)
 
-shared-slice-read-operand-size : tie.Need-shared-slice-read-operand-size
-shared-slice-read-operand-size c = search needs
+shared-slice-read-wide : tie.Need-shared-slice-read-wide
+shared-slice-read-wide c = search needs
 
-operand-size-requires : tie.Need-operand-size-requires
-operand-size-requires c κs = search needs
+cast-wide : tie.Need-cast-wide
+cast-wide c =
+    omega (arith, c .shared-slice-known2 .given (c .before .before .before .args .at))
 
-sub-if2 : tie.Need-sub-if2
-sub-if2 c = search needs
+element-copy-out-wide : tie.Need-element-copy-out-wide
+element-copy-out-wide c =
+    omega (arith, c .shared-slice-known2 .given (c .before .before .before .args .at))
 
-sub-if2-2 : tie.Need-sub-if2-2
-sub-if2-2 c = search needs
+wide-requires : tie.Need-wide-requires
+wide-requires c κs = search needs
 
-returns-2 : tie.Need-returns-2
-unfolding extent behind
-returns-2 c =
-    let past : length (c .before .before .before .before .before .args .code .now) < behind (c .before .before .before .before .before .args .code .now) (c .before .before .before .before .before .args .at) = omega (arith, c .before .operand-size .ensures) in simp (lt-leb _ _ past)
+cast-operands : tie.Need-cast-operands
+cast-operands c = search needs
 
-add-data : tie.Need-add-data
-add-data c = search needs
+add-next : tie.Need-add-next
+add-next c = search needs
 
-add-data-2 : tie.Need-add-data-2
-add-data-2 c = search needs
+add-next-2 : tie.Need-add-next-2
+add-next-2 c = search needs
 
 data-size-requires : tie.Need-data-size-requires
 data-size-requires c κs = search needs
 
-sub-if3 : tie.Need-sub-if3
-sub-if3 c = search needs
+add-next-3 : tie.Need-add-next-3
+add-next-3 c = search needs
+
+returns-2 : tie.Need-returns-2
+unfolding extent-by behind-by
+returns-2 c =
+    let start = c .before .before .before .before .before .before .before in
+    let whole : behind-by (start .args .sizes .now) (start .args .code .now) (start .args .at) ≤ length (start .args .code .now) = omega (arith, c .before .before .wide .ensures .0, c .before .data-size .ensures .0) in
+    simp (le-leb _ _ whole, ← c .before .before .wide .ensures .0, ← c .before .data-size .ensures .0)
 
 returns-3 : tie.Need-returns-3
-unfolding extent behind
+unfolding extent-by behind-by
 returns-3 c =
-    let past : length (c .before .before .before .before .before .before .before .args .code .now) < behind (c .before .before .before .before .before .before .before .args .code .now) (c .before .before .before .before .before .before .before .args .at) = omega (arith, c .before .before .before .operand-size .ensures, c .before .data-size .ensures .0) in simp (lt-leb _ _ past)
-
-add-t11 : tie.Need-add-t11
-add-t11 c = search needs
-
-returns-4 : tie.Need-returns-4
-unfolding extent behind
-returns-4 c =
-    let whole : behind (c .before .before .before .before .before .before .before .args .code .now) (c .before .before .before .before .before .before .before .args .at) ≤ length (c .before .before .before .before .before .before .before .args .code .now) = omega (arith, c .before .before .before .operand-size .ensures, c .before .data-size .ensures .0) in simp (le-leb _ _ whole, ← c .before .before .before .operand-size .ensures, ← c .before .data-size .ensures .0)
+    let start = c .before .before .before .before .before .before .before in
+    let past : length (start .args .code .now) < behind-by (start .args .sizes .now) (start .args .code .now) (start .args .at) = omega (arith, c .before .before .wide .ensures .0, c .before .data-size .ensures .0) in
+    simp (lt-leb _ _ past)
 
 pub extent-spec : {M : Type 1} → statement M
 extent-spec =
     tie.close
     (tie.spec
     returns
-    shared-slice-read-operand-size
-    operand-size-requires
-    sub-if2
-    sub-if2-2
-    returns-2
-    add-data
-    add-data-2
+    shared-slice-read-wide
+    cast-wide
+    element-copy-out-wide
+    wide-requires
+    cast-operands
+    add-next
+    add-next-2
     data-size-requires
-    sub-if3
-    returns-3
-    add-t11
-    returns-4)
+    add-next-3
+    returns-2
+    returns-3)
