@@ -45,6 +45,22 @@ slot-is e = (ap (λ (a : After Task (List Task)). a .answer) e, ap (λ (a : Afte
 pub step-is : {A : Type 0} {r q : A} {zs ys ws vs : List ℕ} → stepped r zs ws ≡ stepped q ys vs → (r ≡ q) × ((zs ≡ ys) × (ws ≡ vs))
 step-is {A} e = (ap (λ (a : Stepped A). a .answer) e, (ap (λ (a : Stepped A). a .pool) e, ap (λ (a : Stepped A). a .ends) e))
 
+-- an answer, and the table, the pool and its ends
+pub held-is : {A : Type 0} {r q : A} {ts us : List Task} {zs ys ws vs : List ℕ} → held r ts zs ws ≡ held q us ys vs → (r ≡ q) × ((ts ≡ us) × ((zs ≡ ys) × (ws ≡ vs)))
+held-is {A} e = (ap (λ (a : Held A). a .answer) e, (ap (λ (a : Held A). a .table) e, (ap (λ (a : Held A). a .pool) e, ap (λ (a : Held A). a .ends) e)))
+
+-- the place behind the header fits
+pub header-fits : 14 < 2 ^ 64
+header-fits = omega arith
+
+-- the count of records fits
+pub none-fits : 0 < 2 ^ 32
+none-fits = omega arith
+
+-- and after a turn
+pub one-fits : {n i : ℕ} → n < 2 ^ 32 → i < n → i + 1 < 2 ^ 32
+one-fits fits more = omega arith
+
 -- ---- counting
 -- a living slot
 pub counts-one : (t : Task) (count : ℕ) → t .living ≡ true → count + 1 ≡ count-slot t count
