@@ -1,5 +1,5 @@
 -- One turn of each loop over the table, and what is left at its end.
-use Prim.Native.Nat.{ℕ, zero, suc, _+_, _-_, _<_, _≤_, _^_, _*_}
+use Prim.Native.Nat.{ℕ, suc, _+_, _-_, _<_, _≤_, _^_, _*_}
 use mathlib.Core.Bool.{Bool, true, false, cond}
 use mathlib.Core.List.{List}
 use mathlib.Core.Path.{_≡_, refl, ap, sym, _∙_}
