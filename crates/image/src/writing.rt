@@ -87,10 +87,10 @@ pub fn write_record(save: &mut [u8], instructions: &[u8], task: Task, at: usize)
 }
 
 // Writes the kind 1 record at the buffer's start.
-pub fn write_header(save: &mut [u8], next_id: u32, count: u32) -> usize
+pub fn write_header(save: &mut [u8], next_id: u32, count: usize) -> usize
     ensures { λ r. ⌜ put r (now (save .exit)) ≡ puts (now (save .entry)) 0 (header «next_id» count) ⌝ }
 {
-    let first = heading(next_id as usize, count as usize);
+    let first = heading(next_id as usize, count);
     put(save, &first, 0)
 }
 
