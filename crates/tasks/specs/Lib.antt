@@ -1,0 +1,4 @@
+pub mod Changes
+pub mod Titles
+pub mod Create
+pub mod Fields
