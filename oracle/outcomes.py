@@ -1,0 +1,118 @@
+"""Every outcome that document 01 gives an opcode, and a machine that notes which ones a case reaches."""
+import model
+from model import FALSE, NUMBER, TEXT, TRUE, Refused, is_vector, number
+
+# By opcode: how it can finish, and its refusals. `3 at 1` is 3 with one value on the stack; `2 after 3` is 2 with three bytes behind the opcode.
+EQUALITY = [f"{kinds} {answer}" for kinds in ("number", "calldata", "text", "numbers", "number with numbers") for answer in ("equal", "unequal")]
+EQUALITY += ["bool equal", "3 at 0", "3 at 1", "6", "5"]
+COMPARISON = ["true", "false", "3 at 0", "3 at 1", "5"]
+PUSH_U8 = ["finished", "2 after 0", "4"]
+OUTCOMES = {
+    0x00: ["finished"],
+    0x01: ["finished", "4"] + [f"2 after {n}" for n in range(4)],
+    0x02: ["finished"],
+    0x03: PUSH_U8, 0x05: PUSH_U8, 0x06: PUSH_U8,
+    0x04: ["with data", "empty", "2 after 0", "2 after 1", "2 in data", "4", "22 bytes", "22 entries"],
+    0x07: ["finished", "3 at 0", "3 at 1", "8", "3 at 2", "5", "20", "21"],
+    0x08: ["title", "state", "instructions", "3 at 0", "10", "3 at 1", "9", "23"],
+    0x09: ["title", "state", "instructions", "3 at 0", "10", "3 at 1", "9", "3 at 2", "5", "21", "11"],
+    0x0a: ["finished", "3 at 0", "9"],
+    0x0b: ["with tasks", "without tasks", "12", "15", "24"],
+    0x0c: ["finished"],
+    0x0d: ["finished", "4"],
+    0x0e: ["finished", "3 at 0", "3 at 1", "4"],
+    0x0f: ["back", "on", "3"],
+    0x10: ["finished", "3", "4"],
+    0x11: ["entered", "no task", "empty", "3 at 0", "12", "4"],
+    0x12: ["returned", "in main"],
+    0x13: ["finished", "3 at 0"],
+    0x14: ["finished", "3 at 0", "4"],
+    0x15: ["finished", "3 at 0", "3 at 1"],
+    0x16: EQUALITY, 0x17: EQUALITY, 0x18: COMPARISON, 0x19: COMPARISON,
+    0x1a: ["taken", "not taken", "not taken, cut", "3 at 0"] + [f"2 after {n}" for n in range(4)],
+    0x1b: [f"{kind} {how}" for kind in ("text", "numbers") for how in ("with payload", "of zeros", "with another signal")]
+    + [f"2 after {n}" for n in range(4)] + ["2 in payload", "5", "4", "23", "padded"],
+    0x1c: ["text", "numbers", "3 at 0", "13", "2 after 0", "5", "23"],
+    0x1d: ["text", "numbers", "3 at 0", "3 at 1", "3 at 2", "5", "14", "14 wrapped"],
+    0x1e: ["finished", "3 at 0", "5", "7"] + [f"2 after {n}" for n in range(4)],
+    0x1f: ["finished", "3 at 0", "3 at 1", "5", "7"],
+    0x20: ["finished"],
+    0xff: ["finished"],
+}
+ALL = {(opcode, outcome) for opcode, outcomes in OUTCOMES.items() for outcome in outcomes}
+
+
+def refusal(machine, opcode, code, place, args):
+    """The name of a refusal in the table above."""
+    said, rest = args[0], len(code) - place - 1
+    if said == 3:
+        return "3" if opcode in (0x0f, 0x10) else f"3 at {len(machine.stack)}"
+    if said == 2:
+        if opcode == 0x04 and rest >= 2:
+            return "2 in data"
+        if opcode == 0x1b and rest >= 4:
+            return "2 in payload"
+        return f"2 after {rest}"
+    if said == 22:
+        return "22 entries" if len(machine.pool) == model.ENTRIES else "22 bytes"
+    if said == 14 and number(machine.stack[-2]) != args[1] and args[1] < args[2]:
+        return "14 wrapped"
+    return str(said)
+
+
+def equality(left, right, answer):
+    kinds = {5: "calldata", TEXT: "text", NUMBER: "number"}.get(left[0], "bool")
+    if left[0] == NUMBER and is_vector(left):
+        kinds = "numbers"
+    elif is_vector(right) and kinds == "number":
+        kinds = "number with numbers"
+    return f"{kinds} {'equal' if answer else 'unequal'}"
+
+
+class Noted(model.Machine):
+    """The model's machine, with the outcomes that it has reached."""
+
+    def __init__(self, *words):
+        self.reached = set()
+        super().__init__(*words)
+
+    def step(self, code, place):
+        opcode, stack, frames, memory = code[place], self.stack[-3:], len(self.frames), len(self.memory)
+        top = stack[-1] if stack else None
+        known = self.tasks.get(number(top)) if opcode == 0x11 and top else None
+        try:
+            goes = super().step(code, place)
+        except Refused as refused:
+            self.reached.add((opcode, refusal(self, opcode, code, place, refused.args)))
+            raise
+        if opcode == 0x04:
+            said = "with data" if goes > place + 3 else "empty"
+        elif opcode in (0x08, 0x09):
+            said = ("title", "state", "instructions")[number(top)]
+        elif opcode == 0x0b:
+            said = "with tasks" if self.tasks else "without tasks"
+        elif opcode == 0x0f:
+            said = "on" if goes == place + 1 and not (self.loops and self.loops[-1][0] == goes) else "back"
+        elif opcode == 0x11:
+            said = "entered" if len(self.frames) > frames else "empty" if known else "no task"
+        elif opcode == 0x12:
+            said = "returned" if len(self.frames) < frames else "in main"
+        elif opcode in (0x16, 0x17):
+            said = equality(stack[-2], top, (self.stack[-1] == TRUE) == (opcode == 0x16))
+            said = "bool equal" if top in (TRUE, FALSE) else said
+        elif opcode in (0x18, 0x19):
+            said = "true" if self.stack[-1] == TRUE else "false"
+        elif opcode == 0x1a:
+            said = "taken" if top == FALSE else "not taken, cut" if goes > len(code) else "not taken"
+        elif opcode == 0x1b:
+            signal = code[place + 4]
+            said = "text " if code[place + 3] == TEXT else "numbers "
+            said += "with payload" if signal == 1 else "with another signal" if signal else "of zeros"
+            if code[place + 3] == NUMBER and memory % 4:
+                self.reached.add((opcode, "padded"))
+        elif opcode in (0x1c, 0x1d):
+            said = "text" if self.stack[-1][0] == TEXT else "numbers"
+        else:
+            said = "finished"
+        self.reached.add((opcode, said))
+        return goes
