@@ -92,7 +92,7 @@ pub fn get<'a>(pool: &'a [u8], ends: &[u32; 1024], entry: InstructionsRef) -> &'
 }
 
 // Whether a pool of the lent length takes one more entry of a size.
-fn has_room(lent: usize, bytes: usize, entries: usize, size: usize) -> bool
+pub fn has_room(lent: usize, bytes: usize, entries: usize, size: usize) -> bool
     ensures { λ r. ⌜ r ≡ has-room lent bytes entries size ⌝ }
 {
     let room = smaller(POOL_BYTES, lent);
