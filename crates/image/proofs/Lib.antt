@@ -1,14 +1,4 @@
 pub mod Endian
 pub mod Rules
-pub mod Puts
-pub mod SaveLoad
-pub mod LoadSave
 pub mod Walks
 pub mod Records
-pub mod Saves
-pub mod Stores
-pub mod Loads
-pub mod Cases
-pub mod Places
-pub mod Turns
-pub mod Tested

@@ -1,18 +1,16 @@
 -- How the test goes through an image: the record at the front, the records one after another, and the count last.
 use Prim.Native.Nat.{ℕ, suc, _+_, _-_, _*_, _<_, _≤_, max}
 use mathlib.Core.Bool.{Bool, true, false, cond}
-use mathlib.Core.List.{List}
+use mathlib.Core.List.{List, []}
 use mathlib.Core.Path.{_≡_, refl, ap, sym, _∙_}
 use native.Mathlib.Nat.{sub-zero}
 use native.Mathlib.Omega.{arith}
-use lib.Dec.{leb}
-use lib.ListN.{length, take, drop, length-drop}
+use lib.Dec.{leb, eqb}
+use lib.ListN.{length, take, drop, length-take, length-drop}
 use lib.Seq.{drop-drop, take-all}
 use borrow.Author.Tests.{ne-eqb, eq-eqb, le-leb}
 use Rattle.errors.specs.declared.Refusal.the-variants.{BadImage}
-use Rattle.image.proofs.LoadSave.{read-some, instructions-length}
 use Rattle.image.proofs.Rules.{Rules, rules-good, good-rules, Head, head-headed, headed-head, refuted}
-use Rattle.image.proofs.SaveLoad.{read-next}
 use Rattle.image.specs.Image.{ImageTask, Read, sound, bad-at, body-length, kind, next-id-in, task-count, id-in, title-length, task-at, headed, good, joined, read-from, counted, read-image}
 use Rattle.image.specs.Reading.{front, s-len, instruction-bytes, walked, tested}
 use Rattle.image.specs.declared.Front.the-variants.{Whole, Broken}
@@ -44,6 +42,31 @@ unfolding headed
 head-last bytes n u k s e = rw (e, le-leb (6 + body-length bytes) (length bytes) u, eq-eqb (kind bytes) 1 k, eq-eqb (body-length bytes) 8 s)
 
 -- ---- the records, one after another
+
+-- one record more
+pub read-next : (bound next-id low place : ℕ) (bytes : List ℕ)
+    → read-from (suc bound) next-id low place bytes
+    ≡ cond (eqb (length bytes) 0) (sound [])
+    (cond (good next-id low bytes)
+    (joined (task-at bytes) (read-from bound next-id (id-in bytes + 1) (place + (6 + body-length bytes)) (drop (6 + body-length bytes) bytes)))
+    (bad-at place))
+unfolding read-from
+read-next bound next-id low place bytes = refl
+
+-- an image that is not empty
+pub read-some : (bytes : List ℕ) → 0 < length bytes → read-image bytes ≡ cond (headed bytes) (counted (next-id-in bytes) (task-count bytes) (read-from (length bytes) (next-id-in bytes) 0 14 (drop 14 bytes))) (bad-at 0)
+unfolding read-image
+read-some bytes some = rw (ne-eqb (length bytes) 0 (omega arith))
+
+-- the lengths of a record's title and instructions
+module _ {next-id low : ℕ} {bytes : List ℕ} (r : Rules next-id low bytes) where
+  pub title-length-is : length (task-at bytes .title) ≡ title-length bytes
+  unfolding task-at
+  title-length-is = simp (length-take, length-drop) (omega (arith, r .uncut, r .inside))
+
+  pub instructions-length : length (task-at bytes .instructions) ≡ body-length bytes - 8 - title-length bytes
+  unfolding task-at
+  instructions-length = simp (length-take, length-drop) (omega (arith, r .uncut, r .inside))
 
 -- what a whole front tells
 record Turned (next-id low : ℕ) (bytes : List ℕ) (id size instructions : ℕ) : Type 0 where

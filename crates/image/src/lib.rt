@@ -1,8 +1,6 @@
-// The task image: tested, read a record at a time, measured and written a record at a time.
-mod numbers;
+// The task image: tested, and read a record at a time.
+pub mod numbers;
 pub mod reading;
-pub mod steps;
-pub mod writing;
 
 use errors::Refusal;
 use storage::Task;

@@ -1,6 +1,6 @@
 // Little-endian numbers in bytes, with zeros past the end.
 ghost use mathlib.Core.Path.{_≡_};
-ghost use Prim.Native.Nat.{_-_, _<_, min};
+ghost use Prim.Native.Nat.{_<_};
 ghost use lib.ListN.{getD};
 ghost use Rattle.image.specs.Numbers.{number-at};
 ghost use Rattle.image.specs.Reading.{on};
@@ -39,7 +39,7 @@ pub(crate) fn u32_at(bytes: &[u8], place: usize) -> u32
 }
 
 // A place so many bytes on, as far as there are.
-pub(crate) fn on(length: usize, place: usize, count: usize) -> usize
+pub fn on(length: usize, place: usize, count: usize) -> usize
     ensures { λ r. ⌜ r ≡ on length place count ⌝ }
 {
     if length <= place {
@@ -49,24 +49,4 @@ pub(crate) fn on(length: usize, place: usize, count: usize) -> usize
         return length;
     }
     place + count
-}
-
-// The smaller of two numbers.
-pub(crate) fn smaller(a: usize, b: usize) -> usize
-    ensures { λ r. ⌜ r ≡ min a b ⌝ }
-{
-    if a < b {
-        return a;
-    }
-    b
-}
-
-// The difference of two numbers, 0 where it is below.
-pub(crate) fn less(a: usize, b: usize) -> usize
-    ensures { λ r. ⌜ r ≡ a - b ⌝ }
-{
-    if a < b {
-        return 0;
-    }
-    a - b
 }

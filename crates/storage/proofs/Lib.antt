@@ -1,6 +1,5 @@
 pub mod Records
 pub mod Titles
 pub mod Setting
-pub mod Turns
 pub mod Laws
 pub mod Soundness

@@ -74,7 +74,7 @@ fn title_len(length: usize) -> usize
 }
 
 // A title as a record holds it: its first 128 bytes, zeros behind.
-pub fn title_of(bytes: &[u8]) -> [u8; 128]
+pub(crate) fn title_of(bytes: &[u8]) -> [u8; 128]
     ensures { λ r. ⌜ r ≡ title-of (now (bytes .entry)) ⌝ }
 {
     let mut title = [0u8; 128];

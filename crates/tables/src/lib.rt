@@ -8,8 +8,8 @@ ghost use Rattle.tables.specs.Tables.{held, measuring, measure-next, mea
 use errors::Refusal;
 use image::SaveResult;
 use image::SizeResult;
-use image::steps;
-use image::writing;
+use records::steps;
+use records::writing;
 use storage::Task;
 use storage::storage::slot_of;
 use storage::table;
@@ -197,7 +197,7 @@ pub fn load_table(
 ) -> InUse
     ensures { λ r. ⌜ after (loading (now (table .exit)) (now (pool .exit)) (now (ends .exit)) r) (now (image .exit)) ≡ after (load-records count (now (image .entry)) 14 (loading (replicate (length (now (table .entry))) blank) (now (pool .entry)) (now (ends .entry)) (in-use bytes entries))) (now (image .entry)) ⌝ }
 {
-    table::clear_all(table);
+    slots::clear_all(table);
     let mut used = in_use(bytes, entries);
     let mut at = 14;
     let mut turn = 0;

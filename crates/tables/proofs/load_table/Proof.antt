@@ -51,7 +51,7 @@ use Rattle.tables.specs.declared.InUse.{InUse}
 use Rattle.tables.specs.declared.NextRecord.{NextRecord}
 use Rattle.tables.specs.Tables.{in-use, loading, load-next}
 use Rattle.tables.proofs.Turns.{header-fits, none-fits, one-fits, next-is, load-begins, load-turns, load-ends}
-use Rattle.storage.proofs.table.clear_all.Symbol.{name as #clear}
+use Rattle.slots.proofs.clear_all.Symbol.{name as #clear}
 use Rattle.tables.proofs.in_use.Symbol.{name as #uses}
 use Rattle.tables.proofs.load_next.Symbol.{name as #next}
 use Rattle.storage.proofs.table.put.Symbol.{name as #put}
@@ -60,9 +60,9 @@ use Rattle.tables.proofs.InUse as used
 use Rattle.tables.proofs.InUse.Laws as used-laws
 use Rattle.tables.proofs.NextRecord as loaded
 use Rattle.tables.proofs.NextRecord.Laws as loaded-laws
-use Rattle.storage.proofs.table.clear_all as clear
-use Rattle.storage.proofs.table.clear_all.Symbol as clear-def
-use Rattle.storage.proofs.table.clear_all.Met as clear-thm
+use Rattle.slots.proofs.clear_all as clear
+use Rattle.slots.proofs.clear_all.Symbol as clear-def
+use Rattle.slots.proofs.clear_all.Met as clear-thm
 use Rattle.tables.proofs.in_use as uses
 use Rattle.tables.proofs.in_use.Symbol as uses-def
 use Rattle.tables.proofs.in_use.Met as uses-thm
@@ -298,7 +298,7 @@ load-table-spec 𝓤 H 𝓜 𝓖 𝓡 =
     entered 𝓤 H (tripleOf 𝓤 H (𝓖 .A) f.signature (f.spec 𝓤 H (𝓖 .A) (𝓜 .mem) (𝓡 .run)))
     (tables 𝓤 H 𝓜 𝓡 code.env .C) (tables 𝓤 H 𝓜 𝓡 code.env .Λ) #this code.function (code.unfolded 𝓤 H 𝓜 𝓡)
     (meets 𝓤 H (𝓖 .A) (givenOf 𝓤 H 𝓜 𝓖) (𝓜 .mem) (𝓡 .run) (tablesOf 𝓤 H 𝓜 (tables 𝓤 H 𝓜 𝓡 code.env))
-    (cited 𝓤 H (clear-con 𝓤 H (𝓖 .A) (𝓜 .mem) (𝓡 .run)) 𝓜 𝓡 code.env #clear clear-def.routine code.calls-storage·table·clear-all (clear-thm.met 𝓤 H 𝓜 𝓖 𝓡))
+    (cited 𝓤 H (clear-con 𝓤 H (𝓖 .A) (𝓜 .mem) (𝓡 .run)) 𝓜 𝓡 code.env #clear clear-def.routine code.calls-slots·clear-all (clear-thm.met 𝓤 H 𝓜 𝓖 𝓡))
     (cited 𝓤 H (uses-con 𝓤 H (𝓖 .A) (𝓜 .mem) (𝓡 .run)) 𝓜 𝓡 code.env #uses uses-def.routine code.calls-tables·in-use (uses-thm.met 𝓤 H 𝓜 𝓖 𝓡))
     (cited 𝓤 H (next-con 𝓤 H (𝓖 .A) (𝓜 .mem) (𝓡 .run)) 𝓜 𝓡 code.env #next next-def.routine code.calls-tables·load-next (next-thm.met 𝓤 H 𝓜 𝓖 𝓡))
     (cited 𝓤 H (put-con 𝓤 H (𝓖 .A) (𝓜 .mem) (𝓡 .run)) 𝓜 𝓡 code.env #put put-def.routine code.calls-storage·table·put (put-thm.met 𝓤 H 𝓜 𝓖 𝓡)))

@@ -56,7 +56,7 @@ use Rattle.tables.proofs.Turns.{slot-is, step-is, held-is, header-fits,
 use Rattle.tables.proofs.measure_table.Symbol.{name as #measure}
 use Rattle.tables.proofs.begin.Symbol.{name as #begins}
 use Rattle.storage.proofs.table.get.Symbol.{name as #get}
-use Rattle.image.proofs.steps.save_slot.Symbol.{name as #slot}
+use Rattle.records.proofs.steps.save_slot.Symbol.{name as #slot}
 use Rattle.tables.proofs.save_table.Key.{name as #this}
 use Rattle.storage.proofs.Task as task
 use Rattle.storage.proofs.Task.Laws as task-laws
@@ -75,9 +75,9 @@ use Rattle.tables.proofs.begin.Met as begins-thm
 use Rattle.storage.proofs.table.get as get
 use Rattle.storage.proofs.table.get.Symbol as get-def
 use Rattle.storage.proofs.table.get.Met as get-thm
-use Rattle.image.proofs.steps.save_slot as slot
-use Rattle.image.proofs.steps.save_slot.Symbol as slot-def
-use Rattle.image.proofs.steps.save_slot.Met as slot-thm
+use Rattle.records.proofs.steps.save_slot as slot
+use Rattle.records.proofs.steps.save_slot.Symbol as slot-def
+use Rattle.records.proofs.steps.save_slot.Met as slot-thm
 use Rattle.tables.proofs.save_table as f
 use Rattle.tables.proofs.save_table.Statement as stated
 use Rattle.tables.proofs.save_table.Code as code
@@ -318,4 +318,4 @@ save-table-spec 𝓤 H 𝓜 𝓖 𝓡 =
     (cited 𝓤 H (measure-con 𝓤 H (𝓖 .A) (𝓜 .mem) (𝓡 .run)) 𝓜 𝓡 code.env #measure measure-def.routine code.calls-tables·measure-table (measure-thm.met 𝓤 H 𝓜 𝓖 𝓡))
     (cited 𝓤 H (begins-con 𝓤 H (𝓖 .A) (𝓜 .mem) (𝓡 .run)) 𝓜 𝓡 code.env #begins begins-def.routine code.calls-tables·begin (begins-thm.met 𝓤 H 𝓜 𝓖 𝓡))
     (cited 𝓤 H (get-con 𝓤 H (𝓖 .A) (𝓜 .mem) (𝓡 .run)) 𝓜 𝓡 code.env #get get-def.routine code.calls-storage·table·get (get-thm.met 𝓤 H 𝓜 𝓖 𝓡))
-    (cited 𝓤 H (slot-con 𝓤 H (𝓖 .A) (𝓜 .mem) (𝓡 .run)) 𝓜 𝓡 code.env #slot slot-def.routine code.calls-image·steps·save-slot (slot-thm.met 𝓤 H 𝓜 𝓖 𝓡)))
+    (cited 𝓤 H (slot-con 𝓤 H (𝓖 .A) (𝓜 .mem) (𝓡 .run)) 𝓜 𝓡 code.env #slot slot-def.routine code.calls-records·steps·save-slot (slot-thm.met 𝓤 H 𝓜 𝓖 𝓡)))

@@ -1,0 +1,50 @@
+-- Document 01's image I1, and small images that are refused, by computing.
+use Prim.Native.Nat.{ℕ}
+use mathlib.Core.List.{List, [], _∷_, _++_}
+use mathlib.Core.Path.{_≡_, refl}
+use Rattle.image.specs.Image.{Image, framed, header, body, records, written, sound, bad-at, task-at, headed, good, joined, read-from, counted, read-image}
+use Rattle.image.specs.Numbers.{little-endian, number-at}
+use Rattle.utf8.specs.Grammar.{UTF8-char}
+use Rattle.utf8.specs.Utf8.{valid, from, lead, holds}
+
+-- 08 00 00 00 01 00 01 00 00 00 01 00 00 00 0A 00 00 00 02 00 00 00 00 00 03 00 02 00 41 62
+abbrev pub I1 : List ℕ
+I1 = 0x08 ∷ 0 ∷ 0 ∷ 0 ∷ 0x01 ∷ 0 ∷ 0x01 ∷ 0 ∷ 0 ∷ 0 ∷ 0x01 ∷ 0 ∷ 0 ∷ 0 ∷ 0x0A ∷ 0 ∷ 0 ∷ 0 ∷ 0x02 ∷ 0 ∷ 0 ∷ 0 ∷ 0 ∷ 0 ∷ 0x03 ∷ 0 ∷ 0x02 ∷ 0 ∷ 0x41 ∷ 0x62 ∷ []
+
+-- next id 1, task 0 "Ab", 3 states, no instructions
+abbrev pub Ab : Image
+Ab = record { next-id = 1; tasks = record { id = 0; count = 3; state = 0; title = 0x41 ∷ 0x62 ∷ []; instructions = [] } ∷ [] }
+
+-- C12: image I1 loads
+pub I1-loads : read-image I1 ≡ sound Ab
+unfolding read-image headed good joined read-from counted task-at number-at valid from lead holds UTF8-char
+I1-loads = refl
+
+-- and is what its task is written as
+pub I1-saved : written Ab ≡ I1
+unfolding written header framed records body little-endian
+I1-saved = refl
+
+-- a byte left over is a cut record, at its start
+pub left-over : read-image (I1 ++ (0 ∷ [])) ≡ bad-at 30
+unfolding read-image headed good joined read-from counted task-at number-at valid from lead holds UTF8-char
+left-over = refl
+
+-- a second kind 1 is wrong at its place
+pub second-header : read-image (header 1 0 ++ header 1 0) ≡ bad-at 14
+unfolding read-image headed good joined read-from counted task-at number-at header framed little-endian
+second-header = refl
+
+-- a wrong count is at 0
+pub wrong-count : read-image (header 1 1) ≡ bad-at 0
+unfolding read-image headed read-from counted number-at header framed little-endian
+wrong-count = refl
+
+-- and so are a next id of 257, and fewer bytes than a record's first 6
+pub wrong-next-id : read-image (header 257 0) ≡ bad-at 0
+unfolding read-image headed number-at header framed little-endian
+wrong-next-id = refl
+
+pub too-short : read-image (0 ∷ []) ≡ bad-at 0
+unfolding read-image headed number-at
+too-short = refl

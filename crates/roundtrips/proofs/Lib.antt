@@ -1,0 +1,9 @@
+pub mod SaveLoad
+pub mod LoadSave
+pub mod Saves
+pub mod Stores
+pub mod Loads
+pub mod Cases
+pub mod Places
+pub mod Tested
+pub mod Created

@@ -1,0 +1,261 @@
+-- An image that is loaded into a table: its tasks stand in the living slots, and saving gives the same bytes.
+use Prim.Native.Nat.{ℕ, zero, suc, _+_, _-_, _<_, _≤_, min}
+use mathlib.Core.Bool.{true, false}
+use mathlib.Core.List.{List, [], _∷_, append-nil}
+use mathlib.Core.Path.{_≡_, refl, ap, sym, _∙_, subst}
+use native.Mathlib.Omega.{arith}
+use lib.ListN.{length, getD, set, drop, replicate, length-set, length-drop, length-replicate}
+use lib.Seq.{sets, drop-drop, getD-set-same, getD-set-other}
+use Rattle.roundtrips.proofs.LoadSave.{Goes, at-end, goes-on, goes, loaded, load-sound, load-save, read-none}
+use Rattle.image.proofs.Records.{saved-again}
+use Rattle.image.proofs.Rules.{Rules}
+use Rattle.roundtrips.proofs.SaveLoad.{not-bad}
+use Rattle.roundtrips.proofs.Saves.{Holds, Lists, end, dead, alive, header-length, save-lists}
+use Rattle.roundtrips.proofs.Stores.{Pool, Stored, stored}
+use Rattle.image.specs.Image.{ImageTask, Image, header, records, written, Fine, Rising, none, more, sound, body-length, id-in, title-length, task-at, read-from, read-image}
+use Rattle.image.specs.Numbers.{number-at, Bytes}
+use Rattle.image.specs.Reading.{on, instruction-bytes, read-record}
+use Rattle.image.specs.Slots.{loaded-task, saved-task}
+use Rattle.image.specs.Table.{Loading, next-reference, load-slot, load-tasks, instructions-of, load-record, placed, load-records, load-table, saved-table, save-table}
+use Rattle.image.specs.Writing.{task-in}
+use Rattle.image.specs.declared.SaveResult.the-variants.{Saved}
+use Rattle.pools.proofs.Ends.{stands}
+use Rattle.pools.specs.Pool.{entry-of}
+use Rattle.pools.specs.declared.InstructionsRef.{InstructionsRef}
+use Rattle.storage.specs.Tasks.{blank, new-task}
+use Rattle.storage.specs.declared.Task.{Task}
+
+-- ---- the slots of a table that is loaded
+
+-- from a place on every slot is blank
+abbrev Empty : List Task → ℕ → Type 0
+Empty table low = (j : ℕ) → low ≤ j → getD table j blank ≡ blank
+
+blank-dead : blank .living ≡ false
+unfolding blank
+blank-dead = refl
+
+-- slots that are blank hold no tasks
+all-dead : {pool ends : List ℕ} {entries : ℕ} (table : List Task) (n low : ℕ) → Empty table low → Lists table pool ends entries n low []
+all-dead table zero low empty = end
+all-dead table (suc n) low empty = dead {i = low} (rw (empty low (omega arith)) blank-dead) (all-dead table n (low + 1) (λ j h. empty j (omega arith)))
+
+-- blank slots before others
+dead-run : {table : List Task} {pool ends : List ℕ} {entries : ℕ} {tasks : List ImageTask} (d m n low i : ℕ) → d + n ≡ m → low + d ≡ i → ((j : ℕ) → low ≤ j → j < i → getD table j blank ≡ blank) → Lists table pool ends entries n i tasks → Lists table pool ends entries m low tasks
+dead-run {table} {pool} {ends} {entries} {tasks} zero m n low i e k empty l =
+    let p : n ≡ m = omega arith in
+    let q : i ≡ low = omega arith in
+    subst (λ (x : ℕ). Lists table pool ends entries x low tasks) p (subst (λ (x : ℕ). Lists table pool ends entries n x tasks) q l)
+dead-run (suc d) zero n low i e k empty l = absurd (omega arith)
+dead-run (suc d) (suc m) n low i e k empty l =
+    dead {i = low} (rw (empty low (omega arith) (omega arith)) blank-dead) (dead-run d m n (low + 1) i (omega arith) (omega arith) (λ j h g. empty j (omega arith) g) l)
+
+-- the pool has room for the tasks
+pub record Room (l : Loading) (tasks : List ImageTask) : Type 0 where
+  pub few : l .entries + length tasks ≤ 1024
+  pub small : l .bytes + instruction-bytes tasks ≤ min 65536 (length (l .pool))
+
+-- what loading tasks with ids from `low` on keeps, and where they are then
+pub record Done (low : ℕ) (l f : Loading) (tasks : List ImageTask) : Type 0 where
+  pub slots : (j : ℕ) → j < low → getD (f .table) j blank ≡ getD (l .table) j blank
+  pub entries : (i : ℕ) → i < l .entries → entry-of (f .pool) (f .ends) i ≡ entry-of (l .pool) (l .ends) i
+  pub count : l .entries + length tasks ≡ f .entries
+  pub long : length (f .table) ≡ length (l .table)
+  pub pool : Pool f
+  pub lists : (n : ℕ) → n + low ≡ length (f .table) → Lists (f .table) (f .pool) (f .ends) (f .entries) n low tasks
+
+loaded-id : (task : ImageTask) (reference : InstructionsRef) → loaded-task task reference .id .0 ≡ task .id
+unfolding loaded-task new-task
+loaded-id task reference = refl
+
+loaded-living : (task : ImageTask) (reference : InstructionsRef) → loaded-task task reference .living ≡ true
+unfolding loaded-task new-task
+loaded-living task reference = refl
+
+loaded-reference : (task : ImageTask) (reference : InstructionsRef) → loaded-task task reference .«instructions_ref» ≡ reference
+unfolding loaded-task new-task
+loaded-reference task reference = refl
+
+-- the next reference names the next entry
+reference-is : (n : ℕ) → n ≤ 1024 → next-reference n .0 ≡ n
+unfolding next-reference
+reference-is n few = omega arith
+
+-- a task in a slot, its entry being its instructions
+holds : (pool ends : List ℕ) (entries n next-id low : ℕ) (task : ImageTask) (reference : InstructionsRef) → reference .0 ≡ n → Fine next-id low task → n < min entries 1024 → entry-of pool ends n ≡ task .instructions → Holds pool ends entries (loaded-task task reference) task
+unfolding task-in
+holds pool ends entries n next-id low task reference is fine named entry =
+    record {
+      living = loaded-living task reference;
+      task-is =
+          ap (saved-task (loaded-task task reference)) (ap (λ (r : InstructionsRef). entry-of pool ends (r .0)) (loaded-reference task reference) ∙ ap (entry-of pool ends) is ∙ entry)
+          ∙ saved-again task reference (fine .short);
+      named = rw (loaded-reference task reference, is) named;
+      text = fine .text;
+    }
+
+load-more : (task : ImageTask) (tasks : List ImageTask) (l : Loading) → load-tasks (task ∷ tasks) l ≡ load-tasks tasks (load-slot (loaded-task task (next-reference (l .entries))) (task .instructions) l)
+unfolding load-tasks
+load-more task tasks l = refl
+
+load-none : (l : Loading) → load-tasks [] l ≡ l
+unfolding load-tasks
+load-none l = refl
+
+bytes-of-more : (task : ImageTask) (tasks : List ImageTask) → instruction-bytes (task ∷ tasks) ≡ length (task .instructions) + instruction-bytes tasks
+unfolding instruction-bytes
+bytes-of-more task tasks = refl
+
+-- the table after one task
+slots-set : (l : Loading) (task : ImageTask) {s : Loading} → Stored l s (loaded-task task (next-reference (l .entries))) (task .instructions) → s .table ≡ set (l .table) (task .id) (loaded-task task (next-reference (l .entries)))
+slots-set l task t = t .slots ∙ ap (λ (k : ℕ). set (l .table) k (loaded-task task (next-reference (l .entries)))) (loaded-id task (next-reference (l .entries)))
+
+-- one task, and then the others
+module _ {next-id low : ℕ} {task : ImageTask} {tasks : List ImageTask} {l s f : Loading} (fine : Fine next-id low task) (inside : next-id ≤ length (l .table)) (empty : Empty (l .table) low)
+    (t : Stored l s (loaded-task task (next-reference (l .entries))) (task .instructions)) (d : Done (task .id + 1) s f tasks) where
+  slot-is : getD (f .table) (task .id) blank ≡ loaded-task task (next-reference (l .entries))
+  slot-is = d .slots (task .id) (omega arith) ∙ rw (slots-set l task t) (getD-set-same (l .table) (task .id) (loaded-task task (next-reference (l .entries))) blank (omega (arith, fine .below)))
+
+  slot-before : (j : ℕ) → j < task .id → getD (f .table) j blank ≡ getD (l .table) j blank
+  slot-before j less = d .slots j (omega arith) ∙ rw (slots-set l task t) (getD-set-other (l .table) (task .id) j (loaded-task task (next-reference (l .entries))) blank (λ e. omega arith))
+
+  long-is : length (f .table) ≡ length (l .table)
+  long-is = d .long ∙ rw (slots-set l task t) (length-set (l .table) (task .id) (loaded-task task (next-reference (l .entries))))
+
+  held : Holds (f .pool) (f .ends) (f .entries) (getD (f .table) (task .id) blank) task
+  held =
+      let n = stands (f .ends) (f .bytes) (f .entries) (d .pool .sound) in
+      rw slot-is
+      (holds (f .pool) (f .ends) (f .entries) (l .entries) next-id low task (next-reference (l .entries)) (reference-is (l .entries) (omega (arith, d .count, t .one-more, n .few))) fine (omega (arith, d .count, t .one-more, n .few))
+      (d .entries (l .entries) (omega (arith, t .one-more)) ∙ t .new))
+
+  done-more : Done low l f (task ∷ tasks)
+  done-more =
+      record {
+        slots = λ j less. slot-before j (omega (arith, fine .rising));
+        entries = λ i less. d .entries i (omega (arith, t .one-more)) ∙ t .old i less;
+        count = omega (arith, d .count, t .one-more);
+        long = long-is;
+        pool = d .pool;
+        lists = λ n e. dead-run (task .id - low) n (suc (length (f .table) - (task .id + 1))) low (task .id) (omega (arith, fine .rising, fine .below, long-is)) (omega (arith, fine .rising))
+            (λ j h g. slot-before j g ∙ empty j h)
+            (alive held (d .lists (length (f .table) - (task .id + 1)) (omega (arith, fine .below, long-is))));
+      }
+
+-- the tasks loaded into a table that is blank from their first id on
+pub load-done : {next-id low : ℕ} {tasks : List ImageTask} → Rising next-id low tasks → (l : Loading) → next-id ≤ length (l .table) → Empty (l .table) low → Pool l → Room l tasks → Done low l (load-tasks tasks l) tasks
+load-done none l inside empty p room =
+    rw (load-none l)
+    (record {
+      slots = λ j less. refl;
+      entries = λ i less. refl;
+      count = omega arith;
+      long = refl;
+      pool = p;
+      lists = λ n e. all-dead (l .table) n _ empty;
+    })
+load-done (more {low} {task} {tasks} fine r) l inside empty p room =
+    let b = bytes-of-more task tasks in
+    let t = stored l (loaded-task task (next-reference (l .entries))) (task .instructions) p (omega (arith, room .few)) (omega (arith, room .small)) in
+    let k : length (load-slot (loaded-task task (next-reference (l .entries))) (task .instructions) l .table) ≡ length (l .table) = ap length (slots-set l task t) ∙ length-set (l .table) (task .id) (loaded-task task (next-reference (l .entries))) in
+    rw (load-more task tasks l)
+    (done-more fine inside empty t
+    (load-done r _ (omega arith)
+    (λ j h. rw (slots-set l task t) (getD-set-other (l .table) (task .id) j (loaded-task task (next-reference (l .entries))) blank (λ e. omega arith) ∙ empty j (omega (arith, fine .rising))))
+    (t .still)
+    (record { few = omega (arith, room .few, t .one-more); small = omega (arith, room .small, t .bytes-more, t .same-pool) })))
+
+-- ---- the records of an image that is loaded
+
+module _ (image : List ℕ) (place : ℕ) (reference : InstructionsRef) {next-id low : ℕ} (r : Rules next-id low (drop place image)) where
+  end-is : read-record image place reference .end ≡ place + (6 + body-length (drop place image))
+  unfolding read-record on
+  end-is = omega (arith, r .uncut, length-drop place image)
+
+  start-is : read-record image place reference .start ≡ place + (14 + title-length (drop place image))
+  unfolding read-record on
+  start-is = omega (arith, r .uncut, r .inside, length-drop place image)
+
+  task-read : read-record image place reference .task ≡ loaded-task (task-at (drop place image)) reference
+  unfolding read-record
+  task-read = refl
+
+  instructions-read : instructions-of image (read-record image place reference) ≡ task-at (drop place image) .instructions
+  unfolding task-at
+  instructions-read =
+      let n : place + (6 + body-length (drop place image)) - (place + (14 + title-length (drop place image))) ≡ body-length (drop place image) - 8 - title-length (drop place image) = omega (arith, r .inside) in
+      rw (end-is, start-is, n, ← drop-drop, ← drop-drop)
+
+records-more : (n : ℕ) (image : List ℕ) (place : ℕ) (l : Loading) → load-records (suc n) image place l ≡ load-records n image (read-record image place (next-reference (l .entries)) .end) (load-slot (read-record image place (next-reference (l .entries)) .task) (instructions-of image (read-record image place (next-reference (l .entries)))) l)
+unfolding load-records load-record placed load-slot
+records-more n image place l = refl
+
+records-none : (image : List ℕ) (place : ℕ) (l : Loading) → load-records 0 image place l ≡ l
+unfolding load-records
+records-none image place l = refl
+
+-- records one after another load the tasks that they hold
+pub records-tasks : (bound next-id low place : ℕ) (image : List ℕ) (tasks : List ImageTask) (l : Loading) → read-from bound next-id low place (drop place image) ≡ sound tasks → load-records (length tasks) image place l ≡ load-tasks tasks l
+records-tasks zero next-id low place image tasks l e = not-bad (sym (read-none next-id low place (drop place image)) ∙ e)
+records-tasks (suc bound) next-id low place image tasks l e =
+    by (records-tasks bound next-id (id-in (drop place image) + 1) (place + (6 + body-length (drop place image))) image) (goes bound next-id low place (drop place image) tasks e)
+  where
+    by : ((rest : List ImageTask) (k : Loading) → read-from bound next-id (id-in (drop place image) + 1) (place + (6 + body-length (drop place image))) (drop (place + (6 + body-length (drop place image))) image) ≡ sound rest → load-records (length rest) image (place + (6 + body-length (drop place image))) k ≡ load-tasks rest k) → Goes bound next-id low place (drop place image) tasks → load-records (length tasks) image place l ≡ load-tasks tasks l
+    by later (at-end empty none-left) =
+        let n : [] ≡ tasks = cc in
+        subst (λ (ts : List ImageTask). load-records (length ts) image place l ≡ load-tasks ts l) n (records-none image place l ∙ sym (load-none l))
+    by later (goes-on some s) =
+        subst (λ (ts : List ImageTask). load-records (length ts) image place l ≡ load-tasks ts l) (s .all)
+        (records-more (length (s .rest)) image place l
+        ∙ rw (instructions-read image place (next-reference (l .entries)) (s .rules), end-is image place (next-reference (l .entries)) (s .rules), task-read image place (next-reference (l .entries)) (s .rules), load-more (task-at (drop place image)) (s .rest) l)
+        (later (s .rest) _ (rw drop-drop at (s .later))))
+
+-- ---- the whole
+
+blanks : (n j : ℕ) → getD (replicate n blank) j blank ≡ blank
+blanks zero j = refl
+blanks (suc n) zero = refl
+blanks (suc n) (suc j) = blanks n j
+
+-- the table with every slot blank
+abbrev pub cleared : Loading → Loading
+cleared l = record { table = replicate (length (l .table)) blank; pool = l .pool; ends = l .ends; bytes = l .bytes; entries = l .entries }
+
+-- loading an image is loading its tasks by rising id into a blank table
+pub load-table-tasks : (bytes : List ℕ) (image : Image) (l : Loading) → 0 < length bytes → read-image bytes ≡ sound image → load-table bytes l ≡ load-tasks (image .tasks) (cleared l)
+unfolding load-table
+load-table-tasks bytes image l some e =
+    let h = loaded bytes image some e in
+    rw (← h .count-is) (records-tasks (length bytes) _ 0 14 bytes (image .tasks) (cleared l) (h .read))
+
+module _ (bytes : List ℕ) (image : Image) (l : Loading) (b : Bytes bytes) (some : 0 < length bytes) (e : read-image bytes ≡ sound image) (wide : 256 ≤ length (l .table)) (p : Pool l) (room : Room l (image .tasks)) where
+  -- after loading, the living slots hold the image's tasks, each with its own entry, and the pool is end to end
+  pub load-holds : Done 0 (cleared l) (load-table bytes l) (image .tasks)
+  load-holds =
+      let z = load-sound bytes image some e b in
+      let n : length (replicate (length (l .table)) blank) ≡ length (l .table) = length-replicate (length (l .table)) blank in
+      rw (load-table-tasks bytes image l some e)
+      (load-done (z .tasks) (cleared l) (omega (arith, z .few)) (λ j h. blanks (length (l .table)) j) (record { lent = p .lent; sound = p .sound }) (record { few = room .few; small = room .small }))
+
+  -- document 01: saving after loading a non-empty image gives the same bytes
+  pub reload : (save : List ℕ) → length bytes ≤ length save
+      → save-table (image .next-id) (load-table bytes l .table) (load-table bytes l .pool) (load-table bytes l .ends) (load-table bytes l .entries) save ≡ saved-table (Saved (length bytes)) (sets save 0 bytes)
+  reload save fits =
+      let w : written image ≡ bytes = load-save bytes image some e b in
+      let short : length (written image) ≤ length save = rw w fits in
+      save-lists image (load-holds .lists (length (load-table bytes l .table)) (omega arith)) save short ∙ rw w
+
+none-written : written (record { next-id = 0; tasks = [] }) ≡ header 0 0
+unfolding written records
+none-written = append-nil (header 0 0)
+
+-- document 01: a zero-length image means none, and saving after it gives a lone kind 1 of zeros
+pub reload-none : (l : Loading) (save : List ℕ) → 14 ≤ length save
+    → save-table 0 (load-table [] l .table) (load-table [] l .pool) (load-table [] l .ends) (load-table [] l .entries) save ≡ saved-table (Saved 14) (sets save 0 (header 0 0))
+unfolding load-table load-records number-at
+reload-none l save fits =
+    let w : written (record { next-id = 0; tasks = [] }) ≡ header 0 0 = none-written in
+    let n : length (header 0 0) ≡ 14 = header-length 0 0 in
+    let short : length (written (record { next-id = 0; tasks = [] })) ≤ length save = rw (w, n) fits in
+    save-lists (record { next-id = 0; tasks = [] }) (all-dead (replicate (length (l .table)) blank) (length (replicate (length (l .table)) blank)) 0 (λ j h. blanks (length (l .table)) j)) save short
+    ∙ rw (w, n)

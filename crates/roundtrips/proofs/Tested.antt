@@ -1,0 +1,82 @@
+-- What a caller of the test learns: the tasks of a sound image, and the reason for 25.
+use Prim.Native.Nat.{ℕ, _+_, _<_, _≤_, max}
+use mathlib.Core.Bool.{Bool, true, false, cond}
+use mathlib.Core.List.{List}
+use mathlib.Core.Path.{_≡_, refl, ap, sym, _∙_, subst}
+use native.Mathlib.Omega.{arith}
+use lib.Dec.{eqb}
+use lib.ListN.{length, drop, length-drop}
+use borrow.Author.Tests.{eqb-false}
+use Rattle.image.proofs.Endian.{bytes-drop}
+use Rattle.image.proofs.Walks.{read-some}
+use Rattle.roundtrips.proofs.Places.{Breaks, bad-place}
+use Rattle.image.proofs.Rules.{Head, headed-head, head-headed, clash}
+use Rattle.image.specs.Image.{ImageTask, Image, Rising, none, more, Read, sound, bad-at, next-id-in, task-count, headed, read-from, counted, read-image}
+use Rattle.image.specs.Numbers.{Bytes}
+use Rattle.image.specs.Reading.{s-len, instruction-bytes, tested}
+use Rattle.image.specs.declared.ImageResult.the-variants.{Sound}
+
+-- ---- a sound image
+
+-- an image of this next id, with so many tasks, this S_LEN and so many bytes of instructions
+pub record Tested (bytes : List ℕ) (next-id count len instructions : ℕ) : Type 0 where
+  pub image : Image
+  pub read : read-image bytes ≡ sound image
+  pub next-id-is : image .next-id ≡ next-id
+  pub count-is : length (image .tasks) ≡ count
+  pub s-len-is : s-len (image .tasks) ≡ len
+  pub bytes-are : instruction-bytes (image .tasks) ≡ instructions
+
+-- the answer `Sound` tells of such an image
+pub tested-sound : (bytes : List ℕ) (next-id count len instructions : ℕ) → Sound next-id count len instructions ≡ tested (read-image bytes) → Tested bytes next-id count len instructions
+unfolding tested
+tested-sound bytes next-id count len instructions e = by (read-image bytes) refl e
+  where
+    by : (r : Read Image) → read-image bytes ≡ r → Sound next-id count len instructions ≡ tested r → Tested bytes next-id count len instructions
+    by (sound image) q j = record { image = image; read = q; next-id-is = cc; count-is = cc; s-len-is = cc; bytes-are = cc }
+    by (bad-at place) q j = absurd (let z : _≡_ {A = ℕ} 0 1 = cc in omega arith)
+
+-- S_LEN is at most the next id
+pub s-len-most : {next-id low : ℕ} {tasks : List ImageTask} → Rising next-id low tasks → s-len tasks ≤ next-id
+unfolding s-len
+s-len-most none = omega arith
+s-len-most (more fine r) = omega (arith, fine .below, s-len-most r)
+
+-- there are at most as many tasks as S_LEN
+pub s-len-least : {next-id low : ℕ} {tasks : List ImageTask} → Rising next-id low tasks → low + length tasks ≤ max low (s-len tasks)
+unfolding s-len
+s-len-least none = omega arith
+s-len-least (more fine r) = omega (arith, fine .rising, s-len-least r)
+
+-- ---- a bad one
+
+-- why an image is bad, and where: no right kind 1 first; a record cut or against a rule; else the count
+pub data Bad (bytes : List ℕ) : ℕ → Type 0 where
+  bad-header : (Head bytes → ⊥) → Bad bytes 0
+  bad-record : {place : ℕ} → Head bytes → Breaks (next-id-in bytes) 0 14 (drop 14 bytes) place → Bad bytes place
+  bad-count : {tasks : List ImageTask} → Head bytes → read-from (length bytes) (next-id-in bytes) 0 14 (drop 14 bytes) ≡ sound tasks → (length tasks ≡ task-count bytes → ⊥) → Bad bytes 0
+
+-- document 01: the place in 25 is the start of the first record that is cut or breaks a rule; a wrong next id and a wrong count are at 0
+pub bad-image : (bytes : List ℕ) (place : ℕ) → Bytes bytes → 0 < length bytes → read-image bytes ≡ bad-at place → Bad bytes place
+unfolding counted
+bad-image bytes place b some e = by-head (headed bytes) refl (sym (read-some bytes some) ∙ e)
+  where
+    rest : Read (List ImageTask)
+    rest = read-from (length bytes) (next-id-in bytes) 0 14 (drop 14 bytes)
+
+    here : 0 ≡ place → Bad bytes 0 → Bad bytes place
+    here n w = subst (λ (k : ℕ). Bad bytes k) n w
+
+    by-count : (tasks : List ImageTask) (c : Bool) → eqb (length tasks) (task-count bytes) ≡ c → rest ≡ sound tasks → Head bytes → cond {A = Read Image} c (sound (record { next-id = next-id-in bytes; tasks = tasks })) (bad-at 0) ≡ bad-at place → Bad bytes place
+    by-count tasks true c q h j = absurd (let z : _≡_ {A = ℕ} 0 1 = cc in omega arith)
+    by-count tasks false c q h j = let n : 0 ≡ place = cc in here n (bad-count h q (eqb-false (length tasks) (task-count bytes) c))
+
+    by-found : (r : Read (List ImageTask)) → rest ≡ r → Head bytes → counted (next-id-in bytes) (task-count bytes) r ≡ bad-at place → Bad bytes place
+    by-found (sound tasks) q h j = by-count tasks (eqb (length tasks) (task-count bytes)) refl q h j
+    by-found (bad-at p) q h j =
+        let n : p ≡ place = cc in
+        bad-record h (bad-place (length bytes) (next-id-in bytes) 0 14 place (drop 14 bytes) (bytes-drop 14 b) (omega (arith, length-drop 14 bytes)) (q ∙ ap bad-at n))
+
+    by-head : (c : Bool) → headed bytes ≡ c → cond c (counted (next-id-in bytes) (task-count bytes) rest) (bad-at 0) ≡ bad-at place → Bad bytes place
+    by-head true g j = by-found rest refl (headed-head bytes g) j
+    by-head false g j = let n : 0 ≡ place = cc in here n (bad-header (λ h. clash (head-headed h) g))
