@@ -1,0 +1,112 @@
+-- 196,608 bytes hold the line of every value whose part has at most 65,535 bytes.
+use Prim.Native.Nat.{ℕ, zero, suc, _+_, _*_, _/_, _%_, _^_, _≤_, _<_}
+use mathlib.Core.Bool.{Bool, true, false}
+use mathlib.Core.List.{List, [], _∷_, _++_}
+use mathlib.Core.Path.{_≡_, refl, ap, _∙_}
+use native.Mathlib.Omega.{arith}
+use lib.Dec.{ltb}
+use lib.ListN.{length, getD, length-append}
+use borrow.Author.Tests.{ltb-true, ltb-false}
+use Rattle.errors.specs.Refusals.{number-of}
+use Rattle.errors.specs.declared.Refusal.{Refusal}
+use Rattle.errors.specs.declared.Refusal.the-variants as refusal
+use Rattle.text.specs.Ascii.{ascii}
+use Rattle.text.specs.Numbers.{digit, decimal, hex, spaced, words, shown, numbers-left, filled}
+use Rattle.text.specs.Lines.{formed, line, said}
+use Rattle.text.proofs.Decimals.{decimal-one, decimal-more}
+use Rattle.text.proofs.Hexes.{hex-length}
+use Rattle.unbox.specs.declared.Return.{Return}
+use Rattle.unbox.specs.declared.Return.the-variants.{U32, Boolean, String, CallData, VecU32, Null, NoReturn}
+use Rattle.listing.specs.Listing.{line-of-bool, line-of-numbers, line-of-value}
+
+-- a number below a power of ten has no more digits
+few-digits : (k n : ℕ) (one : Bool) → ltb n 10 ≡ one → n < 10 ^ suc k → length (decimal n) ≤ suc k
+few-digits zero n true test small = omega (arith, ap length (decimal-one n (ltb-true n 10 test)))
+few-digits zero n false test small = absurd (omega (arith, ltb-false n 10 test))
+few-digits (suc k) n true test small = omega (arith, ap length (decimal-one n (ltb-true n 10 test)))
+few-digits (suc k) n false test small =
+    let long : 10 ≤ n = ltb-false n 10 test in
+    let first : length (decimal (n / 10)) ≤ suc k = few-digits k (n / 10) (ltb (n / 10) 10) refl (omega arith) in
+    omega (arith, ap length (decimal-more n long) ∙ length-append (decimal (n / 10)) (digit (n % 10) ∷ []))
+
+-- a number of 32 bits has at most 10 digits
+ten-digits : (n : ℕ) → n < 4294967296 → length (decimal n) ≤ 10
+ten-digits n small = few-digits 9 n (ltb n 10) refl (omega arith)
+
+-- a number and its space take at most 11 bytes for 4
+spaced-short : (part : List ℕ) → ((i : ℕ) → getD part i 0 < 256) → length (spaced (words part)) * 4 ≤ 11 * length part
+unfolding spaced words
+spaced-short [] byte = omega arith
+spaced-short (a ∷ []) byte = omega arith
+spaced-short (a ∷ b ∷ []) byte = omega arith
+spaced-short (a ∷ b ∷ c ∷ []) byte = omega arith
+spaced-short (a ∷ b ∷ c ∷ d ∷ more) byte =
+    let rest : length (spaced (words more)) * 4 ≤ 11 * length more = spaced-short more (λ i. byte (suc (suc (suc (suc i))))) in
+    let few : length (decimal (a + 256 * b + 65536 * c + 16777216 * d)) ≤ 10 = ten-digits (a + 256 * b + 65536 * c + 16777216 * d) (omega (arith, byte 0, byte 1, byte 2, byte 3)) in
+    omega (arith, length-append (decimal (a + 256 * b + 65536 * c + 16777216 * d)) (spaced (words more)))
+
+-- `vec ` and numbers take no more than their spaces and digits, and 5
+numbers-length : (numbers : List ℕ) → length (line-of-numbers numbers) ≤ 5 + length (spaced numbers)
+unfolding line-of-numbers spaced ascii
+numbers-length [] = omega arith
+numbers-length (n ∷ more) = omega (arith, length-append (decimal n ++ spaced more) (10 ∷ []))
+
+-- every number of a refusal has two digits at most
+two-digits : (r : Refusal) → number-of r < 100
+two-digits refusal.EmptyInstructions = omega arith
+two-digits refusal.UnexpectedEOB = omega arith
+two-digits refusal.StackUnderflow = omega arith
+two-digits refusal.StackOverflow = omega arith
+two-digits refusal.InvalidType = omega arith
+two-digits refusal.TypeMismatch = omega arith
+two-digits refusal.MultiplicationOverflowed = omega arith
+two-digits refusal.MaxStatesError = omega arith
+two-digits (refusal.TaskNotFound id) = omega arith
+two-digits (refusal.InvalidTaskField field) = omega arith
+two-digits (refusal.InvalidStatus state) = omega arith
+two-digits (refusal.InvalidInstructionsIndex index) = omega arith
+two-digits refusal.MSliceParamOverflow = omega arith
+two-digits (refusal.MSliceOutOfBounds index size) = omega arith
+two-digits refusal.BytesToStringConversionError = omega arith
+two-digits refusal.AlignmentMismatch = omega arith
+two-digits refusal.SliceSizeMismatch = omega arith
+two-digits refusal.TableFull = omega arith
+two-digits refusal.TitleTooLong = omega arith
+two-digits refusal.PoolFull = omega arith
+two-digits refusal.MemoryTooShort = omega arith
+two-digits refusal.SaveBufferTooShort = omega arith
+two-digits (refusal.BadImage place) = omega arith
+two-digits refusal.WrongPhaseOrUnsound = omega arith
+two-digits (refusal.NotAdmitted place) = omega arith
+two-digits refusal.ProgramTooLong = omega arith
+
+-- a line of one number of 32 bits, behind its word
+one-number : (n : ℕ) → n < 4294967296 → length (decimal n ++ [] ++ 10 ∷ []) ≤ 11
+one-number n small = omega (arith, ten-digits n small, length-append (decimal n ++ []) (10 ∷ []), length-append (decimal n) [])
+
+-- a number that was read has 32 bits
+unfoldable pub number-fits : Return → Type 0
+number-fits (U32 n) = n < 4294967296
+number-fits (Boolean truth) = Unit
+number-fits (String pointer) = Unit
+number-fits (CallData entry) = Unit
+number-fits (VecU32 pointer) = Unit
+number-fits Null = Unit
+number-fits (NoReturn r) = Unit
+
+bool-short : (truth : Bool) → length (line-of-bool truth) ≤ 196608
+unfolding line-of-bool said line formed filled shown numbers-left ascii
+bool-short true = omega arith
+bool-short false = omega arith
+
+-- the line of a value fits into 196,608 bytes
+pub longest : (kind : Return) (part : List ℕ) → number-fits kind → length part ≤ 65535 → ((i : ℕ) → getD part i 0 < 256)
+    → length (line-of-value kind part) ≤ 196608
+unfolding number-fits line-of-value said line formed filled shown numbers-left ascii
+longest (U32 n) part fits few byte = omega (arith, one-number n fits)
+longest (Boolean truth) part fits few byte = bool-short truth
+longest (String pointer) part fits few byte = omega (arith, length-append part (10 ∷ []))
+longest (CallData entry) part fits few byte = omega (arith, length-append (hex part) (10 ∷ []), hex-length part)
+longest (VecU32 pointer) part fits few byte = omega (arith, numbers-length (words part), spaced-short part byte)
+longest Null part fits few byte = omega arith
+longest (NoReturn r) part fits few byte = omega (arith, one-number (number-of r) (omega (arith, two-digits r)))

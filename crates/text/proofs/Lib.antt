@@ -1,0 +1,6 @@
+pub mod Decimals
+pub mod Fronts
+pub mod Loops
+pub mod Hexes
+pub mod Rooms
+pub mod Joined
