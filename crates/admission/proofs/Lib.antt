@@ -1,0 +1,6 @@
+pub mod Stacks
+pub mod Exchanges
+pub mod OpenLoops
+pub mod Turns
+pub mod Landings
+pub mod Ending

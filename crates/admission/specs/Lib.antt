@@ -1,0 +1,5 @@
+pub mod Nodes
+pub mod Sweep
+pub mod Noted
+pub mod Jumps
+pub mod Answer

@@ -1,0 +1,5 @@
+pub mod Comparison
+pub mod Ways
+pub mod Exactly
+pub mod Refused
+pub mod Cases

@@ -1,0 +1,4 @@
+pub mod Elements
+pub mod Labels
+pub mod Check
+pub mod Faults
