@@ -23,7 +23,7 @@ pub struct Tasked {
 }
 
 // The field that an instruction names, with the task's id below it, and the height without them.
-enum FieldResult {
+pub enum FieldResult {
     Field { field: u32, height: usize },
     NoField(Refusal),
 }
