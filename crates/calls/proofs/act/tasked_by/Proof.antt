@@ -1,0 +1,19 @@
+-- `calls::act::tasked_by` meets its contract.
+use borrow.Author.Needs.{needs}
+use Rattle.calls.specs.Act.{tasked-by}
+use Rattle.calls.proofs.act.tasked_by.Statement.{statement}
+use Rattle.calls.proofs.act.tasked_by.Tie as tie
+use Rattle.calls.proofs.act.tasked_by.Reads as reads
+use Rattle.calls.proofs.act.tasked_by.Lts as lts
+use Rattle.calls.proofs.act.went_by.Reads as went-by-reads
+
+went-by-requires : tie.Need-went-by-requires
+went-by-requires c κs = search needs
+
+returns : tie.Need-returns
+unfolding tasked-by
+returns c =
+    simp (← c .went-by .ensures)
+
+pub tasked-by-spec : {M : Type 1} → statement M
+tasked-by-spec = tie.close (tie.spec went-by-requires returns)

@@ -1,0 +1,30 @@
+-- `calls::advance::onward` meets its contract.
+use Rattle.calls.specs.Advance.{onward}
+use borrow.Author.Needs.{needs}
+use Rattle.calls.proofs.advance.onward.Statement.{statement}
+use Rattle.calls.proofs.advance.onward.Tie as tie
+use Rattle.calls.proofs.advance.onward.Reads as reads
+use Rattle.calls.proofs.advance.onward.Lts as lts
+use Rattle.calls.proofs.advance.advance.Reads as advance-reads
+
+advance-requires : tie.Need-advance-requires
+advance-requires c κs = search needs
+
+same-length : tie.Need-same-length
+same-length c = search needs
+
+same-length-2 : tie.Need-same-length-2
+same-length-2 c = search needs
+
+returns : tie.Need-returns
+unfolding onward
+returns c =
+    simp (← c .before .before .before .before .advance .ensures, c .before .before .before .before .before .before .before .before .before .if1 .taken)
+
+returns-2 : tie.Need-returns-2
+unfolding onward
+returns-2 c =
+    simp (c .if1 .left)
+
+pub onward-spec : {M : Type 1} → statement M
+onward-spec = tie.close (tie.spec advance-requires same-length same-length-2 returns returns-2)

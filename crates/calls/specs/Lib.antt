@@ -1,0 +1,5 @@
+pub mod Machines
+pub mod Frames
+pub mod Act
+pub mod Advance
+pub mod Turns

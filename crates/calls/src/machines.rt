@@ -1,0 +1,71 @@
+// The machine's record: its current frame, its code, its registers.
+ghost use mathlib.Core.Path.{_≡_};
+ghost use Rattle.calls.specs.Machines.{current, with-current, code-of, registers-of, settled};
+use core::Machine;
+use inlinevec::Frame;
+use inlinevec::Frames;
+use opcodes::Registers;
+
+// The frame that runs.
+pub(crate) fn current(frames: Frames) -> Frame
+    ensures { λ r. ⌜ r ≡ current frames ⌝ }
+{
+    if frames.count == 1 {
+        return frames.main;
+    }
+    frames.task
+}
+
+// The frames with another one that runs.
+pub(crate) fn with_current(frames: Frames, frame: Frame) -> Frames
+    ensures { λ r. ⌜ r ≡ with-current frames frame ⌝ }
+{
+    let mut changed = frames;
+    if frames.count == 1 {
+        changed.main = frame;
+        return changed;
+    }
+    changed.task = frame;
+    changed
+}
+
+// The code that runs.
+pub(crate) fn code_of<'a>(pool: &'a [u8], ends: &[u32; 1024], machine: Machine) -> &'a [u8]
+    ensures { λ r. ⌜ now r ≡ code-of (now (pool .entry)) (now (ends .entry)) machine ⌝ }
+{
+    let frame = current(machine.frames);
+    pools::get(pool, ends, frame.entry)
+}
+
+// What most opcodes change, taken out of the machine.
+pub(crate) fn registers_of(machine: Machine) -> Registers
+    ensures { λ r. ⌜ r ≡ registers-of machine ⌝ }
+{
+    let frame = current(machine.frames);
+    let loops = machine.loops;
+    Registers {
+        place: frame.place,
+        height: machine.height,
+        loops,
+        memory: machine.memory,
+    }
+}
+
+// And put back.
+pub(crate) fn settled(machine: Machine, registers: Registers) -> Machine
+    ensures { λ r. ⌜ r ≡ settled machine registers ⌝ }
+{
+    let frame = current(machine.frames);
+    let entry = frame.entry;
+    let placed = Frame {
+        entry,
+        place: registers.place,
+    };
+    let loops = registers.loops;
+    let mut after = machine;
+    after.height = registers.height;
+    after.loops = loops;
+    after.frames = with_current(machine.frames, placed);
+    after.memory = registers.memory;
+    after
+}
