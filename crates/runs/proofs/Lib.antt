@@ -1,0 +1,5 @@
+pub mod Settled
+pub mod Runs
+pub mod Values
+pub mod Fields
+pub mod Turns

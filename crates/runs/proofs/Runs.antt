@@ -1,0 +1,278 @@
+-- How a machine on its way gets to the end of its run, a turn at a time.
+use Prim.Native.Nat.{ℕ, zero, suc, _+_, _-_, _*_, _<_, _≤_}
+use mathlib.Core.Bool.{Bool, true, false, cond}
+use mathlib.Core.List.{List}
+use mathlib.Core.Path.{_≡_, refl, sym, ap, _∙_, subst}
+use native.Mathlib.Omega.{arith}
+use lib.Dec.{eqb, ltb, leb}
+use lib.ListN.{length, getD}
+use borrow.Author.Tests.{ltb-true, ltb-false, le-leb, lt-leb}
+use Rattle.errors.specs.declared.Refusal.{Refusal}
+use Rattle.storage.specs.declared.Task.{Task}
+use Rattle.storage.specs.Tasks.{blank}
+use Rattle.opcodes.specs.Registers.{OnMemory, on-memory}
+use Rattle.opcodes.specs.declared.Registers.{Registers}
+use Rattle.opcodes.specs.declared.Did.{Did}
+use Rattle.opcodes.specs.declared.Did.the-variants.{Next, Refused}
+use Rattle.image.specs.Table.{SavedTable, saved-table, Measured, measured, refused as not-measured, saved-as, save-table}
+use Rattle.image.specs.declared.SaveResult.the-variants.{Saved, NotSaved}
+use Rattle.tasks.specs.Changes.{applied}
+use Rattle.core.specs.Execute.{instruct}
+use Rattle.core.specs.Steps.{Halted, is-outer, halted, onward, turn as core-turn, steps}
+use Rattle.core.specs.declared.Machine.{Machine}
+use Rattle.core.specs.declared.Halt.the-variants as halt
+use Rattle.calls.specs.Machines.{current, code-of, registers-of, settled}
+use Rattle.calls.specs.Act.{op-at}
+use Rattle.calls.specs.Advance.{GoneOn, ended as outcome-at, at-hand, wanted, halted-at, after-steps, advance, onward as calls-onward}
+use Rattle.calls.specs.Turns.{turned, save-went, saved}
+use Rattle.calls.specs.Act.{OnAll}
+use Rattle.calls.specs.declared.Outcome.the-variants as outcomes
+use Rattle.refusals.proofs.Either.{either}
+use Rattle.refusals.proofs.Acts as acts-law
+use Rattle.refusals.proofs.Acts.{act-leaves}
+use Rattle.refusals.proofs.Memory.{Leaves, finished, kept}
+use Rattle.refusals.proofs.Instruction.{instruct-leaves}
+use Rattle.runs.specs.World.{World, world, at-end}
+use Rattle.runs.specs.Step.{Stepped, next, refused, outer, inner, inner-did, acts-went, acts, saves-went, saves, step}
+use Rattle.runs.specs.Run.{End, end-at, follow, run}
+use Rattle.runs.specs.Going.{Going, going, beside, after-act, act-turn, after-save, save-turn, from-acting, from-saving, turn, begins, goes-on}
+use Rattle.runs.proofs.Settled.{on-bool, registers-settled, code-settled, place-settled, settled-twice, settled-same, op-settled, count-settled}
+
+-- the machine with everything lent to it
+abbrev pub world-of : Going → World
+world-of g = world (g .gone .machine) (g .table) (g .stack) (g .memory) (g .pool) (g .ends) (g .save)
+
+-- where it ends
+unfoldable pub finishes : Going → End
+finishes g =
+    cond (g .gone .running)
+    (follow (λ v. run (g .gone .left - 1) v) (world-of g) (g .gone .left) (outer (world-of g) (g .gone .saves) (g .gone .slot)))
+    (end-at (world-of g) (g .gone .left) (g .gone .outcome))
+
+-- the turns that may still come
+abbrev pub turns-left : Going → ℕ
+turns-left g = g .gone .left * 2 + cond (g .gone .running) 1 0
+
+past : (a b : ℕ) → ltb a b ≡ true → leb b a ≡ false
+past a b t = lt-leb b a (ltb-true a b t)
+
+before : (a b : ℕ) → ltb a b ≡ false → leb b a ≡ true
+before a b t = le-leb b a (ltb-false a b t)
+
+never : false ≡ true → ⊥
+never e = let z : _≡_ {A = ℕ} 0 1 = ap (λ (b : Bool). cond {A = ℕ} b 1 0) e in omega arith
+
+one-less : (n : ℕ) → suc n - 1 ≡ n
+one-less n = omega arith
+
+-- the run of a code from its registers on, as a run of the machine that they are put back into
+module _ (machine : Machine) (table : List Task) (pool ends save : List ℕ) where
+  abbrev code : List ℕ
+  code = code-of pool ends machine
+
+  abbrev at : Registers → List ℕ → List ℕ → World
+  at registers stack memory = world (settled machine registers) table stack memory pool ends save
+
+  abbrev goes : Halted → Going
+  goes h = beside (after-steps pool ends machine h) table save
+
+  abbrev Claim : ℕ → Registers → List ℕ → List ℕ → Type 0
+  Claim fuel registers stack memory = finishes (goes (steps fuel stack memory code registers (machine .count))) ≡ run fuel (at registers stack memory)
+
+  at-the-end : (fuel : ℕ) (registers : Registers) (stack memory : List ℕ) → ltb (registers .place) (length code) ≡ false → Claim fuel registers stack memory
+  unfolding finishes after-steps halted-at steps run at-end
+  at-the-end zero registers stack memory t = simp (code-settled, place-settled, t, before (registers .place) (length code) t)
+  at-the-end (suc fuel) registers stack memory t = simp (code-settled, place-settled, t, before (registers .place) (length code) t)
+
+  no-fuel : (registers : Registers) (stack memory : List ℕ) → ltb (registers .place) (length code) ≡ true → Claim zero registers stack memory
+  unfolding finishes after-steps halted-at steps run at-end
+  no-fuel registers stack memory t = simp (code-settled, place-settled, t, past (registers .place) (length code) t)
+
+  at-outer : (fuel : ℕ) (registers : Registers) (stack memory : List ℕ) → ltb (registers .place) (length code) ≡ true → is-outer (getD code (registers .place) 0) ≡ true → Claim (suc fuel) registers stack memory
+  unfolding finishes after-steps halted-at steps core-turn run at-end step
+  at-outer fuel registers stack memory t o = simp (code-settled, place-settled, op-settled, t, past (registers .place) (length code) t, o, one-less)
+
+  -- an instruction that is finished
+  runs-on : (fuel : ℕ) (registers reached : Registers) (stack memory s m : List ℕ) → ltb (registers .place) (length code) ≡ true → is-outer (getD code (registers .place) 0) ≡ false
+      → on-memory (Next reached) s m ≡ instruct stack memory code registers (machine .count) → run (suc fuel) (at registers stack memory) ≡ run fuel (at reached s m)
+  unfolding run at-end step inner inner-did follow
+  runs-on fuel registers reached stack memory s m t o e =
+      simp (code-settled, place-settled, registers-settled, op-settled, count-settled, settled-twice, past (registers .place) (length code) t, o, ← e)
+
+  steps-on : (fuel : ℕ) (registers reached : Registers) (stack memory s m : List ℕ) → ltb (registers .place) (length code) ≡ true → is-outer (getD code (registers .place) 0) ≡ false
+      → on-memory (Next reached) s m ≡ instruct stack memory code registers (machine .count) → steps (suc fuel) stack memory code registers (machine .count) ≡ steps fuel s m code reached (machine .count)
+  unfolding steps core-turn onward
+  steps-on fuel registers reached stack memory s m t o e = simp (t, o, ← e)
+
+  -- one that is refused
+  runs-not : (fuel : ℕ) (registers : Registers) (stack memory : List ℕ) (refusal : Refusal) → ltb (registers .place) (length code) ≡ true → is-outer (getD code (registers .place) 0) ≡ false
+      → on-memory (Refused refusal) stack memory ≡ instruct stack memory code registers (machine .count) → Claim (suc fuel) registers stack memory
+  unfolding finishes after-steps halted-at steps core-turn onward run at-end step inner inner-did follow
+  runs-not fuel registers stack memory refusal t o e =
+      simp (code-settled, place-settled, registers-settled, op-settled, count-settled, t, past (registers .place) (length code) t, o, ← e)
+
+  at-inner : (fuel : ℕ) (registers : Registers) (stack memory : List ℕ) → ((r : Registers) (s m : List ℕ) → Claim fuel r s m)
+      → ltb (registers .place) (length code) ≡ true → is-outer (getD code (registers .place) 0) ≡ false
+      → (a : OnMemory) → Leaves stack memory a → a ≡ instruct stack memory code registers (machine .count) → Claim (suc fuel) registers stack memory
+  at-inner fuel registers stack memory others t o _ (finished reached s m) e =
+      ap (λ (h : Halted). finishes (goes h)) (steps-on fuel registers reached stack memory s m t o e) ∙ others reached s m ∙ sym (runs-on fuel registers reached stack memory s m t o e)
+  at-inner fuel registers stack memory others t o _ (kept refusal) e = runs-not fuel registers stack memory refusal t o e
+
+  claim : (fuel : ℕ) (registers : Registers) (stack memory : List ℕ) → Claim fuel registers stack memory
+  claim zero registers stack memory =
+      on-bool (ltb (registers .place) (length code)) (no-fuel registers stack memory) (at-the-end zero registers stack memory)
+  claim (suc fuel) registers stack memory =
+      on-bool (ltb (registers .place) (length code))
+      (λ t. on-bool (is-outer (getD code (registers .place) 0)) (at-outer fuel registers stack memory t)
+      (λ o. at-inner fuel registers stack memory (claim fuel) t o _ (instruct-leaves stack memory code registers (machine .count)) refl))
+      (at-the-end (suc fuel) registers stack memory)
+
+-- a run begins
+pub begun : (fuel : ℕ) (w : World) → finishes (begins fuel w) ≡ run fuel w
+unfolding begins advance
+begun fuel w =
+    claim (w .machine) (w .table) (w .pool) (w .ends) (w .save) fuel (registers-of (w .machine)) (w .stack) (w .memory)
+    ∙ ap (λ (m : Machine). run fuel (world m (w .table) (w .stack) (w .memory) (w .pool) (w .ends) (w .save))) (settled-same (w .machine))
+
+-- ---- fuel
+
+-- steps that halt have no more fuel than before, and some where an instruction is at hand
+data Spare (fuel : ℕ) : Halted → Type 0 where
+  ends : (left : ℕ) (r : Registers) (s m : List ℕ) → left ≤ fuel → Spare fuel (halted halt.AtEnd left r s m)
+  pauses : (left : ℕ) (r : Registers) (s m : List ℕ) → left ≤ fuel → Spare fuel (halted halt.OutOfFuel left r s m)
+  refuses : (refusal : Refusal) (left : ℕ) (r : Registers) (s m : List ℕ) → left ≤ fuel → Spare fuel (halted (halt.Refused refusal) left r s m)
+  waits : (left : ℕ) (r : Registers) (s m : List ℕ) → left ≤ fuel → 0 < left → Spare fuel (halted halt.Outer left r s m)
+
+more : (fuel : ℕ) (h : Halted) → Spare fuel h → Spare (suc fuel) h
+more fuel _ (ends left r s m less) = ends left r s m (omega arith)
+more fuel _ (pauses left r s m less) = pauses left r s m (omega arith)
+more fuel _ (refuses refusal left r s m less) = refuses refusal left r s m (omega arith)
+more fuel _ (waits left r s m less some) = waits left r s m (omega arith) some
+
+module _ (code : List ℕ) (count : ℕ) where
+  onward-spare : (fuel : ℕ) → ((s m : List ℕ) (r : Registers) → Spare fuel (steps fuel s m code r count)) → (registers : Registers) (s m : List ℕ) (did : Did)
+      → Spare (suc fuel) (onward (λ s m r. steps fuel s m code r count) (suc fuel) registers s m did)
+  unfolding onward
+  onward-spare fuel others registers s m (Next reached) = more fuel _ (others s m reached)
+  onward-spare fuel others registers s m (Refused refusal) = refuses refusal (suc fuel) registers s m (omega arith)
+
+  spare : (fuel : ℕ) (s m : List ℕ) (r : Registers) → Spare fuel (steps fuel s m code r count)
+  unfolding steps core-turn
+  spare zero s m r = either (Spare 0) (ltb (r .place) (length code)) _ _ (pauses 0 r s m (omega arith)) (ends 0 r s m (omega arith))
+  spare (suc fuel) s m r =
+      either (Spare (suc fuel)) (ltb (r .place) (length code)) _ _
+      (either (Spare (suc fuel)) (is-outer (getD code (r .place) 0)) _ _ (waits (suc fuel) r s m (omega arith) (omega arith))
+      (onward-spare fuel (spare fuel) r _ _ _))
+      (ends (suc fuel) r s m (omega arith))
+
+-- of the machine that they are put back into
+left-falls : (fuel : ℕ) (s pool e : List ℕ) (machine : Machine) (h : Halted) → Spare fuel h → halted-at s pool e machine (h .at .left) (h .at .halt) .left ≤ fuel
+unfolding halted-at
+left-falls fuel s pool e machine _ (ends left r _ m less) = less
+left-falls fuel s pool e machine _ (pauses left r _ m less) = less
+left-falls fuel s pool e machine _ (refuses refusal left r _ m less) = less
+left-falls fuel s pool e machine _ (waits left r _ m less some) = less
+
+waits-fueled : (fuel : ℕ) (s pool e : List ℕ) (machine : Machine) (h : Halted) → Spare fuel h → halted-at s pool e machine (h .at .left) (h .at .halt) .running ≡ true → 0 < halted-at s pool e machine (h .at .left) (h .at .halt) .left
+unfolding halted-at
+waits-fueled fuel s pool e machine _ (ends left r _ m less) running = absurd (never running)
+waits-fueled fuel s pool e machine _ (pauses left r _ m less) running = absurd (never running)
+waits-fueled fuel s pool e machine _ (refuses refusal left r _ m less) running = absurd (never running)
+waits-fueled fuel s pool e machine _ (waits left r _ m less some) running = some
+
+-- an instruction at hand has fuel
+pub fueled : (fuel : ℕ) (w : World) → begins fuel w .gone .running ≡ true → 0 < begins fuel w .gone .left
+unfolding begins advance after-steps
+fueled fuel w running = waits-fueled fuel _ _ _ _ _ (spare _ _ fuel _ _ _) running
+
+begins-left : (fuel : ℕ) (w : World) → begins fuel w .gone .left ≤ fuel
+unfolding begins advance after-steps
+begins-left fuel w = left-falls fuel _ _ _ _ _ (spare _ _ fuel _ _ _)
+
+-- ---- a turn
+
+-- where the machine goes on after an instruction that was finished, or stays after one that was refused
+data Turns (g : Going) : Going → Stepped → Type 0 where
+  on : (machine : Machine) (table : List Task) (s m p e save : List ℕ) → Turns g (going (at-hand machine (g .gone .left - 1) false 0) table s m p e save) (next (world machine table s m p e save))
+  stays : (refusal : Refusal) → Turns g (going (outcome-at (g .gone .machine) (g .gone .left) (outcomes.Refused refusal)) (g .table) (g .stack) (g .memory) (g .pool) (g .ends) (g .save)) (refused refusal)
+
+acts-turns : (g : Going) (a : OnAll) → acts-law.Leaves (g .stack) (g .memory) (g .pool) (g .ends) (getD (g .table) (g .gone .slot) blank) a
+    → Turns g (from-acting (after-act (g .gone) (g .table) a) (g .save)) (acts-went (world-of g) (g .gone .slot) a (a .acted .went))
+unfolding turned acts-went applied
+acts-turns g _ (acts-law.finished machine change s m p e) = on machine _ s m p e (g .save)
+acts-turns g _ (acts-law.kept refusal) = stays refusal
+
+pub data Saves (save : List ℕ) : SavedTable → Type 0 where
+  has-saved : (length : ℕ) (after : List ℕ) → Saves save (saved-table (Saved length) after)
+  not-saved : (refusal : Refusal) → Saves save (saved-table (NotSaved refusal) save)
+
+saved-leaves : (next-id : ℕ) (table : List Task) (pool e save : List ℕ) (m : Measured) → Saves save (saved-as next-id table pool e save m)
+unfolding saved-as
+saved-leaves next-id table pool e save (not-measured refusal) = not-saved refusal
+saved-leaves next-id table pool e save (measured size count) = either (Saves save) (leb size (length save)) _ _ (has-saved _ _) (not-saved _)
+
+pub save-leaves : (next-id : ℕ) (table : List Task) (pool e : List ℕ) (entries : ℕ) (save : List ℕ) → Saves save (save-table next-id table pool e entries save)
+unfolding save-table
+save-leaves next-id table pool e entries save = saved-leaves next-id table pool e save _
+
+saves-turns : (g : Going) (a : SavedTable) → Saves (g .save) a
+    → Turns g (from-saving (after-save (g .gone) (g .table) (g .pool) (g .ends) a) (g .stack) (g .memory)) (saves-went (world-of g) (a .save) (save-went (g .gone .machine) (a .answer)))
+unfolding saved turned save-went saves-went
+saves-turns g _ (has-saved length after) = on _ (g .table) (g .stack) (g .memory) (g .pool) (g .ends) after
+saves-turns g _ (not-saved refusal) = stays refusal
+
+turns-by : (g : Going) (b : Bool)
+    → Turns g (cond b (from-saving (save-turn (g .table) (g .pool) (g .ends) (g .save) (g .gone)) (g .stack) (g .memory)) (from-acting (act-turn (g .table) (g .stack) (g .memory) (g .pool) (g .ends) (g .gone)) (g .save)))
+    (outer (world-of g) b (g .gone .slot))
+unfolding outer saves acts save-turn act-turn
+turns-by g true = saves-turns g _ (save-leaves _ (g .table) (g .pool) (g .ends) _ (g .save))
+turns-by g false = acts-turns g _ (act-leaves (g .stack) (g .memory) (g .pool) (g .ends) (g .gone .machine) _)
+
+turns : (g : Going) → Turns g (turn g) (outer (world-of g) (g .gone .saves) (g .gone .slot))
+unfolding turn
+turns g = turns-by g (g .gone .saves)
+
+at-work : (g : Going) → g .gone .running ≡ true
+    → finishes g ≡ follow (λ v. run (g .gone .left - 1) v) (world-of g) (g .gone .left) (outer (world-of g) (g .gone .saves) (g .gone .slot))
+unfolding finishes
+at-work g running = simp (running)
+
+goes-to : (g h : Going) (stepped : Stepped) → Turns g h stepped → finishes (goes-on h) ≡ follow (λ v. run (g .gone .left - 1) v) (world-of g) (g .gone .left) stepped
+unfolding goes-on calls-onward follow begins finishes
+goes-to g _ _ (on machine table s m p e save) = begun (g .gone .left - 1) (world machine table s m p e save)
+goes-to g _ _ (stays refusal) = refl
+
+-- a turn, and the code after it
+pub turned-on : (g : Going) → g .gone .running ≡ true → finishes (goes-on (turn g)) ≡ finishes g
+turned-on g running = goes-to g _ _ (turns g) ∙ sym (at-work g running)
+
+fueled-after : (g h : Going) (stepped : Stepped) → Turns g h stepped → goes-on h .gone .running ≡ true → 0 < goes-on h .gone .left
+unfolding goes-on calls-onward begins
+fueled-after g _ _ (on machine table s m p e save) running = fueled (g .gone .left - 1) (world machine table s m p e save) running
+fueled-after g _ _ (stays refusal) running = absurd (never running)
+
+pub still-fueled : (g : Going) → goes-on (turn g) .gone .running ≡ true → 0 < goes-on (turn g) .gone .left
+still-fueled g running = fueled-after g _ _ (turns g) running
+
+one-at-most : (b : Bool) → cond b 1 0 ≤ 1
+one-at-most true = omega arith
+one-at-most false = omega arith
+
+fewer-after : (g h : Going) (stepped : Stepped) → Turns g h stepped → g .gone .running ≡ true → 0 < g .gone .left → turns-left (goes-on h) < turns-left g
+unfolding goes-on calls-onward begins
+fewer-after g _ _ (on machine table s m p e save) running some =
+    let less = begins-left (g .gone .left - 1) (world machine table s m p e save) in
+    let one = one-at-most (begins (g .gone .left - 1) (world machine table s m p e save) .gone .running) in
+    let here : _≡_ {A = ℕ} (cond (g .gone .running) 1 0) 1 = ap (λ (b : Bool). cond {A = ℕ} b 1 0) running in
+    omega (arith, less, one, here, some)
+fewer-after g _ _ (stays refusal) running some =
+    let here : _≡_ {A = ℕ} (cond (g .gone .running) 1 0) 1 = ap (λ (b : Bool). cond {A = ℕ} b 1 0) running in
+    omega (arith, here)
+
+pub fewer : (g : Going) → g .gone .running ≡ true → 0 < g .gone .left → turns-left (goes-on (turn g)) < turns-left g
+fewer g running some = fewer-after g _ _ (turns g) running some
+
+-- at its outcome
+pub ended : (g : Going) → g .gone .running ≡ false → finishes g ≡ end-at (world-of g) (g .gone .left) (g .gone .outcome)
+unfolding finishes
+ended g running = simp (running)

@@ -1,0 +1,94 @@
+-- A machine on its way, and everything lent to it.
+use Prim.Native.Nat.{ℕ}
+use mathlib.Core.Bool.{cond}
+use mathlib.Core.List.{List}
+use lib.ListN.{getD}
+use Rattle.storage.specs.declared.Task.{Task}
+use Rattle.storage.specs.Tasks.{blank}
+use Rattle.tasks.specs.Changes.{applied}
+use Rattle.image.specs.Table.{SavedTable, save-table}
+use Rattle.calls.specs.Act.{OnAll, act}
+use Rattle.calls.specs.Advance.{GoneOn, advance, onward}
+use Rattle.calls.specs.Turns.{turned, saved}
+use Rattle.calls.specs.declared.Gone.{Gone}
+use Rattle.runs.specs.World.{World, world}
+
+-- the machine, then what is lent, in the order of each call
+pub record Going : Type 0 where
+  pub gone : Gone
+  pub table : List Task
+  pub stack : List ℕ
+  pub memory : List ℕ
+  pub pool : List ℕ
+  pub ends : List ℕ
+  pub save : List ℕ
+
+-- these seven together
+abbrev pub going : Gone → List Task → List ℕ → List ℕ → List ℕ → List ℕ → List ℕ → Going
+going gone table stack memory pool ends save =
+    record { gone = gone; table = table; stack = stack; memory = memory; pool = pool; ends = ends; save = save }
+
+-- ---- an instruction on the record of the slot it names
+
+-- without the save buffer
+pub record Acting : Type 0 where
+  pub gone : Gone
+  pub table : List Task
+  pub stack : List ℕ
+  pub memory : List ℕ
+  pub pool : List ℕ
+  pub ends : List ℕ
+
+abbrev pub acting : Gone → List Task → List ℕ → List ℕ → List ℕ → List ℕ → Acting
+acting gone table stack memory pool ends = record { gone = gone; table = table; stack = stack; memory = memory; pool = pool; ends = ends }
+
+abbrev pub after-act : Gone → List Task → OnAll → Acting
+after-act gone table after =
+    acting (turned (gone .machine) (gone .left) (after .acted .went)) (applied table (gone .slot) (after .acted .change)) (after .stack) (after .memory) (after .pool) (after .ends)
+
+unfoldable pub act-turn : List Task → List ℕ → List ℕ → List ℕ → List ℕ → Gone → Acting
+act-turn table stack memory pool ends gone = after-act gone table (act stack memory pool ends (gone .machine) (getD table (gone .slot) blank))
+
+-- ---- S_SAVE
+
+-- without the stack and memory
+pub record Saving : Type 0 where
+  pub gone : Gone
+  pub table : List Task
+  pub pool : List ℕ
+  pub ends : List ℕ
+  pub save : List ℕ
+
+abbrev pub saving : Gone → List Task → List ℕ → List ℕ → List ℕ → Saving
+saving gone table pool ends save = record { gone = gone; table = table; pool = pool; ends = ends; save = save }
+
+abbrev pub after-save : Gone → List Task → List ℕ → List ℕ → SavedTable → Saving
+after-save gone table pool ends after = saving (saved (gone .machine) (gone .left) (after .answer)) table pool ends (after .save)
+
+unfoldable pub save-turn : List Task → List ℕ → List ℕ → List ℕ → Gone → Saving
+save-turn table pool ends save gone =
+    after-save gone table pool ends (save-table (gone .machine .«next_id») table pool ends (gone .machine .entries) save)
+
+-- ---- a turn
+
+abbrev pub from-acting : Acting → List ℕ → Going
+from-acting a save = going (a .gone) (a .table) (a .stack) (a .memory) (a .pool) (a .ends) save
+
+abbrev pub from-saving : Saving → List ℕ → List ℕ → Going
+from-saving s stack memory = going (s .gone) (s .table) stack memory (s .pool) (s .ends) (s .save)
+
+-- the instruction at hand
+unfoldable pub turn : Going → Going
+turn g =
+    cond (g .gone .saves) (from-saving (save-turn (g .table) (g .pool) (g .ends) (g .save) (g .gone)) (g .stack) (g .memory))
+    (from-acting (act-turn (g .table) (g .stack) (g .memory) (g .pool) (g .ends) (g .gone)) (g .save))
+
+-- the run of the current code, with the table and the save buffer beside it
+abbrev pub beside : GoneOn → List Task → List ℕ → Going
+beside a table save = going (a .gone) table (a .stack) (a .memory) (a .pool) (a .ends) save
+
+unfoldable pub begins : ℕ → World → Going
+begins fuel w = beside (advance (w .stack) (w .memory) (w .pool) (w .ends) (w .machine) fuel) (w .table) (w .save)
+
+unfoldable pub goes-on : Going → Going
+goes-on g = beside (onward (g .stack) (g .memory) (g .pool) (g .ends) (g .gone)) (g .table) (g .save)

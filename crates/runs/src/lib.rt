@@ -1,0 +1,108 @@
+// The run of a machine over everything lent to it: the functions that carry the lent table of tasks from instruction to instruction.
+ghost use mathlib.Core.Path.{_≡_};
+ghost use Rattle.tasks.specs.Changes.{applied};
+ghost use Rattle.runs.specs.World.{world};
+ghost use Rattle.runs.specs.Going.{going, acting, act-turn, saving, save-turn, turn};
+ghost use Rattle.runs.specs.Run.{ran-to, run};
+use calls::Gone;
+use calls::Ran;
+use calls::act::act;
+use calls::advance::advance;
+use calls::advance::onward;
+use calls::turns;
+use core::Machine;
+use storage::Task;
+use storage::table;
+use tasks::Change;
+
+// What an instruction changes in the slot that it names.
+fn apply(table: &mut [Task], slot: usize, change: Change)
+    ensures { λ _. ⌜ now (table .exit) ≡ applied (now (table .entry)) slot change ⌝ }
+{
+    if change.puts {
+        table::put(table, slot, change.task);
+        return;
+    }
+    if change.states {
+        let answer = table::set_state_at(table, slot, change.state);
+        return;
+    }
+}
+
+// The instruction at hand, on the record of the slot it names.
+fn act_turn(
+    table: &mut [Task],
+    stack: &mut [u64; 1000],
+    memory: &mut [u8],
+    pool: &mut [u8],
+    ends: &mut [u32; 1024],
+    gone: Gone,
+) -> Gone
+    ensures { λ r. ⌜ acting r (now (table .exit)) (now (stack .exit)) (now (memory .exit)) (now (pool .exit)) (now (ends .exit)) ≡ act-turn (now (table .entry)) (now (stack .entry)) (now (memory .entry)) (now (pool .entry)) (now (ends .entry)) gone ⌝ }
+{
+    let task = table::get(table, gone.slot);
+    let acted = act(stack, memory, pool, ends, gone.machine, task);
+    apply(table, gone.slot, acted.change);
+    turns::turned(gone.machine, gone.left, acted.went)
+}
+
+// S_SAVE, at hand.
+fn save_turn(
+    table: &mut [Task],
+    pool: &mut [u8],
+    ends: &mut [u32; 1024],
+    save: &mut [u8],
+    gone: Gone,
+) -> Gone
+    ensures { λ r. ⌜ saving r (now (table .exit)) (now (pool .exit)) (now (ends .exit)) (now (save .exit)) ≡ save-turn (now (table .entry)) (now (pool .entry)) (now (ends .entry)) (now (save .entry)) gone ⌝ }
+{
+    let result = tables::save_table(
+        table,
+        pool,
+        ends,
+        save,
+        gone.machine.entries,
+        gone.machine.next_id,
+    );
+    turns::saved(gone.machine, gone.left, result)
+}
+
+// The instruction at hand.
+fn turn(
+    table: &mut [Task],
+    stack: &mut [u64; 1000],
+    memory: &mut [u8],
+    pool: &mut [u8],
+    ends: &mut [u32; 1024],
+    save: &mut [u8],
+    gone: Gone,
+) -> Gone
+    ensures { λ r. ⌜ going r (now (table .exit)) (now (stack .exit)) (now (memory .exit)) (now (pool .exit)) (now (ends .exit)) (now (save .exit)) ≡ turn (going gone (now (table .entry)) (now (stack .entry)) (now (memory .entry)) (now (pool .entry)) (now (ends .entry)) (now (save .entry))) ⌝ }
+{
+    if gone.saves {
+        return save_turn(table, pool, ends, save, gone);
+    }
+    act_turn(table, stack, memory, pool, ends, gone)
+}
+
+// The run: at most so many instructions.
+pub fn drive(
+    table: &mut [Task],
+    stack: &mut [u64; 1000],
+    memory: &mut [u8],
+    pool: &mut [u8],
+    ends: &mut [u32; 1024],
+    save: &mut [u8],
+    machine: Machine,
+    fuel: u64,
+) -> Ran
+    ensures { λ r. ⌜ ran-to r (now (table .exit)) (now (stack .exit)) (now (memory .exit)) (now (pool .exit)) (now (ends .exit)) (now (save .exit)) ≡ run fuel (world machine (now (table .entry)) (now (stack .entry)) (now (memory .entry)) (now (pool .entry)) (now (ends .entry)) (now (save .entry))) ⌝ }
+{
+    let mut gone = advance(stack, memory, pool, ends, machine, fuel);
+    while gone.running {
+        gone = turn(table, stack, memory, pool, ends, save, gone);
+        let next = onward(stack, memory, pool, ends, gone);
+        gone = next;
+    }
+    turns::ran(gone)
+}
