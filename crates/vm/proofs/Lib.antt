@@ -1,0 +1,4 @@
+pub mod Measured
+pub mod Values
+pub mod Fields
+pub mod Answers

@@ -1,0 +1,4 @@
+pub mod Sound
+pub mod Calls
+pub mod Reads
+pub mod Creation
