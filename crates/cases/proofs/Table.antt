@@ -1,0 +1,158 @@
+-- The cases of document 01, C1 to C12, as one table: each program run by its definition, each answer computed.
+use Prim.Native.Nat.{ℕ}
+use mathlib.Core.Bool.{Bool, true, false}
+use mathlib.Core.List.{List, [], _∷_, _++_}
+use mathlib.Core.Path.{_≡_, refl}
+use lib.ListN.{length, replicate, take, getD}
+use Rattle.errors.specs.declared.Refusal.the-variants.{UnexpectedEOB, TypeMismatch, MultiplicationOverflowed, MaxStatesError, MSliceOutOfBounds}
+use Rattle.calls.specs.declared.Outcome.{Outcome}
+use Rattle.calls.specs.declared.Outcome.the-variants.{Done, Refused}
+use Rattle.core.specs.declared.Machine.{Machine}
+use Rattle.core.specs.declared.Phase.the-variants.{New}
+use Rattle.storage.specs.Tasks.{blank}
+use Rattle.values.specs.Values.{to-u32-val, to-vec-val, to-bool-val, value-eq}
+use Rattle.values.specs.declared.ValueResult.the-variants.{Value}
+use Rattle.image.specs.Image.{sound, read-image}
+use Rattle.roundtrips.proofs.Cases.{I1, Ab, I1-loads}
+use Rattle.runs.specs.World.{World, world}
+use Rattle.runs.specs.Run.{End, run}
+use Rattle.bytecode.specs.Opcodes as bytecode-opcodes
+use Rattle.bytecode.specs.Operands as bytecode-operands
+use Rattle.inlinevec.specs.Stacks as inlinevec-stacks
+use Rattle.values.specs.Values as values-values
+use Rattle.memory.specs.Allocation as memory-allocation
+use Rattle.memory.specs.Change as memory-change
+use Rattle.memory.specs.Reads as memory-reads
+use Rattle.pools.specs.Pool as pools-pool
+use Rattle.opcodes.specs.Stack as opcodes-stack
+use Rattle.opcodes.specs.Control as opcodes-control
+use Rattle.opcodes.specs.Equality as opcodes-equality
+use Rattle.opcodes.specs.Store as opcodes-store
+use Rattle.core.specs.Cut as core-cut
+use Rattle.core.specs.Operated as core-operated
+use Rattle.core.specs.Execute as core-execute
+use Rattle.core.specs.Steps as core-steps
+use Rattle.tasks.specs.Changes as tasks-changes
+use Rattle.tasks.specs.Titles as tasks-titles
+use Rattle.tasks.specs.Create as tasks-create
+use Rattle.tasks.specs.Fields as tasks-fields
+use Rattle.storage.specs.Tasks as storage-tasks
+use Rattle.storage.specs.Storage as storage-storage
+use Rattle.storage.specs.Table as storage-table
+use Rattle.calls.specs.Machines as calls-machines
+use Rattle.calls.specs.Frames as calls-frames
+use Rattle.calls.specs.Act as calls-act
+use Rattle.calls.specs.Advance as calls-advance
+use Rattle.calls.specs.Turns as calls-turns
+use Rattle.runs.specs.World as runs-world
+use Rattle.runs.specs.Step as runs-step
+use Rattle.runs.specs.Run as runs-run
+use Rattle.slices.specs.Same as slices-same
+
+-- a machine for a program and no tasks, lent 64 bytes of memory
+abbrev fresh : List ℕ → World
+fresh program =
+    world (record {
+      phase = New;
+      height = 0;
+      loops = record { count = 0; outer = record { place = 0; index = 0; limit = 0 }; inner = record { place = 0; index = 0; limit = 0 } };
+      frames = record { count = 1; main = record { entry = record { 0 = 0 }; place = 0 }; task = record { entry = record { 0 = 0 }; place = 0 } };
+      memory = 0;
+      pool = length program;
+      entries = 1;
+      «next_id» = 0;
+      count = 0;
+      saved = 0;
+    }) (replicate 256 blank) (replicate 1000 0) (replicate 64 0) (program ++ replicate 16 0) (length program ∷ replicate 1023 0) []
+
+-- the end of a run of it
+abbrev after : List ℕ → End
+after program = run 100 (fresh program)
+
+-- 01 00000000 01 00000005 0e 01 00000063 0f
+abbrev C1 : List ℕ
+C1 = 0x01 ∷ 0x00 ∷ 0x00 ∷ 0x00 ∷ 0x00 ∷ 0x01 ∷ 0x00 ∷ 0x00 ∷ 0x00 ∷ 0x05 ∷ 0x0e ∷ 0x01 ∷ 0x00 ∷ 0x00 ∷ 0x00 ∷ 0x63 ∷ 0x0f ∷ []
+
+-- 1b 0001 04 01 611b 0006 06 0001 00000000 01 00000007 1d
+abbrev C5-0 : List ℕ
+C5-0 = 0x1b ∷ 0x00 ∷ 0x01 ∷ 0x04 ∷ 0x01 ∷ 0x61 ∷ 0x1b ∷ 0x00 ∷ 0x06 ∷ 0x06 ∷ 0x00 ∷ 0x01 ∷ 0x00 ∷ 0x00 ∷ 0x00 ∷ 0x00 ∷ 0x01 ∷ 0x00 ∷ 0x00 ∷ 0x00 ∷ 0x07 ∷ 0x1d ∷ []
+
+-- 1b 0001 04 01 611b 0006 06 0001 00000001 01 00000007 1d
+abbrev C5-1 : List ℕ
+C5-1 = 0x1b ∷ 0x00 ∷ 0x01 ∷ 0x04 ∷ 0x01 ∷ 0x61 ∷ 0x1b ∷ 0x00 ∷ 0x06 ∷ 0x06 ∷ 0x00 ∷ 0x01 ∷ 0x00 ∷ 0x00 ∷ 0x00 ∷ 0x01 ∷ 0x01 ∷ 0x00 ∷ 0x00 ∷ 0x00 ∷ 0x07 ∷ 0x1d ∷ []
+
+-- 1b 0001 04 01 611b 0006 06 0001 40000000 01 00000007 1d
+abbrev C6 : List ℕ
+C6 = 0x1b ∷ 0x00 ∷ 0x01 ∷ 0x04 ∷ 0x01 ∷ 0x61 ∷ 0x1b ∷ 0x00 ∷ 0x06 ∷ 0x06 ∷ 0x00 ∷ 0x01 ∷ 0x40 ∷ 0x00 ∷ 0x00 ∷ 0x00 ∷ 0x01 ∷ 0x00 ∷ 0x00 ∷ 0x00 ∷ 0x07 ∷ 0x1d ∷ []
+
+-- 1b 0000 04 01 01 000000ff 04 0000 07
+abbrev C7-255 : List ℕ
+C7-255 = 0x1b ∷ 0x00 ∷ 0x00 ∷ 0x04 ∷ 0x01 ∷ 0x01 ∷ 0x00 ∷ 0x00 ∷ 0x00 ∷ 0xff ∷ 0x04 ∷ 0x00 ∷ 0x00 ∷ 0x07 ∷ []
+
+-- 1b 0000 04 01 01 00000100 04 0000 07
+abbrev C7-256 : List ℕ
+C7-256 = 0x1b ∷ 0x00 ∷ 0x00 ∷ 0x04 ∷ 0x01 ∷ 0x01 ∷ 0x00 ∷ 0x00 ∷ 0x01 ∷ 0x00 ∷ 0x04 ∷ 0x00 ∷ 0x00 ∷ 0x07 ∷ []
+
+-- 1b 0000 04 01 01 00000101 04 0000 07
+abbrev C8 : List ℕ
+C8 = 0x1b ∷ 0x00 ∷ 0x00 ∷ 0x04 ∷ 0x01 ∷ 0x01 ∷ 0x00 ∷ 0x00 ∷ 0x01 ∷ 0x01 ∷ 0x04 ∷ 0x00 ∷ 0x00 ∷ 0x07 ∷ []
+
+-- 01 0000ffff 1e 00010001
+abbrev C9-stands : List ℕ
+C9-stands = 0x01 ∷ 0x00 ∷ 0x00 ∷ 0xff ∷ 0xff ∷ 0x1e ∷ 0x00 ∷ 0x01 ∷ 0x00 ∷ 0x01 ∷ []
+
+-- 01 00010000 1e 00010000
+abbrev C9-7 : List ℕ
+C9-7 = 0x01 ∷ 0x00 ∷ 0x01 ∷ 0x00 ∷ 0x00 ∷ 0x1e ∷ 0x00 ∷ 0x01 ∷ 0x00 ∷ 0x00 ∷ []
+
+-- 01 00
+abbrev C10 : List ℕ
+C10 = 0x01 ∷ 0x00 ∷ []
+
+-- 01 00000001 01 00000001 16 01 00000001 01 00000002 16 16
+abbrev C11 : List ℕ
+C11 = 0x01 ∷ 0x00 ∷ 0x00 ∷ 0x00 ∷ 0x01 ∷ 0x01 ∷ 0x00 ∷ 0x00 ∷ 0x00 ∷ 0x01 ∷ 0x16 ∷ 0x01 ∷ 0x00 ∷ 0x00 ∷ 0x00 ∷ 0x01 ∷ 0x01 ∷ 0x00 ∷ 0x00 ∷ 0x00 ∷ 0x02 ∷ 0x16 ∷ 0x16 ∷ []
+
+-- the table
+pub record Cases : Type 0 where
+  -- one value, 99, after five instructions
+  pub c1 : (after C1 .outcome ≡ Done) × ((after C1 .world .machine .height ≡ 1) × ((getD (after C1 .world .stack) 0 0 ≡ to-u32-val 99) × (after C1 .left ≡ 95)))
+  -- 99 boxed
+  pub c2 : to-u32-val 99 ≡ 0x7FFC0000018C0006
+  -- numbers at 4, size 6
+  pub c3 : to-vec-val 4 6 6 ≡ Value 0xFFFC000008000C06
+  -- number 512 on the left equals C3
+  pub c4 : value-eq (to-u32-val 512) 0xFFFC000008000C06 ≡ Value (to-bool-val true)
+  -- M_MUTA on C3: index 0 works, 1 gives 14
+  pub c5 : (after C5-0 .outcome ≡ Done) × ((getD (after C5-0 .world .stack) 1 0 ≡ 0xFFFC000008000C06) × (after C5-1 .outcome ≡ Refused (MSliceOutOfBounds 4 6)))
+  -- index 1,073,741,824 gives 14
+  pub c6 : after C6 .outcome ≡ Refused (MSliceOutOfBounds 0 6)
+  -- 255 states stand, 256 gives 8
+  pub c7 : (after C7-255 .outcome ≡ Done) × ((getD (after C7-255 .world .table) 0 blank .state .len ≡ 255) × (after C7-256 .outcome ≡ Refused MaxStatesError))
+  -- 257 makes 1 state
+  pub c8 : (after C8 .outcome ≡ Done) × (getD (after C8 .world .table) 0 blank .state .len ≡ 1)
+  -- 65,535 times 65,537 stands, 65,536 times 65,536 gives 7
+  pub c9 : (after C9-stands .outcome ≡ Done) × ((getD (after C9-stands .world .stack) 0 0 ≡ to-u32-val 4294967295) × (after C9-7 .outcome ≡ Refused MultiplicationOverflowed))
+  -- code `01 00` gives 2
+  pub c10 : after C10 .outcome ≡ Refused UnexpectedEOB
+  -- TRUE EQ FALSE gives 6
+  pub c11 : after C11 .outcome ≡ Refused TypeMismatch
+  -- image I1 loads
+  pub c12 : read-image I1 ≡ sound Ab
+
+pub cases : Cases
+unfolding bytecode-opcodes.operand-size bytecode-operands.big-endian bytecode-operands.operand bytecode-operands.data-size bytecode-operands.behind bytecode-operands.extent bytecode-operands.behind-by bytecode-operands.extent-by inlinevec-stacks.if-room inlinevec-stacks.if-some inlinevec-stacks.push inlinevec-stacks.pop inlinevec-stacks.last inlinevec-stacks.values-of inlinevec-stacks.push-two inlinevec-stacks.last-two inlinevec-stacks.pop-two inlinevec-stacks.change-two inlinevec-stacks.two-of inlinevec-stacks.push-loop inlinevec-stacks.pop-loop inlinevec-stacks.last-loop inlinevec-stacks.push-frame inlinevec-stacks.pop-frame inlinevec-stacks.last-frame inlinevec-stacks.change-last-frame values-values.make-scalar-tagged values-values.make-vec-tagged values-values.to-vec-val values-values.to-bool-val values-values.is-qnan values-values.is-scalar values-values.is-vec values-values.raw-tag values-values.tag-of values-values.is-u32-val values-values.to-u32 values-values.fat-pointer values-values.to-fat-pointer values-values.bool-not values-values.product values-values.mul-checked values-values.mul-checked-i values-values.alike values-values.value-eq values-values.turned values-values.value-neq values-values.value-cmp values-values.vec-type values-values.scalar-type values-values.get-value-type memory-allocation.offset-aligned memory-allocation.is-element-tag memory-allocation.vector memory-allocation.filling memory-allocation.stored memory-allocation.alloc memory-change.element-size-bytes memory-change.scaled memory-change.little-endian memory-change.inside memory-change.changed memory-change.mut-vec memory-reads.is-m-slice-eq memory-reads.get-slice-as-str memory-reads.get-slice-as-u32 pools-pool.end-of pools-pool.start-of pools-pool.bounds pools-pool.entry-of pools-pool.entries-of pools-pool.has-room pools-pool.interned pools-pool.part-in-use pools-pool.never-fall pools-pool.end-to-end opcodes-stack.pop-second opcodes-stack.pop-first opcodes-stack.pop-two opcodes-stack.pushed-to opcodes-stack.push-value opcodes-stack.finish opcodes-stack.op-push opcodes-stack.on-two opcodes-stack.op-mul opcodes-stack.op-compare opcodes-stack.on-one opcodes-stack.op-muli opcodes-stack.dup-last opcodes-stack.op-dup opcodes-stack.swapped opcodes-stack.op-swap opcodes-stack.dropped opcodes-stack.op-drop opcodes-control.opened-to opcodes-control.do-two opcodes-control.op-do opcodes-control.looped opcodes-control.op-loop opcodes-control.index-of opcodes-control.op-loop-index opcodes-control.jumped opcodes-control.op-jump-if-false opcodes-equality.eq-right opcodes-equality.eq-left opcodes-equality.eq-vectors opcodes-equality.eq-tagged opcodes-equality.eq-right-tag opcodes-equality.eq-left-tag opcodes-equality.eq-values opcodes-equality.turned-if opcodes-equality.op-eq opcodes-store.full-by opcodes-store.full opcodes-store.placed opcodes-store.store opcodes-store.sized opcodes-store.op-m-st opcodes-store.mut-in-use opcodes-store.mutated opcodes-store.mutate-at opcodes-store.mutate opcodes-store.mutate-last opcodes-store.mutate-two opcodes-store.op-m-muta core-cut.cut-value core-cut.cut-muli core-cut.cut-size core-cut.cut-m-st core-cut.cut-skip core-cut.cut-jump core-cut.cut core-operated.with-operand core-operated.push-u32 core-operated.push-u8 core-operated.muli core-operated.jump-if-false core-operated.m-st core-operated.payload-of core-operated.m-sti-of core-operated.m-sti core-execute.plain core-execute.operated core-execute.is-equality core-execute.execute core-execute.by-extent core-execute.instruct core-steps.is-outer core-steps.onward core-steps.turn core-steps.steps tasks-changes.applied tasks-titles.within tasks-titles.title-bytes tasks-create.with-room tasks-create.if-within tasks-create.new tasks-create.if-vector tasks-create.with-title tasks-create.titled tasks-create.with-state tasks-create.with-two tasks-create.op-t-create tasks-create.delete-found tasks-create.delete-popped tasks-create.op-t-delete tasks-fields.if-found tasks-fields.owner-popped tasks-fields.owner tasks-fields.field-popped tasks-fields.field-of tasks-fields.get-field tasks-fields.get-found tasks-fields.op-t-get-field tasks-fields.title-within tasks-fields.set-title tasks-fields.title-vector tasks-fields.state-answered tasks-fields.set-state tasks-fields.set-instructions tasks-fields.set-field tasks-fields.set-popped tasks-fields.set-found tasks-fields.op-t-set-field storage-tasks.no-title storage-tasks.blank storage-tasks.default-state storage-tasks.with-state storage-tasks.title-of storage-tasks.new-task storage-tasks.set-state storage-storage.slot-of storage-storage.find storage-storage.room storage-storage.len-after storage-table.set-state-at storage-table.lives storage-table.living-of storage-table.sound-slot storage-table.sound-slots storage-table.sound-counts storage-table.sound-table calls-machines.current calls-machines.with-current calls-machines.code-of calls-machines.registers-of calls-machines.settled calls-frames.intern-sized calls-frames.intern-calldata calls-frames.with-entry calls-frames.calldata-pushed calls-frames.push-calldata calls-frames.framed calls-frames.enter-bounded calls-frames.enter calls-frames.call-popped calls-frames.op-call calls-frames.left-frame calls-frames.op-end-call calls-act.went-by calls-act.created calls-act.tasked-by calls-act.created-by calls-act.on-task calls-act.on-frames calls-act.op-at calls-act.act-by calls-act.act-at calls-act.act calls-advance.named-by calls-advance.named calls-advance.wanted calls-advance.halted-at calls-advance.after-steps calls-advance.advance calls-advance.onward calls-turns.turned calls-turns.save-went calls-turns.saved calls-turns.rewound runs-world.at-end runs-step.inner-did runs-step.inner runs-step.acts-went runs-step.acts runs-step.saves-went runs-step.saves runs-step.outer runs-step.step runs-run.follow runs-run.run slices-same.same
+cases = record {
+  c1 = (refl, (refl, (refl, refl)));
+  c2 = refl;
+  c3 = refl;
+  c4 = refl;
+  c5 = (refl, (refl, refl));
+  c6 = refl;
+  c7 = (refl, (refl, refl));
+  c8 = (refl, refl);
+  c9 = (refl, (refl, refl));
+  c10 = refl;
+  c11 = refl;
+  c12 = I1-loads;
+}

@@ -1,0 +1,1 @@
+// The cases of document 01, C1 to C12, proved together as one table. No function.
