@@ -21,7 +21,7 @@ sound-frames frames entries =
     cond (eqb (frames .count) 1) (names (frames .main) entries)
     (cond (eqb (frames .count) 2) (names (frames .main) entries && names (frames .task) entries) false)
 
--- a length above its capacity or its buffer
+-- no length is above its capacity or its buffer
 unfoldable pub sound-lengths : ℕ → ℕ → ℕ → Machine → Bool
 sound-lengths memory pool save machine =
     cond (ltb 1000 (machine .height)) false
