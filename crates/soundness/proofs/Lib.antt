@@ -1,0 +1,17 @@
+pub mod Either
+pub mod Values
+pub mod Stack
+pub mod Memory
+pub mod Instruction
+pub mod Parts
+pub mod Frames
+pub mod Pool
+pub mod Tables
+pub mod Tasks
+pub mod Acts
+pub mod Saves
+pub mod Step
+pub mod Runs
+pub mod Calls
+pub mod Loading
+pub mod Creation

@@ -1,0 +1,1 @@
+// Theorems only: what a step, a run and a call keep sound.
