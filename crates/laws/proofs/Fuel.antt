@@ -24,7 +24,7 @@ goes-on (suc n) b w v (onto _ _ u _ inside s way) =
     ap (λ (k : ℕ). run k w) (one-more n b) ∙ steps-to (n + b) w inside ∙ ap (follow (λ v. run (n + b) v) w (suc (n + b))) s ∙ goes-on n b u v way
 
 -- an outcome as a number
-outcome-number : Outcome → ℕ
+unfoldable pub outcome-number : Outcome → ℕ
 outcome-number Done = 0
 outcome-number Paused = 1
 outcome-number (Refused refusal) = 2

@@ -1,2 +1,5 @@
 pub mod Finished
 pub mod Fuel
+pub mod Phases
+pub mod Calls
+pub mod Living

@@ -1,0 +1,144 @@
+-- Fuel over two calls: a call that pauses and a continue after it are one call with the fuel of both.
+use Prim.Native.Nat.{ℕ, _+_, _≤_}
+use mathlib.Core.Bool.{Bool, true, false}
+use mathlib.Core.Path.{_≡_, refl, sym, ap, _∙_, subst}
+use native.Mathlib.Omega.{arith}
+use Rattle.core.specs.declared.Machine.{Machine}
+use Rattle.core.specs.declared.Phase.{Phase}
+use Rattle.core.specs.declared.Phase.the-variants as phase
+use Rattle.calls.specs.Machines.{registers-of, settled}
+use Rattle.calls.specs.Turns.{rewound}
+use Rattle.calls.specs.declared.Outcome.{Outcome}
+use Rattle.calls.specs.declared.Outcome.the-variants.{Done, Paused, Refused}
+use Rattle.runs.specs.World.{World, world}
+use Rattle.runs.specs.Run.{End, end-at, run}
+use Rattle.vm.specs.Calls.{may-continue, allowed, phased, ended, report, not-allowed, Reported, reports, at-end, with-machine, is-sound, call-with, call, start, go-on}
+use Rattle.vm.specs.declared.Allowed.{Allowed}
+use Rattle.soundness.specs.Sound.{Sound}
+use Rattle.soundness.specs.After.{world-after}
+use Rattle.soundness.proofs.Calls.{call-sound}
+use Rattle.laws.proofs.Finished.{Ends, is-done, is-paused, is-refused, finished}
+use Rattle.laws.proofs.Fuel.{outcome-number, fuel}
+use Rattle.laws.proofs.Phases.{rephased, end-as, run-phase}
+
+-- a second call ends as a whole one does, and the finished instructions of both are those of the whole one
+pub record Together (first second whole : Reported) : Type 0 where
+  pub same-world : world-after second ≡ world-after whole
+  pub same-outcome : second .report .outcome ≡ whole .report .outcome
+  pub added : first .report .finished + second .report .finished ≡ whole .report .finished
+
+-- ---- the end of a run
+
+-- a run that pauses has no fuel left
+paused-end : (n : ℕ) (w : World) (e : End) → Ends n w e → e .outcome ≡ Paused → e ≡ end-at (e .world) 0 Paused
+unfolding outcome-number
+paused-end n w _ (is-done k left v sum way over) e = absurd (let z : _≡_ {A = ℕ} 0 1 = ap outcome-number e in omega arith)
+paused-end n w _ (is-paused v way over) e = refl
+paused-end n w _ (is-refused k left v refusal sum way over refuses) e = absurd (let z : _≡_ {A = ℕ} 2 1 = ap outcome-number e in omega arith)
+
+-- no run leaves more fuel than it had
+left-below : (n : ℕ) (w : World) (e : End) → Ends n w e → e .left ≤ n
+left-below n w _ (is-done k left v sum way over) = omega (arith, sum)
+left-below n w _ (is-paused v way over) = omega arith
+left-below n w _ (is-refused k left v refusal sum way over refuses) = omega (arith, sum)
+
+-- the phase before the end plays no part in the phase after it
+ended-phase : (machine : Machine) (before : Phase) (outcome : Outcome) → ended (phased machine before) outcome ≡ ended machine outcome
+unfolding ended rewound settled registers-of
+ended-phase machine before Done = refl
+ended-phase machine before Paused = refl
+ended-phase machine before (Refused refusal) = refl
+
+-- a run after a pause, and the whole run
+continued : (a b : ℕ) (v : World) → Together (at-end a (end-at v 0 Paused)) (at-end b (end-as phase.Paused (run b v))) (at-end (a + b) (run b v))
+unfolding report
+continued a b v =
+    let e = run b v in
+    let l : e .left ≤ b = left-below b v (run b v) (finished b v) in
+    record {
+      same-world = ap (λ (machine : Machine). with-machine (e .world) machine) (ended-phase (e .world .machine) phase.Paused (e .outcome));
+      same-outcome = refl;
+      added = omega (arith, l);
+    }
+
+-- ---- the calls
+
+-- a continue on a paused machine that is sound
+go-on-is : (b : ℕ) (v : World) → is-sound (rephased phase.Paused v) ≡ true → go-on b (rephased phase.Paused v) ≡ at-end b (run b (rephased phase.Paused v))
+unfolding call call-with allowed may-continue
+go-on-is b v test = ap (λ (t : Bool). call-with b (rephased phase.Paused v) (allowed (phased (v .machine) phase.Paused) t false)) test
+
+-- what a paused run leaves is that machine
+left-paused : (a : ℕ) (v : World) → world-after (at-end a (end-at v 0 Paused)) ≡ rephased phase.Paused v
+unfolding report ended
+left-paused a v = refl
+
+module _ (starts : Bool) (w : World) where
+  abbrev allows : Allowed
+  allows = allowed (w .machine) (is-sound w) starts
+
+  -- the world that the call's run begins with
+  abbrev begins : World
+  begins = with-machine w (allows .machine)
+
+  allowed-is : (n : ℕ) → allows .allowed ≡ true → call starts n w ≡ at-end n (run n begins)
+  unfolding call call-with
+  allowed-is n yes-it-is = simp yes-it-is
+
+  refused-is : (n : ℕ) → allows .allowed ≡ false → call starts n w ≡ reports (not-allowed (w .machine)) w
+  unfolding call call-with
+  refused-is n no-it-is-not = simp no-it-is-not
+
+  -- a call that pauses was allowed
+  was-allowed : (n : ℕ) (b : Bool) → allows .allowed ≡ b → call starts n w .report .outcome ≡ Paused → allows .allowed ≡ true
+  unfolding outcome-number
+  was-allowed n true e paused = e
+  was-allowed n false e paused =
+      absurd (let z : _≡_ {A = ℕ} 2 1 = ap (λ (r : Reported). outcome-number (r .report .outcome)) (sym (refused-is n e)) ∙ ap outcome-number paused in omega arith)
+
+  run-outcome : (n : ℕ) → at-end n (run n begins) .report .outcome ≡ run n begins .outcome
+  unfolding report
+  run-outcome n = refl
+
+  module _ (sound : Sound w) (a b : ℕ) (paused : call starts a w .report .outcome ≡ Paused) where
+    allowance : allows .allowed ≡ true
+    allowance = was-allowed a (allows .allowed) refl paused
+
+    -- where the first run pauses
+    abbrev there : World
+    there = run a begins .world
+
+    run-pauses : run a begins ≡ end-at there 0 Paused
+    run-pauses =
+        paused-end a begins (run a begins) (finished a begins)
+        (sym (run-outcome a) ∙ ap (λ (r : Reported). r .report .outcome) (sym (allowed-is a allowance)) ∙ paused)
+
+    first-is : call starts a w ≡ at-end a (end-at there 0 Paused)
+    first-is = allowed-is a allowance ∙ ap (at-end a) run-pauses
+
+    left-is : world-after (call starts a w) ≡ rephased phase.Paused there
+    left-is = ap world-after first-is ∙ left-paused a there
+
+    still-sound : is-sound (rephased phase.Paused there) ≡ true
+    still-sound = subst (λ (v : World). is-sound v ≡ true) left-is (call-sound starts a w sound .tested)
+
+    second-is : go-on b (world-after (call starts a w)) ≡ at-end b (end-as phase.Paused (run b there))
+    second-is = ap (go-on b) left-is ∙ go-on-is b there still-sound ∙ ap (at-end b) (run-phase phase.Paused b there)
+
+    whole-is : call starts (a + b) w ≡ at-end (a + b) (run b there)
+    whole-is = allowed-is (a + b) allowance ∙ ap (at-end (a + b)) (fuel a b begins there run-pauses)
+
+    -- a call with fuel a that pauses, and a continue with fuel b after it, are one call with fuel a + b
+    pub fuel-of-calls : Together (call starts a w) (go-on b (world-after (call starts a w))) (call starts (a + b) w)
+    fuel-of-calls =
+        subst (λ (r : Reported). Together r (go-on b (world-after (call starts a w))) (call starts (a + b) w)) (sym first-is)
+        (subst (λ (r : Reported). Together (at-end a (end-at there 0 Paused)) r (call starts (a + b) w)) (sym second-is)
+        (subst (λ (r : Reported). Together (at-end a (end-at there 0 Paused)) (at-end b (end-as phase.Paused (run b there))) r) (sym whole-is) (continued a b there)))
+
+-- a start that pauses, then a continue
+pub start-then-go-on : (a b : ℕ) (w : World) → Sound w → start a w .report .outcome ≡ Paused → Together (start a w) (go-on b (world-after (start a w))) (start (a + b) w)
+start-then-go-on a b w sound paused = fuel-of-calls true w sound a b paused
+
+-- a continue that pauses, then another
+pub go-on-then-go-on : (a b : ℕ) (w : World) → Sound w → go-on a w .report .outcome ≡ Paused → Together (go-on a w) (go-on b (world-after (go-on a w))) (go-on (a + b) w)
+go-on-then-go-on a b w sound paused = fuel-of-calls false w sound a b paused

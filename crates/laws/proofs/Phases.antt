@@ -1,0 +1,245 @@
+-- The phase plays no part in an instruction or a run.
+use Prim.Native.Nat.{ℕ, zero, suc}
+use mathlib.Core.Bool.{Bool, true, false, cond}
+use mathlib.Core.List.{List}
+use mathlib.Core.Path.{_≡_, refl, ap, _∙_}
+use lib.Dec.{eqb, leb}
+use lib.ListN.{length, getD}
+use Rattle.bytecode.specs.Opcodes.{PUSH-CALLDATA, T-CREATE, T-GET-FIELD, T-SET-FIELD, T-DELETE, S-SAVE, CALL, END-CALL}
+use Rattle.bytecode.specs.Operands.{extent}
+use Rattle.bytecode.specs.declared.Extent.{Extent}
+use Rattle.bytecode.specs.declared.Extent.the-variants.{Next, Cut}
+use Rattle.bytecode.specs.declared.OperandResult.{OperandResult}
+use Rattle.bytecode.specs.declared.OperandResult.the-variants.{Operand, NoOperand}
+use Rattle.inlinevec.specs.declared.FramesResult.{FramesResult}
+use Rattle.inlinevec.specs.declared.FramesResult.the-variants.{NewFrames, NoNewFrames}
+use Rattle.inlinevec.specs.declared.PopResult.{PopResult}
+use Rattle.inlinevec.specs.declared.PopResult.the-variants.{Popped, NotPopped}
+use Rattle.inlinevec.specs.declared.PopFrameResult.{PopFrameResult}
+use Rattle.inlinevec.specs.declared.PopFrameResult.the-variants.{PoppedFrame, NotPoppedFrame}
+use Rattle.pools.specs.Pool.{Pooled}
+use Rattle.pools.specs.declared.InstructionsRef.{InstructionsRef}
+use Rattle.pools.specs.declared.BoundsResult.{BoundsResult}
+use Rattle.pools.specs.declared.BoundsResult.the-variants.{Bounds, NoBounds}
+use Rattle.pools.specs.declared.InternResult.{InternResult}
+use Rattle.pools.specs.declared.InternResult.the-variants.{Interned, NotInterned}
+use Rattle.storage.specs.declared.Task.{Task}
+use Rattle.storage.specs.Tasks.{blank}
+use Rattle.image.specs.declared.SaveResult.{SaveResult}
+use Rattle.image.specs.declared.SaveResult.the-variants.{Saved, NotSaved}
+use Rattle.opcodes.specs.declared.Did.{Did}
+use Rattle.opcodes.specs.declared.Did.the-variants as did
+use Rattle.opcodes.specs.Registers.{OnMemory}
+use Rattle.tasks.specs.Changes.{keep}
+use Rattle.tasks.specs.Create.{op-t-create, op-t-delete}
+use Rattle.tasks.specs.Fields.{op-t-get-field, op-t-set-field}
+use Rattle.tasks.specs.declared.Tasked.{Tasked}
+use Rattle.core.specs.Steps.{is-outer}
+use Rattle.core.specs.declared.Machine.{Machine}
+use Rattle.core.specs.declared.Phase.{Phase}
+use Rattle.calls.specs.Machines.{current, code-of, registers-of, settled}
+use Rattle.calls.specs.Frames.{OnPool, on-pool, placed, intern-sized, intern-calldata, with-entry, calldata-pushed, push-calldata, framed, enter-bounded, enter, call-popped, op-call, left-frame, op-end-call}
+use Rattle.calls.specs.Act.{acted, OnAll, on-all, went-by, created, tasked-by, created-by, on-task, after-pool, after-memory, on-frames, op-at, act-by, act-at, act}
+use Rattle.calls.specs.Advance.{wanted}
+use Rattle.calls.specs.Turns.{save-went}
+use Rattle.calls.specs.declared.Went.{Went}
+use Rattle.calls.specs.declared.Went.the-variants.{Onto, Refused}
+use Rattle.calls.specs.declared.Acted.{Acted}
+use Rattle.runs.specs.World.{World, world, at-end}
+use Rattle.runs.specs.Step as steps
+use Rattle.runs.specs.Step.{Stepped, inner-did, inner, acts-went, acted-at, acts, saves-went, saves, outer, step}
+use Rattle.runs.specs.Run.{End, end-at, follow, run}
+use Rattle.vm.specs.Calls.{phased, with-machine}
+
+-- tests of one outcome, each side the same but for a function
+alike : {A B : Type 0} (f : A → B) (b : Bool) (x y : A) (u v : B) → u ≡ f x → v ≡ f y → cond b u v ≡ f (cond b x y)
+alike f true x y u v p q = p
+alike f false x y u v p q = q
+
+-- a world in a phase
+abbrev pub rephased : Phase → World → World
+rephased phase w = with-machine w (phased (w .machine) phase)
+
+module _ (phase : Phase) where
+  -- the same in this phase
+  went-as : Went → Went
+  went-as (Onto machine) = Onto (phased machine phase)
+  went-as (Refused refusal) = Refused refusal
+
+  abbrev pool-as : OnPool → OnPool
+  pool-as a = on-pool (went-as (a .went)) (a .stack) (a .pool) (a .ends)
+
+  abbrev acted-as : Acted → Acted
+  acted-as a = acted (went-as (a .went)) (a .change)
+
+  abbrev all-as : OnAll → OnAll
+  all-as a = on-all (acted-as (a .acted)) (a .stack) (a .memory) (a .pool) (a .ends)
+
+  unfoldable pub step-as : Stepped → Stepped
+  step-as (steps.next v) = steps.next (rephased phase v)
+  step-as (steps.refused refusal) = steps.refused refusal
+
+  abbrev pub end-as : End → End
+  end-as e = end-at (rephased phase (e .world)) (e .left) (e .outcome)
+
+  -- ---- PUSH_CALLDATA
+
+  sized-as : (pool ends : List ℕ) (machine : Machine) (place : ℕ) (result : OperandResult) → intern-sized pool ends (phased machine phase) place result ≡ intern-sized pool ends machine place result
+  unfolding intern-sized
+  sized-as pool ends machine place (Operand size) = refl
+  sized-as pool ends machine place (NoOperand refusal) = refl
+
+  interned-as : (pool ends : List ℕ) (machine : Machine) (place : ℕ) → intern-calldata pool ends (phased machine phase) place ≡ intern-calldata pool ends machine place
+  unfolding intern-calldata code-of
+  interned-as pool ends machine place = sized-as pool ends machine place _
+
+  pushed-as : (stack : List ℕ) (machine : Machine) (next : ℕ) (after : Pooled) (result : InternResult)
+      → calldata-pushed stack (phased machine phase) next after result ≡ pool-as (calldata-pushed stack machine next after result)
+  unfolding calldata-pushed with-entry settled registers-of went-as
+  pushed-as stack machine next after (Interned entry bytes) = refl
+  pushed-as stack machine next after (NotInterned refusal) = refl
+
+  calldata-as : (stack pool ends : List ℕ) (machine : Machine) (place next : ℕ)
+      → push-calldata stack pool ends (phased machine phase) place next ≡ pool-as (push-calldata stack pool ends machine place next)
+  unfolding push-calldata went-as
+  calldata-as stack pool ends machine place next =
+      alike pool-as (leb 1000 (machine .height)) _ _ _ _ refl
+      (ap (λ (p : Pooled). calldata-pushed stack (phased machine phase) next p (p .answer)) (interned-as pool ends machine place) ∙ pushed-as stack machine next _ _)
+
+  -- ---- CALL and END_CALL
+
+  framed-as : (caller : Machine) (result : FramesResult) → framed (phased caller phase) result ≡ went-as (framed caller result)
+  unfolding framed went-as
+  framed-as caller (NewFrames frames) = refl
+  framed-as caller (NoNewFrames refusal) = refl
+
+  bounded-as : (caller : Machine) (entry : InstructionsRef) (result : BoundsResult) → enter-bounded (phased caller phase) entry result ≡ went-as (enter-bounded caller entry result)
+  unfolding enter-bounded went-as
+  bounded-as caller entry (Bounds start end) = alike went-as (leb end start) _ _ _ _ refl (framed-as caller _)
+  bounded-as caller entry (NoBounds refusal) = refl
+
+  popped-as : (ends : List ℕ) (machine : Machine) (next : ℕ) (task : Task) (result : PopResult) → call-popped ends (phased machine phase) next task result ≡ went-as (call-popped ends machine next task result)
+  unfolding call-popped enter settled registers-of went-as
+  popped-as ends machine next task (Popped value height) = alike went-as (task .living) _ _ _ _ (bounded-as (placed machine next height) (task .«instructions_ref») _) refl
+  popped-as ends machine next task (NotPopped refusal) = refl
+
+  left-as : (machine : Machine) (result : PopFrameResult) → left-frame (phased machine phase) result ≡ went-as (left-frame machine result)
+  unfolding left-frame went-as
+  left-as machine (PoppedFrame frame frames) = refl
+  left-as machine (NotPoppedFrame refusal) = refl
+
+  call-as : (stack ends : List ℕ) (machine : Machine) (next : ℕ) (task : Task) → op-call stack ends (phased machine phase) next task ≡ went-as (op-call stack ends machine next task)
+  unfolding op-call
+  call-as stack ends machine next task = popped-as ends machine next task _
+
+  end-call-as : (machine : Machine) (next : ℕ) → op-end-call (phased machine phase) next ≡ went-as (op-end-call machine next)
+  unfolding op-end-call settled registers-of went-as
+  end-call-as machine next = alike went-as (leb (machine .frames .count) 1) _ _ _ _ refl (left-as machine _)
+
+  -- ---- tasks
+
+  by-as : (machine : Machine) (result : Did) → went-by (phased machine phase) result ≡ went-as (went-by machine result)
+  unfolding went-by settled went-as
+  by-as machine (did.Next registers) = refl
+  by-as machine (did.Refused refusal) = refl
+
+  created-as : (machine : Machine) (result : Did) → created (phased machine phase) result ≡ went-as (created machine result)
+  unfolding created settled went-as
+  created-as machine (did.Next registers) = refl
+  created-as machine (did.Refused refusal) = refl
+
+  task-as : (stack memory : List ℕ) (machine : Machine) (task : Task) (op next : ℕ) → on-task stack memory (phased machine phase) task op next ≡ acted-as (on-task stack memory machine task op next)
+  unfolding on-task created-by tasked-by registers-of settled went-as
+  task-as stack memory machine task op next =
+      alike acted-as (eqb op T-CREATE) _ _ _ _ (ap (λ (w : Went). acted w (made .change)) (created-as machine (made .did)))
+      (alike acted-as (eqb op T-SET-FIELD) _ _ _ _ (ap (λ (w : Went). acted w (set .change)) (by-as machine (set .did)))
+      (alike acted-as (eqb op T-DELETE) _ _ _ _ (ap (λ (w : Went). acted w (deleted .change)) (by-as machine (deleted .did))) refl))
+    where
+      made : Tasked
+      made = op-t-create stack memory (registers-of machine) next (machine .«next_id») task
+
+      set : Tasked
+      set = op-t-set-field stack memory (registers-of machine) next task
+
+      deleted : Tasked
+      deleted = op-t-delete stack (registers-of machine) next task
+
+  -- ---- each
+
+  memory-as : (pool ends : List ℕ) (machine : Machine) (task : Task) (a : OnMemory) → after-memory (phased machine phase) a pool ends task ≡ all-as (after-memory machine a pool ends task)
+  memory-as pool ends machine task a = ap (λ (w : Went). on-all (acted w (keep task)) (a .stack) (a .memory) pool ends) (by-as machine (a .did))
+
+  frames-as : (stack memory pool ends : List ℕ) (machine : Machine) (task : Task) (op place next : ℕ)
+      → on-frames stack memory pool ends (phased machine phase) task op place next ≡ all-as (on-frames stack memory pool ends machine task op place next)
+  unfolding on-frames registers-of
+  frames-as stack memory pool ends machine task op place next =
+      alike all-as (eqb op PUSH-CALLDATA) _ _ _ _ (ap (λ (a : OnPool). after-pool a memory task) (calldata-as stack pool ends machine place next))
+      (alike all-as (eqb op T-GET-FIELD) _ _ _ _ (memory-as pool ends machine task (op-t-get-field stack memory (registers-of machine) next task))
+      (alike all-as (eqb op CALL) _ _ _ _ (ap (λ (w : Went). on-all (acted w (keep task)) stack memory pool ends) (call-as stack ends machine next task))
+      (alike all-as (eqb op END-CALL) _ _ _ _ (ap (λ (w : Went). on-all (acted w (keep task)) stack memory pool ends) (end-call-as machine next))
+      (ap (λ (a : Acted). on-all a stack memory pool ends) (task-as stack memory machine task op next)))))
+
+  extent-as : (stack memory pool ends : List ℕ) (machine : Machine) (task : Task) (op place : ℕ) (extent : Extent)
+      → act-by stack memory pool ends (phased machine phase) task op place extent ≡ all-as (act-by stack memory pool ends machine task op place extent)
+  unfolding act-by went-as
+  extent-as stack memory pool ends machine task op place (Next next) = frames-as stack memory pool ends machine task op place next
+  extent-as stack memory pool ends machine task op place Cut = refl
+
+  act-as : (stack memory pool ends : List ℕ) (machine : Machine) (task : Task) → act stack memory pool ends (phased machine phase) task ≡ all-as (act stack memory pool ends machine task)
+  unfolding act act-at code-of went-as
+  act-as stack memory pool ends machine task =
+      alike all-as (leb (length (code-of pool ends machine)) (current (machine .frames) .place)) _ _ _ _ refl (extent-as stack memory pool ends machine task _ _ _)
+
+  -- ---- an instruction
+
+  inner-did-as : (w : World) (stack memory : List ℕ) (result : Did) → inner-did (rephased phase w) stack memory result ≡ step-as (inner-did w stack memory result)
+  unfolding inner-did settled step-as
+  inner-did-as w stack memory (did.Next registers) = refl
+  inner-did-as w stack memory (did.Refused refusal) = refl
+
+  inner-as : (w : World) → inner (rephased phase w) ≡ step-as (inner w)
+  unfolding inner registers-of code-of
+  inner-as w = inner-did-as w _ _ _
+
+  acts-went-as : (w : World) (slot : ℕ) (a : OnAll) (went : Went) → acts-went (rephased phase w) slot (all-as a) (went-as went) ≡ step-as (acts-went w slot a went)
+  unfolding acts-went step-as went-as
+  acts-went-as w slot a (Onto machine) = refl
+  acts-went-as w slot a (Refused refusal) = refl
+
+  acts-as : (w : World) (slot : ℕ) → acts (rephased phase w) slot ≡ step-as (acts w slot)
+  unfolding acts
+  acts-as w slot =
+      ap (λ (a : OnAll). acts-went (rephased phase w) slot a (a .acted .went)) (act-as (w .stack) (w .memory) (w .pool) (w .ends) (w .machine) (getD (w .table) slot blank))
+      ∙ acts-went-as w slot (acted-at w slot) (acted-at w slot .acted .went)
+
+  saves-went-as : (w : World) (save : List ℕ) (result : SaveResult)
+      → saves-went (rephased phase w) save (save-went (phased (w .machine) phase) result) ≡ step-as (saves-went w save (save-went (w .machine) result))
+  unfolding saves-went save-went registers-of settled step-as
+  saves-went-as w save (Saved size) = refl
+  saves-went-as w save (NotSaved refusal) = refl
+
+  saves-as : (w : World) → saves (rephased phase w) ≡ step-as (saves w)
+  unfolding saves
+  saves-as w = saves-went-as w _ _
+
+  -- an instruction does in any phase what it does in any other
+  pub step-phase : (w : World) → step (rephased phase w) ≡ step-as (step w)
+  unfolding step outer op-at code-of wanted
+  step-phase w =
+      alike step-as (is-outer (steps.op w)) _ _ _ _ (alike step-as (eqb (steps.op w) S-SAVE) _ _ _ _ (saves-as w) (acts-as w _)) (inner-as w)
+
+  -- ---- a run
+
+  followed : (others : World → End) (w : World) (left : ℕ) (s : Stepped) → ((v : World) → others (rephased phase v) ≡ end-as (others v))
+      → follow others (rephased phase w) left (step-as s) ≡ end-as (follow others w left s)
+  unfolding follow step-as
+  followed others w left (steps.next v) same = same v
+  followed others w left (steps.refused refusal) same = refl
+
+  -- and so does a run
+  pub run-phase : (fuel : ℕ) (w : World) → run fuel (rephased phase w) ≡ end-as (run fuel w)
+  unfolding run at-end code-of
+  run-phase zero w = alike end-as (at-end w) _ _ _ _ refl refl
+  run-phase (suc fuel) w =
+      alike end-as (at-end w) _ _ _ _ refl
+      (ap (follow (λ v. run fuel v) (rephased phase w) (suc fuel)) (step-phase w) ∙ followed (λ v. run fuel v) w (suc fuel) (step w) (λ v. run-phase fuel v))
