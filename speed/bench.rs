@@ -1,0 +1,198 @@
+// Runs the same programs on the Rust and on this machine, in one process, one after the other, and prints the best time of each.
+//
+// Each line: what the program does, its finished instructions, the Rust's best time and this machine's in milliseconds. Both begin with a fresh
+// machine at each run. Lines of the second part are this machine's alone: what grows, its size, and the best time in milliseconds.
+#![allow(dead_code)]
+#[path = "../oracle/src/bytecode/mod.rs"]
+mod bytecode;
+#[path = "../oracle/src/errors.rs"]
+mod errors;
+#[path = "../oracle/src/inlinevec.rs"]
+mod inlinevec;
+#[path = "../oracle/src/memory.rs"]
+mod memory;
+#[path = "../oracle/src/pools/mod.rs"]
+mod pools;
+#[path = "../oracle/src/storage/mod.rs"]
+mod storage;
+#[path = "../oracle/src/values.rs"]
+mod values;
+#[path = "../oracle/src/vm.rs"]
+mod vm;
+
+use std::hint::black_box;
+use std::time::Instant;
+pub(crate) use values::*;
+
+const TURNS: usize = 15;
+
+unsafe extern "C" {
+    fn rafenuma_run(
+        memory: *mut u8, memory_length: usize, image: *mut u8, image_length: usize, program: *mut u8, program_length: usize,
+        new_image: *mut u8, new_image_length: usize, listing: *mut u8, listing_length: usize, answer: *mut u64, fuel: u64,
+    ) -> u64;
+    fn rafenuma_admit(program: *const u8, program_length: usize, kinds: *mut u8) -> u64;
+}
+
+// ---- instructions
+
+fn number(n: u32) -> Vec<u8> {
+    [&[0x01], &n.to_be_bytes()[..]].concat()
+}
+
+fn muli(n: u32) -> Vec<u8> {
+    [&[0x1e], &n.to_be_bytes()[..]].concat()
+}
+
+fn text(bytes: &[u8]) -> Vec<u8> {
+    [&[0x1b], &(bytes.len() as u16).to_be_bytes()[..], &[4, 1], bytes].concat()
+}
+
+fn calldata(code: &[u8]) -> Vec<u8> {
+    [&[0x04], &(code.len() as u16).to_be_bytes()[..], code].concat()
+}
+
+fn jump_if_false(to: usize) -> Vec<u8> {
+    [&[0x1a], &(to as u32).to_be_bytes()[..]].concat()
+}
+
+// from an index to a limit, a body
+fn looped(from: u32, limit: u32, body: &[u8]) -> Vec<u8> {
+    [&number(limit)[..], &number(from), &[0x0e], body, &[0x0f]].concat()
+}
+
+const DO_BYTES: usize = 11;
+const DROP: [u8; 1] = [0x13];
+const DUP: [u8; 1] = [0x14];
+const CALL: [u8; 1] = [0x11];
+const END_CALL: [u8; 1] = [0x12];
+const LOOP_INDEX: [u8; 1] = [0x10];
+const EQ: [u8; 1] = [0x16];
+const GT: [u8; 1] = [0x19];
+const CREATE: [u8; 1] = [0x07];
+const DELETE: [u8; 1] = [0x0a];
+const GET_STATE: [u8; 3] = [0x05, 1, 0x08];
+const SET_STATE: [u8; 3] = [0x05, 1, 0x09];
+const STATE_1: [u8; 2] = [0x03, 1];
+const STATES_3: [u8; 2] = [0x06, 3];
+
+// ---- programs
+
+fn products() -> Vec<u8> {
+    let body = [number(7), muli(3), DROP.to_vec()].concat();
+    looped(0, 4000, &looped(0, 2500, &body))
+}
+
+fn choices() -> Vec<u8> {
+    let start = 2 * DO_BYTES;
+    let before = [LOOP_INDEX.to_vec(), DUP.to_vec(), number(500), GT.to_vec()].concat();
+    let inside = [DUP, DROP].concat();
+    let after = start + before.len() + 5 + inside.len();
+    let body = [before, jump_if_false(after), inside, DROP.to_vec()].concat();
+    looped(0, 4000, &looped(0, 1000, &body))
+}
+
+fn texts() -> Vec<u8> {
+    let body = [text(b"closing"), text(b"closings"), EQ.to_vec(), DROP.to_vec(), text(b"balance"), text(b"balancf"), EQ.to_vec(), DROP.to_vec()].concat();
+    looped(0, 1000, &looped(0, 1000, &body))
+}
+
+fn tasks() -> Vec<u8> {
+    let create = [text(b"Close"), STATES_3.to_vec(), calldata(&END_CALL), CREATE.to_vec()].concat();
+    let set = [STATE_1.to_vec(), number(0), SET_STATE.to_vec()].concat();
+    let get = [number(0), GET_STATE.to_vec(), DROP.to_vec()].concat();
+    let inner = looped(0, 5000, &[set, get].concat());
+    let outer = [create.clone(), inner, LOOP_INDEX.to_vec(), DELETE.to_vec()].concat();
+    [create, looped(1, 201, &outer)].concat()
+}
+
+fn many_tasks() -> Vec<u8> {
+    let create = [text(b"Close"), STATES_3.to_vec(), calldata(&END_CALL), CREATE.to_vec()].concat();
+    let change = [STATE_1.to_vec(), LOOP_INDEX.to_vec(), SET_STATE.to_vec(), LOOP_INDEX.to_vec(), GET_STATE.to_vec(), DROP.to_vec()].concat();
+    looped(0, 250, &[create, change, LOOP_INDEX.to_vec(), DELETE.to_vec()].concat())
+}
+
+fn calls() -> Vec<u8> {
+    let code = [number(1), DROP.to_vec(), END_CALL.to_vec()].concat();
+    let create = [text(b"Close"), STATES_3.to_vec(), calldata(&code), CREATE.to_vec()].concat();
+    let body = [number(0), CALL.to_vec()].concat();
+    [create, looped(0, 2000, &looped(0, 1000, &body))].concat()
+}
+
+// an image of so many tasks, each with a title and code
+fn image(count: u32) -> Vec<u8> {
+    let record = |kind: u16, body: &[u8]| [&(body.len() as u32).to_le_bytes(), &kind.to_le_bytes()[..], body].concat();
+    let mut image = record(1, &[count.to_le_bytes(), count.to_le_bytes()].concat());
+    for id in 0..count {
+        image.extend(record(2, &[&id.to_le_bytes()[..], &[3, 1], &100u16.to_le_bytes(), &[b'a'; 100], &[0x12; 200]].concat()));
+    }
+    image
+}
+
+// ---- measuring
+
+struct Lent {
+    memory: Vec<u8>,
+    new_image: Vec<u8>,
+    listing: Vec<u8>,
+    answer: [u64; 8],
+}
+
+fn lent() -> Lent {
+    Lent { memory: vec![0; 32 << 20], new_image: vec![0; 1 << 20], listing: vec![0; 1 << 20], answer: [0; 8] }
+}
+
+fn ours(l: &mut Lent, image: &mut [u8], program: &mut [u8]) -> u64 {
+    unsafe {
+        rafenuma_run(
+            l.memory.as_mut_ptr(), l.memory.len(), image.as_mut_ptr(), image.len(), program.as_mut_ptr(), program.len(),
+            l.new_image.as_mut_ptr(), l.new_image.len(), l.listing.as_mut_ptr(), l.listing.len(), l.answer.as_mut_ptr(), u64::MAX,
+        )
+    }
+}
+
+fn rust(program: &[u8]) -> bool {
+    let mut machine = vm::VM::init(program.to_vec()).ok().unwrap();
+    black_box(machine.run()).is_ok()
+}
+
+fn milliseconds(run: impl FnOnce()) -> f64 {
+    let begin = Instant::now();
+    run();
+    begin.elapsed().as_secs_f64() * 1000.0
+}
+
+fn beside(name: &str, program: Vec<u8>, times: usize) {
+    let mut l = lent();
+    let mut code = program.clone();
+    let (mut best_rust, mut best_ours) = (f64::MAX, f64::MAX);
+    assert!(rust(&program), "{name}: the Rust refuses");
+    assert!(ours(&mut l, &mut [], &mut code) == 0, "{name}: this machine refuses: {:?}", l.answer);
+    for _ in 0..TURNS {
+        best_rust = best_rust.min(milliseconds(|| (0..times).for_each(|_| assert!(rust(&program)))));
+        best_ours = best_ours.min(milliseconds(|| (0..times).for_each(|_| assert!(ours(&mut l, &mut [], &mut code) == 0))));
+    }
+    println!("{name}\t{}\t{best_rust:.2}\t{best_ours:.2}", l.answer[1] * times as u64);
+}
+
+fn main() {
+    beside("a nested loop with MULI and DROP", products(), 1);
+    beside("eight opcodes with a comparison and a jump", choices(), 1);
+    beside("texts made and compared", texts(), 1);
+    beside("states of tasks set and read, 200 tasks created and deleted", tasks(), 1);
+    beside("tasks created, set, read and deleted, 100 fresh machines", many_tasks(), 100);
+    beside("calls of a task", calls(), 1);
+    let mut l = lent();
+    for count in [32, 64, 128, 256] {
+        let mut bytes = image(count);
+        let best = (0..TURNS * 20).map(|_| milliseconds(|| assert!(ours(&mut l, &mut bytes, &mut [0]) == 0))).fold(f64::MAX, f64::min);
+        assert!(l.new_image[..bytes.len()] == bytes[..]);
+        println!("tasks loaded, listed and saved\t{count}\t{best:.3}");
+    }
+    for size in [16383, 32767, 65535] {
+        let code = vec![0u8; size];
+        let mut kinds = [0u8; 1000];
+        let best = (0..TURNS).map(|_| milliseconds(|| { black_box(unsafe { rafenuma_admit(code.as_ptr(), size, kinds.as_mut_ptr()) }); })).fold(f64::MAX, f64::min);
+        println!("bytes without an opcode admitted\t{size}\t{best:.3}");
+    }
+}
