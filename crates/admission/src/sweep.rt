@@ -20,7 +20,7 @@ use crate::nodes::top;
 use elements::Change;
 use elements::Found;
 use elements::changes::element_change;
-use elements::finding::find;
+use finding::find;
 use labels::Element;
 
 // The element at a place, by the table of operand sizes.

@@ -1,9 +1,5 @@
-// The machine at its code: the run up to an instruction that needs a task, a frame or the pool, and that instruction on the record of the slot it names.
-pub mod act;
-pub mod advance;
-mod frames;
-mod machines;
-pub mod turns;
+// The machine at its code: what it answers on its way and at a run's end, and its record.
+pub mod machines;
 
 use core::Machine;
 use errors::Refusal;

@@ -1,13 +1,15 @@
-// The machine's record: its current frame, its code, its registers.
+// The machine's record: its current frame, its code, its registers, the opcode at hand.
 ghost use mathlib.Core.Path.{_≡_};
+ghost use lib.ListN.{getD};
 ghost use Rattle.calls.specs.Machines.{current, with-current, code-of, registers-of, settled};
+ghost use Rattle.calls.specs.Act.{op-at};
 use core::Machine;
 use inlinevec::Frame;
 use inlinevec::Frames;
 use opcodes::Registers;
 
 // The frame that runs.
-pub(crate) fn current(frames: Frames) -> Frame
+pub fn current(frames: Frames) -> Frame
     ensures { λ r. ⌜ r ≡ current frames ⌝ }
 {
     if frames.count == 1 {
@@ -17,7 +19,7 @@ pub(crate) fn current(frames: Frames) -> Frame
 }
 
 // The frames with another one that runs.
-pub(crate) fn with_current(frames: Frames, frame: Frame) -> Frames
+fn with_current(frames: Frames, frame: Frame) -> Frames
     ensures { λ r. ⌜ r ≡ with-current frames frame ⌝ }
 {
     let mut changed = frames;
@@ -30,7 +32,7 @@ pub(crate) fn with_current(frames: Frames, frame: Frame) -> Frames
 }
 
 // The code that runs.
-pub(crate) fn code_of<'a>(pool: &'a [u8], ends: &[u32; 1024], machine: Machine) -> &'a [u8]
+pub fn code_of<'a>(pool: &'a [u8], ends: &[u32; 1024], machine: Machine) -> &'a [u8]
     ensures { λ r. ⌜ now r ≡ code-of (now (pool .entry)) (now (ends .entry)) machine ⌝ }
 {
     let frame = current(machine.frames);
@@ -38,7 +40,7 @@ pub(crate) fn code_of<'a>(pool: &'a [u8], ends: &[u32; 1024], machine: Machine) 
 }
 
 // What most opcodes change, taken out of the machine.
-pub(crate) fn registers_of(machine: Machine) -> Registers
+pub fn registers_of(machine: Machine) -> Registers
     ensures { λ r. ⌜ r ≡ registers-of machine ⌝ }
 {
     let frame = current(machine.frames);
@@ -52,7 +54,7 @@ pub(crate) fn registers_of(machine: Machine) -> Registers
 }
 
 // And put back.
-pub(crate) fn settled(machine: Machine, registers: Registers) -> Machine
+pub fn settled(machine: Machine, registers: Registers) -> Machine
     ensures { λ r. ⌜ r ≡ settled machine registers ⌝ }
 {
     let frame = current(machine.frames);
@@ -68,4 +70,22 @@ pub(crate) fn settled(machine: Machine, registers: Registers) -> Machine
     after.frames = with_current(machine.frames, placed);
     after.memory = registers.memory;
     after
+}
+
+// The byte at a place; 0 past the code's end.
+pub fn byte_at(code: &[u8], place: usize) -> u8
+    ensures { λ r. ⌜ r ≡ getD (now (code .entry)) place 0 ⌝ }
+{
+    if place < code.len() {
+        return code[place];
+    }
+    0
+}
+
+// The opcode at hand.
+pub fn op_at(pool: &[u8], ends: &[u32; 1024], machine: Machine) -> u8
+    ensures { λ r. ⌜ r ≡ op-at (now (pool .entry)) (now (ends .entry)) machine ⌝ }
+{
+    let frame = current(machine.frames);
+    byte_at(code_of(pool, ends, machine), frame.place)
 }

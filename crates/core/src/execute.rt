@@ -12,23 +12,23 @@ use crate::operated::m_sti;
 use crate::operated::muli;
 use crate::operated::push_u8;
 use crate::operated::push_u32;
+use arithmetic::op_compare;
+use arithmetic::op_mul;
 use bytecode::Extent;
 use bytecode::opcodes::*;
 use bytecode::operands::extent;
+use control::op_do;
+use control::op_loop;
+use control::op_loop_index;
+use equality::op_eq;
+use mutation::op_m_muta;
 use opcodes::Did;
 use opcodes::Registers;
-use opcodes::control::op_do;
-use opcodes::control::op_loop;
-use opcodes::control::op_loop_index;
-use opcodes::equality::op_eq;
 use opcodes::stack::moved;
-use opcodes::stack::op_compare;
-use opcodes::stack::op_drop;
-use opcodes::stack::op_dup;
-use opcodes::stack::op_mul;
-use opcodes::stack::op_push;
-use opcodes::stack::op_swap;
-use opcodes::store::op_m_muta;
+use stack::op_drop;
+use stack::op_dup;
+use stack::op_push;
+use stack::op_swap;
 
 // Over the stack alone. Bytes without an opcode, and S_LOAD, do nothing.
 fn plain(stack: &mut [u64; 1000], registers: Registers, next: usize, op: u8, count: u32) -> Did

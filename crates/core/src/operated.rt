@@ -3,17 +3,17 @@ ghost use mathlib.Core.Path.{_≡_};
 ghost use Prim.Native.Nat.{_≤_};
 ghost use Rattle.opcodes.specs.Registers.{on-stack, on-memory};
 ghost use Rattle.core.specs.Operated.{push-u32, push-u8, muli, jump-if-false, m-st, m-sti-of, m-sti};
+use arithmetic::op_muli;
 use bytecode::OperandResult;
 use bytecode::operands::prepare_u8;
 use bytecode::operands::prepare_u16_from_be_checked;
 use bytecode::operands::prepare_u32_from_be_checked;
+use control::op_jump_if_false;
 use opcodes::Did;
 use opcodes::Registers;
-use opcodes::control::op_jump_if_false;
-use opcodes::stack::op_muli;
-use opcodes::stack::op_push;
-use opcodes::store::op_m_st;
-use opcodes::store::store;
+use stack::op_push;
+use store::op_m_st;
+use store::store;
 
 // PUSH_U32.
 pub(crate) fn push_u32(

@@ -1,6 +1,5 @@
-// The elements of a program in code: which one stands at a place, and what it makes of the kinds.
+// The elements of a program in code: what a place holds, and what an element makes of the kinds.
 pub mod changes;
-pub mod finding;
 
 use labels::Element;
 

@@ -7,14 +7,13 @@ use native.Mathlib.Omega.{arith}
 use lib.ListN.{length, getD, set, length-set}
 use Rattle.errors.specs.declared.Refusal.the-variants.{StackOverflow}
 use Rattle.errors.specs.declared.Refusal.{Refusal}
-use Rattle.inlinevec.proofs.Lists.{pushed-values, popped-values, pushed-two, popped-two, changed-two}
+use Rattle.inlinevec.proofs.Lists.{pushed-values, popped-values, pushed-two, popped-two}
 use Rattle.inlinevec.proofs.Refusals.{has-room, full, had-room, had-some}
-use Rattle.inlinevec.specs.Stacks.{if-room, if-some, Two, stacked, push, pop, last, values-of, push-two, last-two, pop-two, change-two, two-of, of-loops, to-loops, loops-of, push-loop, pop-loop, last-loop, of-frames, to-frames, frames-of, push-frame, pop-frame, last-frame, change-last-frame}
+use Rattle.inlinevec.specs.Stacks.{if-room, if-some, Two, stacked, push, pop, last, values-of, push-two, last-two, pop-two, two-of, of-loops, to-loops, loops-of, push-loop, pop-loop, last-loop, of-frames, to-frames, frames-of, push-frame, pop-frame}
 use Rattle.inlinevec.specs.declared.Frame.{Frame}
 use Rattle.inlinevec.specs.declared.Frames.{Frames}
 use Rattle.inlinevec.specs.declared.FramesResult.the-variants.{NewFrames, NoNewFrames}
 use Rattle.inlinevec.specs.declared.HeightResult.the-variants.{NewHeight, NoNewHeight}
-use Rattle.inlinevec.specs.declared.LastFrameResult.the-variants.{LastFrame, NoLastFrame}
 use Rattle.inlinevec.specs.declared.LastLoopResult.the-variants.{LastLoop, NoLastLoop}
 use Rattle.inlinevec.specs.declared.LastResult.the-variants.{Last, NoLast}
 use Rattle.inlinevec.specs.declared.Loop.{Loop}
@@ -37,12 +36,6 @@ module _ {A S B : Type 0} (of : S → Two A) (to : Two A → S) (back : (two : T
     pushed e =
         let h = had-room 2 (of s .count) refuse (new (to (push-two (of s) a))) (new t) (λ refusal f. never refusal t f) e in
         rw (← only (to (push-two (of s) a)) t (h .1), back (push-two (of s) a)) (pushed-two (of s) a (h .0))
-
-    -- a change leaves the tail
-    changed : if-some 2 (of s .count) refuse (new (to (change-two (of s) a))) ≡ new t → two-of (of t) ≡ a ∷ two-of (pop-two (of s))
-    changed e =
-        let h = had-some 2 (of s .count) refuse (new (to (change-two (of s) a))) (new t) (λ refusal f. never refusal t f) e in
-        rw (← only (to (change-two (of s) a)) t (h .2), back (change-two (of s) a)) (changed-two (of s) a (h .0) (h .1))
 
   -- a pop gives the head and leaves the tail
   popped : (took : A → S → B) (only : (a b : A) (s t : S) → took a s ≡ took b t → (a ≡ b) × (s ≡ t)) (never : (refusal : Refusal) (a : A) (s : S) → refuse refusal ≡ took a s → ⊥) (s t : S) (a : A)
@@ -87,16 +80,6 @@ frame-pushed = pushed of-frames to-frames (λ two. refl) NoNewFrames NewFrames (
 pub frame-popped : (frames new : Frames) (ended : Frame) → pop-frame frames ≡ PoppedFrame ended new → frames-of frames ≡ ended ∷ frames-of new
 unfolding pop-frame
 frame-popped = popped of-frames to-frames (λ two. refl) NotPoppedFrame PoppedFrame (λ a b s t e. (cc, cc)) (λ r a s e. impossible (cc))
-
--- a look
-pub frame-last : (frames : Frames) (frame : Frame) → last-frame frames ≡ LastFrame frame → frames-of frames ≡ frame ∷ two-of (pop-two (of-frames frames))
-unfolding last-frame
-frame-last = looked of-frames to-frames (λ two. refl) NoLastFrame LastFrame (λ a b e. cc) (λ r a e. impossible (cc))
-
--- a change
-pub frame-changed : (frames new : Frames) (frame : Frame) → change-last-frame frames frame ≡ NewFrames new → frames-of new ≡ frame ∷ two-of (pop-two (of-frames frames))
-unfolding change-last-frame
-frame-changed = changed of-frames to-frames (λ two. refl) NoNewFrames NewFrames (λ s t e. cc) (λ r s e. impossible (cc))
 
 -- ---- the values
 

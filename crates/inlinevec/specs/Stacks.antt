@@ -26,8 +26,6 @@ use Rattle.inlinevec.specs.declared.FramesResult.{FramesResult}
 use Rattle.inlinevec.specs.declared.FramesResult.the-variants.{NewFrames, NoNewFrames}
 use Rattle.inlinevec.specs.declared.PopFrameResult.{PopFrameResult}
 use Rattle.inlinevec.specs.declared.PopFrameResult.the-variants.{PoppedFrame, NotPoppedFrame}
-use Rattle.inlinevec.specs.declared.LastFrameResult.{LastFrameResult}
-use Rattle.inlinevec.specs.declared.LastFrameResult.the-variants.{LastFrame, NoLastFrame}
 
 -- ---- what is refused
 
@@ -154,12 +152,3 @@ unfoldable pub pop-frame : Frames → PopFrameResult
 pop-frame frames =
     if-some 2 (frames .count) NotPoppedFrame
     (PoppedFrame (last-two (of-frames frames)) (to-frames (pop-two (of-frames frames))))
-
--- the last frame
-unfoldable pub last-frame : Frames → LastFrameResult
-last-frame frames = if-some 2 (frames .count) NoLastFrame (LastFrame (last-two (of-frames frames)))
-
--- another last frame
-unfoldable pub change-last-frame : Frames → Frame → FramesResult
-change-last-frame frames frame =
-    if-some 2 (frames .count) NoNewFrames (NewFrames (to-frames (change-two (of-frames frames) frame)))

@@ -1,6 +1,6 @@
 // Bounded stacks: the values in a lent array, at most two open loops, at most two frames.
 ghost use mathlib.Core.Path.{_≡_};
-ghost use Rattle.inlinevec.specs.Stacks.{stacked, push, pop, last, push-loop, pop-loop, last-loop, push-frame, pop-frame, last-frame, change-last-frame};
+ghost use Rattle.inlinevec.specs.Stacks.{stacked, push, pop, last, push-loop, pop-loop, last-loop, push-frame, pop-frame};
 use errors::Refusal;
 use pools::InstructionsRef;
 
@@ -80,12 +80,6 @@ pub enum FramesResult {
 pub enum PopFrameResult {
     PoppedFrame { last: Frame, frames: Frames },
     NotPoppedFrame(Refusal),
-}
-
-// The last frame.
-pub enum LastFrameResult {
-    LastFrame(Frame),
-    NoLastFrame(Refusal),
 }
 
 // One value more.
@@ -256,48 +250,4 @@ pub fn pop_frame(frames: Frames) -> PopFrameResult
         return PopFrameResult::NotPoppedFrame(Refusal::StackUnderflow);
     }
     PopFrameResult::NotPoppedFrame(Refusal::WrongPhaseOrUnsound)
-}
-
-// The last frame.
-pub fn last_frame(frames: Frames) -> LastFrameResult
-    ensures { λ r. ⌜ r ≡ last-frame frames ⌝ }
-{
-    let main = frames.main;
-    let task = frames.task;
-    if frames.count == 1 {
-        return LastFrameResult::LastFrame(main);
-    }
-    if frames.count == 2 {
-        return LastFrameResult::LastFrame(task);
-    }
-    if frames.count == 0 {
-        return LastFrameResult::NoLastFrame(Refusal::StackUnderflow);
-    }
-    LastFrameResult::NoLastFrame(Refusal::WrongPhaseOrUnsound)
-}
-
-// The last frame becomes another: the Rust's last_mut.
-pub fn change_last_frame(frames: Frames, frame: Frame) -> FramesResult
-    ensures { λ r. ⌜ r ≡ change-last-frame frames frame ⌝ }
-{
-    let main = frames.main;
-    let task = frames.task;
-    if frames.count == 1 {
-        return FramesResult::NewFrames(Frames {
-            count: 1,
-            main: frame,
-            task,
-        });
-    }
-    if frames.count == 2 {
-        return FramesResult::NewFrames(Frames {
-            count: 2,
-            main,
-            task: frame,
-        });
-    }
-    if frames.count == 0 {
-        return FramesResult::NoNewFrames(Refusal::StackUnderflow);
-    }
-    FramesResult::NoNewFrames(Refusal::WrongPhaseOrUnsound)
 }

@@ -1,6 +1,4 @@
-// Linear memory: allocation, change of an element, equality of two vectors, and reads of a part.
-pub mod allocation;
-pub mod change;
+// Linear memory: what allocation, change and reads answer; a vector's part, whether it can be read, and equality of two vectors.
 pub mod reads;
 
 use errors::Refusal;

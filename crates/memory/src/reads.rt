@@ -1,11 +1,19 @@
 // Reads of the memory in use: a vector's part, whether it can be read, and whether two vectors are equal.
 ghost use mathlib.Core.Path.{_≡_};
+ghost use Prim.Native.Nat.{_+_};
+ghost use lib.Dec.{leb};
 ghost use Rattle.memory.specs.Reads.{get-slice-bytes, outside, is-m-slice-eq, get-slice-as-str, get-slice-as-u32};
 use crate::ReadResult;
-use crate::change::lies_in;
 use errors::Refusal;
 use values::FatPointer;
 use values::ValueResult;
+
+// Whether a vector lies in a memory of so many bytes.
+pub fn lies_in(length: usize, pointer: FatPointer) -> bool
+    ensures { λ r. ⌜ r ≡ leb (pointer .offset + pointer .size) length ⌝ }
+{
+    pointer.offset as usize + pointer.size as usize <= length
+}
 
 // The part of memory that a vector points at, as far as it lies in use.
 pub fn get_slice_bytes<'a>(memory: &'a [u8], pointer: FatPointer) -> &'a [u8]

@@ -1,8 +1,5 @@
-// One function to an opcode, over what that opcode touches; the opcodes that need a task, a frame or the pool are not here.
-pub mod control;
-pub mod equality;
+// What the opcodes that need no task, frame or pool change and answer, and the pops and pushes that they share.
 pub mod stack;
-pub mod store;
 
 use errors::Refusal;
 use inlinevec::Loops;

@@ -1,9 +1,7 @@
 // The pool of instructions: entries end to end in lent bytes, told apart by their ends.
 ghost use mathlib.Core.Path.{_≡_};
-ghost use Prim.Native.Nat.{_+_, _<_, _≤_, min};
-ghost use lib.ListN.{length, set, take, drop};
-ghost use lib.Seq.{paste};
-ghost use Rattle.pools.specs.Pool.{start-of, end-of, bounds, entry-of, has-room, new-entry, pooled, interned, part-in-use, never-fall, end-to-end};
+ghost use Prim.Native.Nat.{min};
+ghost use Rattle.pools.specs.Pool.{start-of, end-of, bounds, entry-of, has-room, never-fall, end-to-end};
 use errors::Refusal;
 
 // The bytes that a pool holds at most.
@@ -31,7 +29,7 @@ pub enum InternResult {
 }
 
 // The smaller of two numbers.
-fn smaller(a: usize, b: usize) -> usize
+pub fn smaller(a: usize, b: usize) -> usize
     ensures { λ r. ⌜ r ≡ min a b ⌝ }
 {
     if a < b {
@@ -103,71 +101,6 @@ pub fn has_room(lent: usize, bytes: usize, entries: usize, size: usize) -> bool
         return false;
     }
     size <= room - bytes
-}
-
-// Writes a part of the pool once more, behind it.
-fn write_part(pool: &mut [u8], start: usize, size: usize, at: usize)
-    requires { ⌜ (start + size ≤ at) × (at + size ≤ length (now pool)) ⌝ }
-    ensures { λ _. ⌜ now (pool .exit) ≡ paste (now (pool .entry)) at (take size (drop start (now (pool .entry)))) size ⌝ }
-{
-    let mut i = 0;
-    while i < size {
-        let j = start + i;
-        let k = at + i;
-        pool[k] = pool[j];
-        i += 1;
-    }
-}
-
-// Writes the end of a new entry.
-fn new_entry(ends: &mut [u32; 1024], entries: usize, end: usize) -> InternResult
-    requires { ⌜ (entries < 1024) × (end ≤ 65536) ⌝ }
-    ensures { λ r. ⌜ (r ≡ new-entry entries end) × (now (ends .exit) ≡ set (now (ends .entry)) entries end) ⌝ }
-{
-    ends[entries] = end as u32;
-    InternResult::Interned {
-        entry: InstructionsRef(entries as u32),
-        bytes: end,
-    }
-}
-
-// Joins an entry at the pool's end.
-pub fn intern_instructions(
-    pool: &mut [u8],
-    ends: &mut [u32; 1024],
-    bytes: usize,
-    entries: usize,
-    calldata: &[u8],
-) -> InternResult
-    ensures { λ r. ⌜ pooled r (now (pool .exit)) (now (ends .exit)) ≡ interned (now (pool .entry)) (now (ends .entry)) bytes entries (now (calldata .entry)) ⌝ }
-{
-    let size = calldata.len();
-    if has_room(pool.len(), bytes, entries, size) {
-        slices::write(pool, calldata, bytes);
-        return new_entry(ends, entries, bytes + size);
-    }
-    InternResult::NotInterned(Refusal::PoolFull)
-}
-
-// Joins an entry whose data stands in the pool itself, within the bytes in use.
-pub fn intern_part(
-    pool: &mut [u8],
-    ends: &mut [u32; 1024],
-    bytes: usize,
-    entries: usize,
-    start: usize,
-    size: usize,
-) -> InternResult
-    ensures { λ r. ⌜ pooled r (now (pool .exit)) (now (ends .exit)) ≡ interned (now (pool .entry)) (now (ends .entry)) bytes entries (part-in-use (now (pool .entry)) bytes start size) ⌝ }
-{
-    let used = smaller(bytes, pool.len());
-    let from = smaller(start, used);
-    let count = smaller(size, used - from);
-    if has_room(pool.len(), bytes, entries, count) {
-        write_part(pool, from, count, bytes);
-        return new_entry(ends, entries, bytes + count);
-    }
-    InternResult::NotInterned(Refusal::PoolFull)
 }
 
 // Whether no end is below the one before it.

@@ -1,4 +1,3 @@
-// The records of a table's image: a slot is measured and written, and a record is loaded.
-mod numbers;
+// The records of a table's image: a slot is measured and written.
 pub mod steps;
 pub mod writing;

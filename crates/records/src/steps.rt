@@ -1,17 +1,11 @@
-// One slot or one record of a loop over the lent table: all is lent as the loop holds it, and what is only read stays.
+// One slot of a loop over the lent table: all is lent as the loop holds it, and what is only read stays.
 ghost use mathlib.Core.Path.{_≡_};
-ghost use Rattle.image.specs.Table.{stepped, measure-slot, save-slot, loaded-record, load-record};
+ghost use Rattle.image.specs.Table.{stepped, measure-slot, save-slot};
 ghost use Rattle.image.specs.Writing.{put};
-use crate::numbers::less;
-use crate::numbers::smaller;
 use crate::writing::measure;
 use crate::writing::write_record;
-use image::LoadedRecord;
 use image::SizeResult;
 use image::numbers::on;
-use image::reading::read_record;
-use pools::InstructionsRef;
-use pools::InternResult;
 use storage::Task;
 
 // A slot is measured: the size with its record, counted no further than the limit.
@@ -49,40 +43,4 @@ pub fn save_slot(
         return write_record(save, pools::get(pool, ends, reference), task, at);
     }
     at
-}
-
-// A record of the image is read, and its instructions are interned.
-pub fn load_record(
-    pool: &mut [u8],
-    ends: &mut [u32; 1024],
-    image: &mut [u8],
-    at: usize,
-    bytes: usize,
-    entries: usize,
-) -> LoadedRecord
-    ensures { λ r. ⌜ loaded-record (stepped r (now (pool .exit)) (now (ends .exit))) (now (image .exit)) ≡ loaded-record (load-record (now (pool .entry)) (now (ends .entry)) (now (image .entry)) at bytes entries) (now (image .entry)) ⌝ }
-{
-    let reference = InstructionsRef(smaller(entries, 1024) as u32);
-    let record = read_record(image, at, reference);
-    let task = record.task;
-    let start = record.start;
-    let end = record.end;
-    let instructions = slices::part(image, start, less(end, start));
-    match pools::intern_instructions(pool, ends, bytes, entries, instructions) {
-        InternResult::Interned {
-            entry: _,
-            bytes: used,
-        } => LoadedRecord {
-            task,
-            end,
-            bytes: used,
-            entries: entries + 1,
-        },
-        InternResult::NotInterned(_) => LoadedRecord {
-            task,
-            end,
-            bytes,
-            entries,
-        },
-    }
 }

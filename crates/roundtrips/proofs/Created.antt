@@ -103,7 +103,7 @@ pub count-told : {slots lent size : ℕ} (bytes : List ℕ) {next-id count len :
 count-told [] f = sym (f .image .count-is) ∙ none-read (f .image .image) (f .image .read) ∙ sym none-counted
 count-told (byte ∷ bytes) f = sym (f .image .count-is) ∙ count-read (byte ∷ bytes) (f .image .image) (omega arith) (f .image .read)
 
--- so the records that `tables::load_table` goes through are the image
+-- so the records that `loading::load_table` goes through are the image
 pub records-told : {slots lent size : ℕ} {bytes : List ℕ} {next-id count len : ℕ} → Fits slots lent size bytes next-id count len → (table : List Task) (pool ends : List ℕ) (used : InUse)
     → load-records count bytes 14 (loading (replicate (length table) blank) pool ends used) ≡ load-table bytes (loading table pool ends used)
 records-told {bytes = bytes} {count = count} f table pool ends used = loads-all count bytes table pool ends used (count-told bytes f)

@@ -4,15 +4,13 @@ ghost use Rattle.tasks.specs.Changes.{applied};
 ghost use Rattle.runs.specs.World.{world};
 ghost use Rattle.runs.specs.Going.{going, acting, act-turn, saving, save-turn, turn};
 ghost use Rattle.runs.specs.Run.{ran-to, run};
+use act::act;
+use advance::advance;
+use advance::onward;
 use calls::Gone;
 use calls::Ran;
-use calls::act::act;
-use calls::advance::advance;
-use calls::advance::onward;
-use calls::turns;
 use core::Machine;
 use storage::Task;
-use storage::table;
 use tasks::Change;
 
 // What an instruction changes in the slot that it names.

@@ -11,11 +11,9 @@ use listing::Counted;
 use listing::Head;
 use pools::InstructionsRef;
 use storage::Task;
-use storage::table;
 use text::LineResult;
 use vm::CreateResult;
 use vm::Report;
-use vm::machine;
 
 // Writes a line.
 fn emit(out: &mut [u8], line: LineResult) {
@@ -60,7 +58,7 @@ fn show_value<'a>(
     word: u64,
 ) {
     let kind = unbox::unbox_value(memory, ends, entries, word);
-    let line = listing::value_line(out, memory, pool, ends, kind);
+    let line = value_line::value_line(out, memory, pool, ends, kind);
     emit(out, line);
 }
 
@@ -111,7 +109,7 @@ fn show_count(out: &mut [u8], count: usize) {
 
 // A task; nothing for a slot that is not living.
 fn show_task(out: &mut [u8], task: Task) {
-    let line = listing::task_line(out, task);
+    let line = task_line::task_line(out, task);
     emit(out, line);
 }
 
@@ -186,10 +184,10 @@ fn perform(
     image: &mut [u8],
     program: &mut [u8],
 ) {
-    let creation = machine::create(table, pool, ends, image, program);
+    let creation = creating::create(table, pool, ends, image, program);
     let begun = machine_of(creation);
     let fuel = fuel_of_a_run();
-    let report = machine::start(table, stack, memory, pool, ends, save, begun, fuel);
+    let report = calling::start(table, stack, memory, pool, ends, save, begun, fuel);
     show_run(stack, memory, pool, ends, save, creation, report);
     show_tasks(table, save);
 }

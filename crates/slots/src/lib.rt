@@ -6,7 +6,6 @@ ghost use lib.ListN.{length, replicate};
 ghost use Rattle.storage.specs.Tasks.{blank, after};
 ghost use Rattle.storage.specs.Table.{lives, living-of, sound-slot, sound-counts, sound-table};
 use storage::Task;
-use storage::table;
 
 // The blank record written to every slot.
 pub fn clear_all(table: &mut [Task])

@@ -1,6 +1,4 @@
-// Tasks: the record, its state, and the lent table of records, one to a slot.
-pub mod storage;
-pub mod table;
+// Tasks: the record, its state, and its id.
 pub mod task_types;
 
 use errors::Refusal;

@@ -37,7 +37,7 @@ pub fn default_state(len: u8) -> DefaultResult
 }
 
 // 11, with the state that was asked for.
-pub(crate) fn no_such_state(new_state: u32) -> StateResult
+pub fn no_such_state(new_state: u32) -> StateResult
     ensures { λ r. ⌜ r ≡ no-such-state «new_state» ⌝ }
 {
     StateResult::NotSet(Refusal::InvalidStatus(new_state))

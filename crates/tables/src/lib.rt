@@ -1,18 +1,16 @@
-// The loops that carry the lent table of tasks: it is measured, saved and loaded, a slot or a record to a turn.
+// The loops that carry the lent table of tasks: it is measured and saved, a slot to a turn.
 ghost use mathlib.Core.Path.{_≡_};
 ghost use Prim.Native.Nat.{_+_, _<_, _^_};
-ghost use lib.ListN.{length, replicate};
-ghost use Rattle.storage.specs.Tasks.{blank, after};
-ghost use Rattle.image.specs.Table.{stepped, count-slot, measures, saved-table, save-table, load-records};
-ghost use Rattle.tables.specs.Tables.{held, measuring, measure-next, measured-as, begin-save, load-next, in-use, loading};
+ghost use lib.ListN.{length};
+ghost use Rattle.storage.specs.Tasks.{after};
+ghost use Rattle.image.specs.Table.{stepped, count-slot, measures, saved-table, save-table};
+ghost use Rattle.tables.specs.Tables.{held, measuring, measure-next, measured-as, begin-save};
 use errors::Refusal;
 use image::SaveResult;
 use image::SizeResult;
 use records::steps;
 use records::writing;
 use storage::Task;
-use storage::storage::slot_of;
-use storage::table;
 
 // The size of a table's image, or the first refusal, and how many tasks it has.
 pub struct MeasuredTable {
@@ -33,11 +31,11 @@ struct Begun {
 }
 
 // A record that was loaded: its task and the slot for it, where the next record starts, and the pool in use.
-struct NextRecord {
-    task: Task,
-    slot: usize,
-    end: usize,
-    used: InUse,
+pub struct NextRecord {
+    pub task: Task,
+    pub slot: usize,
+    pub end: usize,
+    pub used: InUse,
 }
 
 // Before the first slot: the header alone.
@@ -156,57 +154,4 @@ pub fn save_table(
         slot = slot + 1;
     }
     begun.answer
-}
-
-// The pool in use.
-fn in_use(bytes: usize, entries: usize) -> InUse
-    ensures { λ r. ⌜ r ≡ in-use bytes entries ⌝ }
-{
-    InUse { bytes, entries }
-}
-
-// A record of the image is read, and its instructions are interned.
-fn load_next(
-    pool: &mut [u8],
-    ends: &mut [u32; 1024],
-    image: &mut [u8],
-    at: usize,
-    used: InUse,
-) -> NextRecord
-    ensures { λ r. ⌜ after (stepped r (now (pool .exit)) (now (ends .exit))) (now (image .exit)) ≡ after (load-next (now (pool .entry)) (now (ends .entry)) (now (image .entry)) at used) (now (image .entry)) ⌝ }
-{
-    let record = steps::load_record(pool, ends, image, at, used.bytes, used.entries);
-    let task = record.task;
-    NextRecord {
-        task,
-        slot: slot_of(task.id),
-        end: record.end,
-        used: in_use(record.bytes, record.entries),
-    }
-}
-
-// Loads so many records of an image into a table whose slots are blanked first, and answers the pool in use.
-pub fn load_table(
-    table: &mut [Task],
-    pool: &mut [u8],
-    ends: &mut [u32; 1024],
-    image: &mut [u8],
-    bytes: usize,
-    entries: usize,
-    count: u32,
-) -> InUse
-    ensures { λ r. ⌜ after (loading (now (table .exit)) (now (pool .exit)) (now (ends .exit)) r) (now (image .exit)) ≡ after (load-records count (now (image .entry)) 14 (loading (replicate (length (now (table .entry))) blank) (now (pool .entry)) (now (ends .entry)) (in-use bytes entries))) (now (image .entry)) ⌝ }
-{
-    slots::clear_all(table);
-    let mut used = in_use(bytes, entries);
-    let mut at = 14;
-    let mut turn = 0;
-    while turn < count {
-        let next = load_next(pool, ends, image, at, used);
-        table::put(table, next.slot, next.task);
-        at = next.end;
-        used = next.used;
-        turn = turn + 1;
-    }
-    used
 }

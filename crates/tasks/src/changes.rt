@@ -20,7 +20,7 @@ pub fn keep(task: Task) -> Change
 }
 
 // The whole record.
-pub(crate) fn put(task: Task) -> Change
+pub fn put(task: Task) -> Change
     ensures { λ r. ⌜ r ≡ put task ⌝ }
 {
     Change {
@@ -32,7 +32,7 @@ pub(crate) fn put(task: Task) -> Change
 }
 
 // The state byte alone.
-pub(crate) fn restate(task: Task, state: u32) -> Change
+pub fn restate(task: Task, state: u32) -> Change
     ensures { λ r. ⌜ r ≡ restate task state ⌝ }
 {
     Change {
@@ -44,7 +44,7 @@ pub(crate) fn restate(task: Task, state: u32) -> Change
 }
 
 // An answer that changes nothing.
-pub(crate) fn refused(task: Task, refusal: Refusal) -> Tasked
+pub fn refused(task: Task, refusal: Refusal) -> Tasked
     ensures { λ r. ⌜ r ≡ refused task refusal ⌝ }
 {
     Tasked {

@@ -1,8 +1,6 @@
-// The opcodes that need a task, each on the record of the task's slot by value.
+// What the opcodes that need a task answer, what they change in its slot, and the titles that they read.
 pub mod changes;
-pub mod create;
-pub mod fields;
-mod titles;
+pub mod titles;
 
 use errors::Refusal;
 use opcodes::Did;

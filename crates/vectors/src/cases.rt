@@ -169,30 +169,30 @@ fn case_pair(case: &[u8]) {
     let a = word(case, 1);
     let b = word(case, 9);
     say(b"mul ");
-    say_value(values::mul_checked(a, b));
+    say_value(calculations::mul_checked(a, b));
     say(b"muli ");
-    say_value(values::mul_checked_i(a, values::to_u32(b)));
+    say_value(calculations::mul_checked_i(a, values::to_u32(b)));
     say(b"eq ");
-    say_value(values::value_eq(a, b));
+    say_value(calculations::value_eq(a, b));
     say(b"neq ");
-    say_value(values::value_neq(a, b));
+    say_value(calculations::value_neq(a, b));
     say(b"lt ");
-    say_value(values::value_cmp(a, b, true));
+    say_value(calculations::value_cmp(a, b, true));
     say(b"gt ");
-    say_value(values::value_cmp(a, b, false));
+    say_value(calculations::value_cmp(a, b, false));
 }
 
 // p: where an allocation would go, at any length in use.
 fn case_place(case: &[u8]) {
     let used = number(case, 2) as usize;
-    say_value(memory::allocation::vector(used, half(case, 6) as u16, byte(case, 1)));
+    say_value(allocation::vector(used, half(case, 6) as u16, byte(case, 1)));
 }
 
 // a: an allocation in a memory of 32 bytes that held EE.
 fn case_alloc(case: &[u8]) {
     let mut bytes = [0xEEu8; 32];
     let used = wide(byte(case, 2)) as usize;
-    match memory::allocation::alloc(
+    match allocation::alloc(
         &mut bytes,
         slices::part(case, 5, 250),
         used,
@@ -218,7 +218,7 @@ fn case_change(case: &[u8]) {
         size: half(case, 3) as u16,
     };
     let index = ElementIndex(number(case, 5) as u32);
-    match memory::change::mut_vec(
+    match change::mut_vec(
         &mut bytes,
         pointer,
         index,

@@ -1,53 +1,41 @@
 // The line that tells whether a program is admitted: the kinds at its end, or the refusal.
+ghost use mathlib.Core.Path.{_≡_};
+ghost use lib.ListN.{take};
+ghost use Rattle.labels.specs.Check.{admission};
+ghost use Rattle.text.specs.Lines.{lined, put-line};
+ghost use Rattle.verdicts.specs.Verdicts.{line-of-kinds, line-of-verdict};
 use admission::Admission;
-use errors::Details;
-use errors::Refusal;
-use libc::STDOUT_FILENO;
+use listing::Head;
+use listing::head_line;
+use text::Form;
+use text::LineResult;
+use text::lines::put_line;
 
-fn say(text: &[u8]) {
-    io::write_all(STDOUT_FILENO, text);
-}
-
-fn say_number(number: u64) {
-    say(b" ");
-    io::print_decimal(STDOUT_FILENO, number);
-}
-
-// So many kinds.
-fn say_kinds(kinds: &[u8; 1000], count: usize) {
-    if 0 < count {
-        say(b" ");
-        say(slices::part(kinds, 0, count));
+// The line of an admitted program with these kinds at its end.
+fn kinds_line(out: &mut [u8], kinds: &[u8]) -> LineResult
+    ensures { λ r. ⌜ lined r (now (out .exit)) ≡ put-line (now (out .entry)) (line-of-kinds (now (kinds .entry))) ⌝ }
+{
+    let numbers = [0u64; 0];
+    if kinds.len() == 0 {
+        return put_line(out, b"admitted", &numbers, Form::Plain, b"");
     }
+    put_line(out, b"admitted ", &numbers, Form::Plain, kinds)
 }
 
-// A refusal's number and details.
-fn say_refusal(refusal: Refusal) {
-    say(b"refused");
-    say_number(errors::number_of(refusal) as u64);
-    match errors::details_of(refusal) {
-        Details::Nothing => {}
-        Details::One(detail) => {
-            say_number(detail as u64);
-        }
-        Details::Two(first, second) => {
-            say_number(first as u64);
-            say_number(second as u64);
-        }
-    }
+// The same for so many kinds at the head of a buffer.
+fn admitted_line(out: &mut [u8], kinds: &[u8; 1000], count: usize) -> LineResult
+    ensures { λ r. ⌜ lined r (now (out .exit)) ≡ put-line (now (out .entry)) (line-of-kinds (take count (now (kinds .entry)))) ⌝ }
+{
+    kinds_line(out, slices::part(kinds, 0, count))
 }
 
-// The line on a program.
-pub fn say_verdict(program: &[u8]) {
+// The line on a program, put into a lent buffer.
+pub fn verdict_line(out: &mut [u8], program: &[u8]) -> LineResult
+    ensures { λ r. ⌜ lined r (now (out .exit)) ≡ put-line (now (out .entry)) (line-of-verdict (admission (now (program .entry)))) ⌝ }
+{
     let mut kinds = [0u8; 1000];
     match admission::admit(program, &mut kinds) {
-        Admission::Admitted(count) => {
-            say(b"admitted");
-            say_kinds(&kinds, count);
-        }
-        Admission::Refused(refusal) => {
-            say_refusal(refusal);
-        }
+        Admission::Admitted(count) => admitted_line(out, &kinds, count),
+        Admission::Refused(refusal) => head_line(out, Head::Refused(refusal)),
     }
-    say(b"\n");
 }

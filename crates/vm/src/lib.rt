@@ -1,10 +1,4 @@
-// The machine as a host sees it: created, started, continued, read and saved, over everything lent to it at each call.
-mod calling;
-mod creating;
-pub mod machine;
-mod reading;
-mod soundness;
-
+// What the calls of a host answer: creation, start and continue, the reads, the save.
 use calls::Outcome;
 use core::Machine;
 use errors::Refusal;

@@ -29,17 +29,17 @@ add-end c = search needs
 returns : tie.Need-returns Inv-loop μ-loop
 returns c = search needs
 
-sub-say-verdict : tie.Need-sub-say-verdict Inv-loop μ-loop
-sub-say-verdict c = search needs
+sub-say : tie.Need-sub-say Inv-loop μ-loop
+sub-say c = search needs
 
-part-say-verdict-start : tie.Need-part-say-verdict-start Inv-loop μ-loop
-part-say-verdict-start c = search needs
+part-say-start : tie.Need-part-say-start Inv-loop μ-loop
+part-say-start c = search needs
 
-part-say-verdict-end : tie.Need-part-say-verdict-end Inv-loop μ-loop
-part-say-verdict-end c = search needs
+part-say-end : tie.Need-part-say-end Inv-loop μ-loop
+part-say-end c = search needs
 
-say-verdict-requires : tie.Need-say-verdict-requires Inv-loop μ-loop
-say-verdict-requires c κs = search needs
+say-requires : tie.Need-say-requires Inv-loop μ-loop
+say-requires c κs = search needs
 
 loop-less : tie.Need-loop-less Inv-loop μ-loop
 loop-less c = search needs
@@ -62,10 +62,10 @@ run-spec =
     size-at-requires
     add-end
     returns
-    sub-say-verdict
-    part-say-verdict-start
-    part-say-verdict-end
-    say-verdict-requires
+    sub-say
+    part-say-start
+    part-say-end
+    say-requires
     loop-less
     loop-again
     returns-2)

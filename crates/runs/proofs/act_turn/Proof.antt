@@ -49,10 +49,10 @@ use Rattle.runs.specs.Going.{acting, act-turn}
 use Rattle.runs.proofs.Values.{machine-val, machine-makes, change-val, change-makes, acted-val, acted-vals, acted-ty, acted-tells, acted-typed, gone-val, gone-vals, gone-ty, gone-tells, gone-makes, gone-typed, went-val, went-makes}
 use Rattle.runs.proofs.Fields.{went-is, change-is, machine-is, left-fits, slot-fits, take-machine, take-left, take-slot, take-went, take-change}
 use Rattle.runs.proofs.Turns.{act-turns}
-use Rattle.storage.proofs.table.get.Symbol.{name as #get}
-use Rattle.calls.proofs.act.act.Symbol.{name as #act}
+use Rattle.table.proofs.get.Symbol.{name as #get}
+use Rattle.act.proofs.act.Symbol.{name as #act}
 use Rattle.runs.proofs.apply.Symbol.{name as #apply}
-use Rattle.calls.proofs.turns.turned.Symbol.{name as #turned}
+use Rattle.turns.proofs.turned.Symbol.{name as #turned}
 use Rattle.runs.proofs.act_turn.Key.{name as #this}
 use Rattle.storage.proofs.Task as task
 use Rattle.storage.proofs.Task.Laws as task-laws
@@ -61,18 +61,18 @@ use Rattle.tasks.proofs.Change as change
 use Rattle.calls.proofs.Went as went
 use Rattle.calls.proofs.Acted as acted
 use Rattle.calls.proofs.Gone as gone
-use Rattle.storage.proofs.table.get as get
-use Rattle.storage.proofs.table.get.Symbol as get-def
-use Rattle.storage.proofs.table.get.Met as get-thm
-use Rattle.calls.proofs.act.act as act
-use Rattle.calls.proofs.act.act.Symbol as act-def
-use Rattle.calls.proofs.act.act.Met as act-thm
+use Rattle.table.proofs.get as get
+use Rattle.table.proofs.get.Symbol as get-def
+use Rattle.table.proofs.get.Met as get-thm
+use Rattle.act.proofs.act as act
+use Rattle.act.proofs.act.Symbol as act-def
+use Rattle.act.proofs.act.Met as act-thm
 use Rattle.runs.proofs.apply as apply
 use Rattle.runs.proofs.apply.Symbol as apply-def
 use Rattle.runs.proofs.apply.Met as apply-thm
-use Rattle.calls.proofs.turns.turned as turned
-use Rattle.calls.proofs.turns.turned.Symbol as turned-def
-use Rattle.calls.proofs.turns.turned.Met as turned-thm
+use Rattle.turns.proofs.turned as turned
+use Rattle.turns.proofs.turned.Symbol as turned-def
+use Rattle.turns.proofs.turned.Met as turned-thm
 use Rattle.runs.proofs.act_turn as f
 use Rattle.runs.proofs.act_turn.Statement as stated
 use Rattle.runs.proofs.act_turn.Code as code
@@ -240,7 +240,7 @@ act-turn-spec 𝓤 H 𝓜 𝓖 𝓡 =
     entered 𝓤 H (tripleOf 𝓤 H (𝓖 .A) f.signature (f.spec 𝓤 H (𝓖 .A) (𝓜 .mem) (𝓡 .run)))
     (tables 𝓤 H 𝓜 𝓡 code.env .C) (tables 𝓤 H 𝓜 𝓡 code.env .Λ) #this code.function (code.unfolded 𝓤 H 𝓜 𝓡)
     (meets 𝓤 H (𝓖 .A) (givenOf 𝓤 H 𝓜 𝓖) (𝓜 .mem) (𝓡 .run) (tablesOf 𝓤 H 𝓜 (tables 𝓤 H 𝓜 𝓡 code.env))
-    (cited 𝓤 H (get-con 𝓤 H (𝓖 .A) (𝓜 .mem) (𝓡 .run)) 𝓜 𝓡 code.env #get get-def.routine code.calls-storage·table·get (get-thm.met 𝓤 H 𝓜 𝓖 𝓡))
-    (cited 𝓤 H (act-con 𝓤 H (𝓖 .A) (𝓜 .mem) (𝓡 .run)) 𝓜 𝓡 code.env #act act-def.routine code.calls-calls·act·act (act-thm.met 𝓤 H 𝓜 𝓖 𝓡))
+    (cited 𝓤 H (get-con 𝓤 H (𝓖 .A) (𝓜 .mem) (𝓡 .run)) 𝓜 𝓡 code.env #get get-def.routine code.calls-table·get (get-thm.met 𝓤 H 𝓜 𝓖 𝓡))
+    (cited 𝓤 H (act-con 𝓤 H (𝓖 .A) (𝓜 .mem) (𝓡 .run)) 𝓜 𝓡 code.env #act act-def.routine code.calls-act·act (act-thm.met 𝓤 H 𝓜 𝓖 𝓡))
     (cited 𝓤 H (apply-con 𝓤 H (𝓖 .A) (𝓜 .mem) (𝓡 .run)) 𝓜 𝓡 code.env #apply apply-def.routine code.calls-runs·apply (apply-thm.met 𝓤 H 𝓜 𝓖 𝓡))
-    (cited 𝓤 H (turned-con 𝓤 H (𝓖 .A) (𝓜 .mem) (𝓡 .run)) 𝓜 𝓡 code.env #turned turned-def.routine code.calls-calls·turns·turned (turned-thm.met 𝓤 H 𝓜 𝓖 𝓡)))
+    (cited 𝓤 H (turned-con 𝓤 H (𝓖 .A) (𝓜 .mem) (𝓡 .run)) 𝓜 𝓡 code.env #turned turned-def.routine code.calls-turns·turned (turned-thm.met 𝓤 H 𝓜 𝓖 𝓡)))

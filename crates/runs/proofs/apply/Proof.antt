@@ -46,18 +46,18 @@ use Rattle.tasks.specs.declared.Change.{Change}
 use Rattle.runs.proofs.Values.{change-val, change-vals, change-ty, change-tells, change-makes, change-typed}
 use Rattle.runs.proofs.Fields.{state-fits, task-is, take-puts, take-states, take-state, take-task, is-true, is-false}
 use Rattle.runs.proofs.Turns.{puts-task, puts-state, puts-none}
-use Rattle.storage.proofs.table.put.Symbol.{name as #put}
-use Rattle.storage.proofs.table.set_state_at.Symbol.{name as #state}
+use Rattle.table.proofs.put.Symbol.{name as #put}
+use Rattle.table.proofs.set_state_at.Symbol.{name as #state}
 use Rattle.runs.proofs.apply.Key.{name as #this}
 use Rattle.storage.proofs.StateResult as answer
 use Rattle.storage.proofs.StateResult.Laws as answer-laws
 use Rattle.tasks.proofs.Change as change
-use Rattle.storage.proofs.table.put as put
-use Rattle.storage.proofs.table.put.Symbol as put-def
-use Rattle.storage.proofs.table.put.Met as put-thm
-use Rattle.storage.proofs.table.set_state_at as state
-use Rattle.storage.proofs.table.set_state_at.Symbol as state-def
-use Rattle.storage.proofs.table.set_state_at.Met as state-thm
+use Rattle.table.proofs.put as put
+use Rattle.table.proofs.put.Symbol as put-def
+use Rattle.table.proofs.put.Met as put-thm
+use Rattle.table.proofs.set_state_at as state
+use Rattle.table.proofs.set_state_at.Symbol as state-def
+use Rattle.table.proofs.set_state_at.Met as state-thm
 use Rattle.runs.proofs.apply as f
 use Rattle.runs.proofs.apply.Statement as stated
 use Rattle.runs.proofs.apply.Code as code
@@ -195,5 +195,5 @@ apply-spec 𝓤 H 𝓜 𝓖 𝓡 =
     entered 𝓤 H (tripleOf 𝓤 H (𝓖 .A) f.signature (f.spec 𝓤 H (𝓖 .A) (𝓜 .mem) (𝓡 .run)))
     (tables 𝓤 H 𝓜 𝓡 code.env .C) (tables 𝓤 H 𝓜 𝓡 code.env .Λ) #this code.function (code.unfolded 𝓤 H 𝓜 𝓡)
     (meets 𝓤 H (𝓖 .A) (givenOf 𝓤 H 𝓜 𝓖) (𝓜 .mem) (𝓡 .run) (tablesOf 𝓤 H 𝓜 (tables 𝓤 H 𝓜 𝓡 code.env))
-    (cited 𝓤 H (put-con 𝓤 H (𝓖 .A) (𝓜 .mem) (𝓡 .run)) 𝓜 𝓡 code.env #put put-def.routine code.calls-storage·table·put (put-thm.met 𝓤 H 𝓜 𝓖 𝓡))
-    (cited 𝓤 H (state-con 𝓤 H (𝓖 .A) (𝓜 .mem) (𝓡 .run)) 𝓜 𝓡 code.env #state state-def.routine code.calls-storage·table·set-state-at (state-thm.met 𝓤 H 𝓜 𝓖 𝓡)))
+    (cited 𝓤 H (put-con 𝓤 H (𝓖 .A) (𝓜 .mem) (𝓡 .run)) 𝓜 𝓡 code.env #put put-def.routine code.calls-table·put (put-thm.met 𝓤 H 𝓜 𝓖 𝓡))
+    (cited 𝓤 H (state-con 𝓤 H (𝓖 .A) (𝓜 .mem) (𝓡 .run)) 𝓜 𝓡 code.env #state state-def.routine code.calls-table·set-state-at (state-thm.met 𝓤 H 𝓜 𝓖 𝓡)))

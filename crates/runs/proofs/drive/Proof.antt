@@ -56,26 +56,26 @@ use Rattle.runs.proofs.Values.{machine-val, machine-vals, machine-ty, m
 use Rattle.runs.proofs.Fields.{take-running, is-true, is-false}
 use Rattle.runs.proofs.Runs.{finishes, turns-left}
 use Rattle.runs.proofs.Turns.{begins-at, goes-at, Fueled, begins-fueled, goes-fueled, begins-same, goes-same, goes-fewer, ends-run}
-use Rattle.calls.proofs.advance.advance.Symbol.{name as #advance}
+use Rattle.advance.proofs.advance.Symbol.{name as #advance}
 use Rattle.runs.proofs.turn.Symbol.{name as #turn}
-use Rattle.calls.proofs.advance.onward.Symbol.{name as #onward}
-use Rattle.calls.proofs.turns.ran.Symbol.{name as #ends}
+use Rattle.advance.proofs.onward.Symbol.{name as #onward}
+use Rattle.turns.proofs.ran.Symbol.{name as #ends}
 use Rattle.runs.proofs.drive.Key.{name as #this}
 use Rattle.core.proofs.Machine as machine
 use Rattle.calls.proofs.Gone as gone
 use Rattle.calls.proofs.Ran as ran
-use Rattle.calls.proofs.advance.advance as advance
-use Rattle.calls.proofs.advance.advance.Symbol as advance-def
-use Rattle.calls.proofs.advance.advance.Met as advance-thm
+use Rattle.advance.proofs.advance as advance
+use Rattle.advance.proofs.advance.Symbol as advance-def
+use Rattle.advance.proofs.advance.Met as advance-thm
 use Rattle.runs.proofs.turn as turn
 use Rattle.runs.proofs.turn.Symbol as turn-def
 use Rattle.runs.proofs.turn.Met as turn-thm
-use Rattle.calls.proofs.advance.onward as onward
-use Rattle.calls.proofs.advance.onward.Symbol as onward-def
-use Rattle.calls.proofs.advance.onward.Met as onward-thm
-use Rattle.calls.proofs.turns.ran as ends
-use Rattle.calls.proofs.turns.ran.Symbol as ends-def
-use Rattle.calls.proofs.turns.ran.Met as ends-thm
+use Rattle.advance.proofs.onward as onward
+use Rattle.advance.proofs.onward.Symbol as onward-def
+use Rattle.advance.proofs.onward.Met as onward-thm
+use Rattle.turns.proofs.ran as ends
+use Rattle.turns.proofs.ran.Symbol as ends-def
+use Rattle.turns.proofs.ran.Met as ends-thm
 use Rattle.runs.proofs.drive as f
 use Rattle.runs.proofs.drive.Statement as stated
 use Rattle.runs.proofs.drive.Code as code
@@ -334,7 +334,7 @@ drive-spec 𝓤 H 𝓜 𝓖 𝓡 =
     entered 𝓤 H (tripleOf 𝓤 H (𝓖 .A) f.signature (f.spec 𝓤 H (𝓖 .A) (𝓜 .mem) (𝓡 .run)))
     (tables 𝓤 H 𝓜 𝓡 code.env .C) (tables 𝓤 H 𝓜 𝓡 code.env .Λ) #this code.function (code.unfolded 𝓤 H 𝓜 𝓡)
     (meets 𝓤 H (𝓖 .A) (givenOf 𝓤 H 𝓜 𝓖) (𝓜 .mem) (𝓡 .run) (tablesOf 𝓤 H 𝓜 (tables 𝓤 H 𝓜 𝓡 code.env))
-    (cited 𝓤 H (advance-con 𝓤 H (𝓖 .A) (𝓜 .mem) (𝓡 .run)) 𝓜 𝓡 code.env #advance advance-def.routine code.calls-calls·advance·advance (advance-thm.met 𝓤 H 𝓜 𝓖 𝓡))
+    (cited 𝓤 H (advance-con 𝓤 H (𝓖 .A) (𝓜 .mem) (𝓡 .run)) 𝓜 𝓡 code.env #advance advance-def.routine code.calls-advance·advance (advance-thm.met 𝓤 H 𝓜 𝓖 𝓡))
     (cited 𝓤 H (turn-con 𝓤 H (𝓖 .A) (𝓜 .mem) (𝓡 .run)) 𝓜 𝓡 code.env #turn turn-def.routine code.calls-runs·turn (turn-thm.met 𝓤 H 𝓜 𝓖 𝓡))
-    (cited 𝓤 H (onward-con 𝓤 H (𝓖 .A) (𝓜 .mem) (𝓡 .run)) 𝓜 𝓡 code.env #onward onward-def.routine code.calls-calls·advance·onward (onward-thm.met 𝓤 H 𝓜 𝓖 𝓡))
-    (cited 𝓤 H (ends-con 𝓤 H (𝓖 .A) (𝓜 .mem) (𝓡 .run)) 𝓜 𝓡 code.env #ends ends-def.routine code.calls-calls·turns·ran (ends-thm.met 𝓤 H 𝓜 𝓖 𝓡)))
+    (cited 𝓤 H (onward-con 𝓤 H (𝓖 .A) (𝓜 .mem) (𝓡 .run)) 𝓜 𝓡 code.env #onward onward-def.routine code.calls-advance·onward (onward-thm.met 𝓤 H 𝓜 𝓖 𝓡))
+    (cited 𝓤 H (ends-con 𝓤 H (𝓖 .A) (𝓜 .mem) (𝓡 .run)) 𝓜 𝓡 code.env #ends ends-def.routine code.calls-turns·ran (ends-thm.met 𝓤 H 𝓜 𝓖 𝓡)))

@@ -49,7 +49,7 @@ use Rattle.runs.proofs.Values.{machine-val, machine-makes, gone-val, go
 use Rattle.runs.proofs.Fields.{entries-fit, next-id-fits, machine-is, left-fits, take-machine, take-left, take-entries, take-next-id}
 use Rattle.runs.proofs.Turns.{save-turns}
 use Rattle.tables.proofs.save_table.Symbol.{name as #save}
-use Rattle.calls.proofs.turns.saved.Symbol.{name as #kept}
+use Rattle.turns.proofs.saved.Symbol.{name as #kept}
 use Rattle.runs.proofs.save_turn.Key.{name as #this}
 use Rattle.image.proofs.SaveResult as saved
 use Rattle.image.proofs.SaveResult.Laws as saved-laws
@@ -58,9 +58,9 @@ use Rattle.calls.proofs.Gone as gone
 use Rattle.tables.proofs.save_table as save
 use Rattle.tables.proofs.save_table.Symbol as save-def
 use Rattle.tables.proofs.save_table.Met as save-thm
-use Rattle.calls.proofs.turns.saved as kept
-use Rattle.calls.proofs.turns.saved.Symbol as kept-def
-use Rattle.calls.proofs.turns.saved.Met as kept-thm
+use Rattle.turns.proofs.saved as kept
+use Rattle.turns.proofs.saved.Symbol as kept-def
+use Rattle.turns.proofs.saved.Met as kept-thm
 use Rattle.runs.proofs.save_turn as f
 use Rattle.runs.proofs.save_turn.Statement as stated
 use Rattle.runs.proofs.save_turn.Code as code
@@ -184,4 +184,4 @@ save-turn-spec 𝓤 H 𝓜 𝓖 𝓡 =
     (tables 𝓤 H 𝓜 𝓡 code.env .C) (tables 𝓤 H 𝓜 𝓡 code.env .Λ) #this code.function (code.unfolded 𝓤 H 𝓜 𝓡)
     (meets 𝓤 H (𝓖 .A) (givenOf 𝓤 H 𝓜 𝓖) (𝓜 .mem) (𝓡 .run) (tablesOf 𝓤 H 𝓜 (tables 𝓤 H 𝓜 𝓡 code.env))
     (cited 𝓤 H (save-con 𝓤 H (𝓖 .A) (𝓜 .mem) (𝓡 .run)) 𝓜 𝓡 code.env #save save-def.routine code.calls-tables·save-table (save-thm.met 𝓤 H 𝓜 𝓖 𝓡))
-    (cited 𝓤 H (kept-con 𝓤 H (𝓖 .A) (𝓜 .mem) (𝓡 .run)) 𝓜 𝓡 code.env #kept kept-def.routine code.calls-calls·turns·saved (kept-thm.met 𝓤 H 𝓜 𝓖 𝓡)))
+    (cited 𝓤 H (kept-con 𝓤 H (𝓖 .A) (𝓜 .mem) (𝓡 .run)) 𝓜 𝓡 code.env #kept kept-def.routine code.calls-turns·saved (kept-thm.met 𝓤 H 𝓜 𝓖 𝓡)))

@@ -44,10 +44,10 @@ use Rattle.runs.proofs.Values.{machine-val, machine-vals, machine-ty, machine-t
 use Rattle.vm.proofs.Report as report
 use Rattle.vm.proofs.CreateResult as created
 use Rattle.vm.proofs.Values.{report-val, report-vals, report-ty, report-tells, report-makes, report-typed, created-val, created-vals, created-ty, created-tells, created-makes, created-typed}
-use Rattle.vm.proofs.machine.create.Symbol.{name as #creates}
-use Rattle.vm.proofs.machine.create as creates
-use Rattle.vm.proofs.machine.create.Symbol as creates-def
-use Rattle.vm.proofs.machine.create.Met as creates-thm
+use Rattle.creating.proofs.create.Symbol.{name as #creates}
+use Rattle.creating.proofs.create as creates
+use Rattle.creating.proofs.create.Symbol as creates-def
+use Rattle.creating.proofs.create.Met as creates-thm
 use Rattle.shows.proofs.machine_of.Symbol.{name as #begins}
 use Rattle.shows.proofs.machine_of as begins
 use Rattle.shows.proofs.machine_of.Symbol as begins-def
@@ -56,10 +56,10 @@ use Rattle.shows.proofs.fuel_of_a_run.Symbol.{name as #fuels}
 use Rattle.shows.proofs.fuel_of_a_run as fuels
 use Rattle.shows.proofs.fuel_of_a_run.Symbol as fuels-def
 use Rattle.shows.proofs.fuel_of_a_run.Met as fuels-thm
-use Rattle.vm.proofs.machine.start.Symbol.{name as #starts}
-use Rattle.vm.proofs.machine.start as starts
-use Rattle.vm.proofs.machine.start.Symbol as starts-def
-use Rattle.vm.proofs.machine.start.Met as starts-thm
+use Rattle.calling.proofs.start.Symbol.{name as #starts}
+use Rattle.calling.proofs.start as starts
+use Rattle.calling.proofs.start.Symbol as starts-def
+use Rattle.calling.proofs.start.Met as starts-thm
 use Rattle.shows.proofs.show_run.Symbol.{name as #shows-run}
 use Rattle.shows.proofs.show_run as shows-run
 use Rattle.shows.proofs.show_run.Symbol as shows-run-def
@@ -282,9 +282,9 @@ perform-spec 𝓤 H 𝓜 𝓖 𝓡 =
     entered 𝓤 H (tripleOf 𝓤 H (𝓖 .A) f.signature (f.spec 𝓤 H (𝓖 .A) (𝓜 .mem) (𝓡 .run)))
     (tables 𝓤 H 𝓜 𝓡 code.env .C) (tables 𝓤 H 𝓜 𝓡 code.env .Λ) #this code.function (code.unfolded 𝓤 H 𝓜 𝓡)
     (meets 𝓤 H (𝓖 .A) (givenOf 𝓤 H 𝓜 𝓖) (𝓜 .mem) (𝓡 .run) (tablesOf 𝓤 H 𝓜 (tables 𝓤 H 𝓜 𝓡 code.env))
-    (cited 𝓤 H (creates-con 𝓤 H (𝓖 .A) (𝓜 .mem) (𝓡 .run)) 𝓜 𝓡 code.env #creates creates-def.routine code.calls-vm·machine·create (creates-thm.met 𝓤 H 𝓜 𝓖 𝓡))
+    (cited 𝓤 H (creates-con 𝓤 H (𝓖 .A) (𝓜 .mem) (𝓡 .run)) 𝓜 𝓡 code.env #creates creates-def.routine code.calls-creating·create (creates-thm.met 𝓤 H 𝓜 𝓖 𝓡))
     (cited 𝓤 H (begins-con 𝓤 H (𝓖 .A) (𝓜 .mem) (𝓡 .run)) 𝓜 𝓡 code.env #begins begins-def.routine code.calls-shows·machine-of (begins-thm.met 𝓤 H 𝓜 𝓖 𝓡))
     (cited 𝓤 H (fuels-con 𝓤 H (𝓖 .A) (𝓜 .mem) (𝓡 .run)) 𝓜 𝓡 code.env #fuels fuels-def.routine code.calls-shows·fuel-of-a-run (fuels-thm.met 𝓤 H 𝓜 𝓖 𝓡))
-    (cited 𝓤 H (starts-con 𝓤 H (𝓖 .A) (𝓜 .mem) (𝓡 .run)) 𝓜 𝓡 code.env #starts starts-def.routine code.calls-vm·machine·start (starts-thm.met 𝓤 H 𝓜 𝓖 𝓡))
+    (cited 𝓤 H (starts-con 𝓤 H (𝓖 .A) (𝓜 .mem) (𝓡 .run)) 𝓜 𝓡 code.env #starts starts-def.routine code.calls-calling·start (starts-thm.met 𝓤 H 𝓜 𝓖 𝓡))
     (cited 𝓤 H (shows-run-con 𝓤 H (𝓖 .A) (𝓜 .mem) (𝓡 .run)) 𝓜 𝓡 code.env #shows-run shows-run-def.routine code.calls-shows·show-run (shows-run-thm.met 𝓤 H 𝓜 𝓖 𝓡))
     (cited 𝓤 H (shows-tasks-con 𝓤 H (𝓖 .A) (𝓜 .mem) (𝓡 .run)) 𝓜 𝓡 code.env #shows-tasks shows-tasks-def.routine code.calls-shows·show-tasks (shows-tasks-thm.met 𝓤 H 𝓜 𝓖 𝓡)))

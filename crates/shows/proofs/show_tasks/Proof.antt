@@ -52,10 +52,10 @@ use Rattle.shows.proofs.show_count.Symbol.{name as #shows-count}
 use Rattle.shows.proofs.show_count as shows-count
 use Rattle.shows.proofs.show_count.Symbol as shows-count-def
 use Rattle.shows.proofs.show_count.Met as shows-count-thm
-use Rattle.storage.proofs.table.get.Symbol.{name as #gets}
-use Rattle.storage.proofs.table.get as gets
-use Rattle.storage.proofs.table.get.Symbol as gets-def
-use Rattle.storage.proofs.table.get.Met as gets-thm
+use Rattle.table.proofs.get.Symbol.{name as #gets}
+use Rattle.table.proofs.get as gets
+use Rattle.table.proofs.get.Symbol as gets-def
+use Rattle.table.proofs.get.Met as gets-thm
 use Rattle.shows.proofs.show_task.Symbol.{name as #shows-task}
 use Rattle.shows.proofs.show_task as shows-task
 use Rattle.shows.proofs.show_task.Symbol as shows-task-def
@@ -257,5 +257,5 @@ show-tasks-spec 𝓤 H 𝓜 𝓖 𝓡 =
     (meets 𝓤 H (𝓖 .A) (givenOf 𝓤 H 𝓜 𝓖) (𝓜 .mem) (𝓡 .run) (tablesOf 𝓤 H 𝓜 (tables 𝓤 H 𝓜 𝓡 code.env))
     (cited 𝓤 H (counts-con 𝓤 H (𝓖 .A) (𝓜 .mem) (𝓡 .run)) 𝓜 𝓡 code.env #counts counts-def.routine code.calls-slots·living (counts-thm.met 𝓤 H 𝓜 𝓖 𝓡))
     (cited 𝓤 H (shows-count-con 𝓤 H (𝓖 .A) (𝓜 .mem) (𝓡 .run)) 𝓜 𝓡 code.env #shows-count shows-count-def.routine code.calls-shows·show-count (shows-count-thm.met 𝓤 H 𝓜 𝓖 𝓡))
-    (cited 𝓤 H (gets-con 𝓤 H (𝓖 .A) (𝓜 .mem) (𝓡 .run)) 𝓜 𝓡 code.env #gets gets-def.routine code.calls-storage·table·get (gets-thm.met 𝓤 H 𝓜 𝓖 𝓡))
+    (cited 𝓤 H (gets-con 𝓤 H (𝓖 .A) (𝓜 .mem) (𝓡 .run)) 𝓜 𝓡 code.env #gets gets-def.routine code.calls-table·get (gets-thm.met 𝓤 H 𝓜 𝓖 𝓡))
     (cited 𝓤 H (shows-task-con 𝓤 H (𝓖 .A) (𝓜 .mem) (𝓡 .run)) 𝓜 𝓡 code.env #shows-task shows-task-def.routine code.calls-shows·show-task (shows-task-thm.met 𝓤 H 𝓜 𝓖 𝓡)))

@@ -42,11 +42,11 @@ use Rattle.storage.specs.declared.Task.{Task}
 use Rattle.storage.specs.Tasks.{blank}
 use Rattle.storage.proofs.Records.{R, table-ty}
 use Rattle.slots.proofs.Turns.{clears, cleared}
-use Rattle.storage.proofs.table.clear.Symbol.{name as #clear}
+use Rattle.table.proofs.clear.Symbol.{name as #clear}
 use Rattle.slots.proofs.clear_all.Key.{name as #this}
-use Rattle.storage.proofs.table.clear as clear
-use Rattle.storage.proofs.table.clear.Symbol as clear-def
-use Rattle.storage.proofs.table.clear.Met as clear-thm
+use Rattle.table.proofs.clear as clear
+use Rattle.table.proofs.clear.Symbol as clear-def
+use Rattle.table.proofs.clear.Met as clear-thm
 use Rattle.slots.proofs.clear_all as f
 use Rattle.slots.proofs.clear_all.Statement as stated
 use Rattle.slots.proofs.clear_all.Code as code
@@ -178,4 +178,4 @@ clear-all-spec 𝓤 H 𝓜 𝓖 𝓡 =
     entered 𝓤 H (tripleOf 𝓤 H (𝓖 .A) f.signature (f.spec 𝓤 H (𝓖 .A) (𝓜 .mem) (𝓡 .run)))
     (tables 𝓤 H 𝓜 𝓡 code.env .C) (tables 𝓤 H 𝓜 𝓡 code.env .Λ) #this code.function (code.unfolded 𝓤 H 𝓜 𝓡)
     (meets 𝓤 H (𝓖 .A) (givenOf 𝓤 H 𝓜 𝓖) (𝓜 .mem) (𝓡 .run) (tablesOf 𝓤 H 𝓜 (tables 𝓤 H 𝓜 𝓡 code.env))
-    (cited 𝓤 H (clear-con 𝓤 H (𝓖 .A) (𝓜 .mem) (𝓡 .run)) 𝓜 𝓡 code.env #clear clear-def.routine code.calls-storage·table·clear (clear-thm.met 𝓤 H 𝓜 𝓖 𝓡)))
+    (cited 𝓤 H (clear-con 𝓤 H (𝓖 .A) (𝓜 .mem) (𝓡 .run)) 𝓜 𝓡 code.env #clear clear-def.routine code.calls-table·clear (clear-thm.met 𝓤 H 𝓜 𝓖 𝓡)))

@@ -43,14 +43,14 @@ use Rattle.storage.specs.Tasks.{blank, after}
 use Rattle.storage.specs.Table.{lives, living-of}
 use Rattle.storage.proofs.Records.{R, table-ty, val, makes, typed}
 use Rattle.slots.proofs.Turns.{read, lives-most, counting, counts, counted-all, one-more-fits, still-few}
-use Rattle.storage.proofs.table.get.Symbol.{name as #get}
+use Rattle.table.proofs.get.Symbol.{name as #get}
 use Rattle.slots.proofs.counted.Symbol.{name as #counted}
 use Rattle.slots.proofs.living.Key.{name as #this}
 use Rattle.storage.proofs.Task as task
 use Rattle.storage.proofs.Task.Laws as task-laws
-use Rattle.storage.proofs.table.get as get
-use Rattle.storage.proofs.table.get.Symbol as get-def
-use Rattle.storage.proofs.table.get.Met as get-thm
+use Rattle.table.proofs.get as get
+use Rattle.table.proofs.get.Symbol as get-def
+use Rattle.table.proofs.get.Met as get-thm
 use Rattle.slots.proofs.counted as counted
 use Rattle.slots.proofs.counted.Symbol as counted-def
 use Rattle.slots.proofs.counted.Met as counted-thm
@@ -205,5 +205,5 @@ living-spec 𝓤 H 𝓜 𝓖 𝓡 =
     entered 𝓤 H (tripleOf 𝓤 H (𝓖 .A) f.signature (f.spec 𝓤 H (𝓖 .A) (𝓜 .mem) (𝓡 .run)))
     (tables 𝓤 H 𝓜 𝓡 code.env .C) (tables 𝓤 H 𝓜 𝓡 code.env .Λ) #this code.function (code.unfolded 𝓤 H 𝓜 𝓡)
     (meets 𝓤 H (𝓖 .A) (givenOf 𝓤 H 𝓜 𝓖) (𝓜 .mem) (𝓡 .run) (tablesOf 𝓤 H 𝓜 (tables 𝓤 H 𝓜 𝓡 code.env))
-    (cited 𝓤 H (get-con 𝓤 H (𝓖 .A) (𝓜 .mem) (𝓡 .run)) 𝓜 𝓡 code.env #get get-def.routine code.calls-storage·table·get (get-thm.met 𝓤 H 𝓜 𝓖 𝓡))
+    (cited 𝓤 H (get-con 𝓤 H (𝓖 .A) (𝓜 .mem) (𝓡 .run)) 𝓜 𝓡 code.env #get get-def.routine code.calls-table·get (get-thm.met 𝓤 H 𝓜 𝓖 𝓡))
     (cited 𝓤 H (counted-con 𝓤 H (𝓖 .A) (𝓜 .mem) (𝓡 .run)) 𝓜 𝓡 code.env #counted counted-def.routine code.calls-slots·counted (counted-thm.met 𝓤 H 𝓜 𝓖 𝓡)))

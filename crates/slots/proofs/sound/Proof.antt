@@ -45,15 +45,15 @@ use Rattle.storage.specs.Tasks.{blank, after}
 use Rattle.storage.specs.Table.{sound-slot, sound-slots, sound-counts, sound-table}
 use Rattle.storage.proofs.Records.{R, table-ty, val, makes, typed}
 use Rattle.slots.proofs.Turns.{read, testing, tests, tested}
-use Rattle.storage.proofs.table.get.Symbol.{name as #get}
+use Rattle.table.proofs.get.Symbol.{name as #get}
 use Rattle.slots.proofs.sound_counts.Symbol.{name as #counts}
 use Rattle.slots.proofs.still_sound.Symbol.{name as #still}
 use Rattle.slots.proofs.sound.Key.{name as #this}
 use Rattle.storage.proofs.Task as task
 use Rattle.storage.proofs.Task.Laws as task-laws
-use Rattle.storage.proofs.table.get as get
-use Rattle.storage.proofs.table.get.Symbol as get-def
-use Rattle.storage.proofs.table.get.Met as get-thm
+use Rattle.table.proofs.get as get
+use Rattle.table.proofs.get.Symbol as get-def
+use Rattle.table.proofs.get.Met as get-thm
 use Rattle.slots.proofs.sound_counts as counts
 use Rattle.slots.proofs.sound_counts.Symbol as counts-def
 use Rattle.slots.proofs.sound_counts.Met as counts-thm
@@ -221,6 +221,6 @@ sound-spec 𝓤 H 𝓜 𝓖 𝓡 =
     entered 𝓤 H (tripleOf 𝓤 H (𝓖 .A) f.signature (f.spec 𝓤 H (𝓖 .A) (𝓜 .mem) (𝓡 .run)))
     (tables 𝓤 H 𝓜 𝓡 code.env .C) (tables 𝓤 H 𝓜 𝓡 code.env .Λ) #this code.function (code.unfolded 𝓤 H 𝓜 𝓡)
     (meets 𝓤 H (𝓖 .A) (givenOf 𝓤 H 𝓜 𝓖) (𝓜 .mem) (𝓡 .run) (tablesOf 𝓤 H 𝓜 (tables 𝓤 H 𝓜 𝓡 code.env))
-    (cited 𝓤 H (get-con 𝓤 H (𝓖 .A) (𝓜 .mem) (𝓡 .run)) 𝓜 𝓡 code.env #get get-def.routine code.calls-storage·table·get (get-thm.met 𝓤 H 𝓜 𝓖 𝓡))
+    (cited 𝓤 H (get-con 𝓤 H (𝓖 .A) (𝓜 .mem) (𝓡 .run)) 𝓜 𝓡 code.env #get get-def.routine code.calls-table·get (get-thm.met 𝓤 H 𝓜 𝓖 𝓡))
     (cited 𝓤 H (counts-con 𝓤 H (𝓖 .A) (𝓜 .mem) (𝓡 .run)) 𝓜 𝓡 code.env #counts counts-def.routine code.calls-slots·sound-counts (counts-thm.met 𝓤 H 𝓜 𝓖 𝓡))
     (cited 𝓤 H (still-con 𝓤 H (𝓖 .A) (𝓜 .mem) (𝓡 .run)) 𝓜 𝓡 code.env #still still-def.routine code.calls-slots·still-sound (still-thm.met 𝓤 H 𝓜 𝓖 𝓡)))

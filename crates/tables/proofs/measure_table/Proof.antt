@@ -51,7 +51,7 @@ use Rattle.tables.specs.declared.MeasuredTable.{MeasuredTable}
 use Rattle.tables.specs.Tables.{held, measuring as none-measured, measure-next, measured-as}
 use Rattle.tables.proofs.Turns.{slot-is, step-is, to-measure, measure-begins, measure-turns, measure-ends, count-turns, none-counted, more-counted}
 use Rattle.tables.proofs.measuring.Symbol.{name as #measuring}
-use Rattle.storage.proofs.table.get.Symbol.{name as #get}
+use Rattle.table.proofs.get.Symbol.{name as #get}
 use Rattle.tables.proofs.measure_next.Symbol.{name as #next}
 use Rattle.tables.proofs.measure_table.Key.{name as #this}
 use Rattle.storage.proofs.Task as task
@@ -61,9 +61,9 @@ use Rattle.tables.proofs.MeasuredTable.Laws as measured-laws
 use Rattle.tables.proofs.measuring as measuring
 use Rattle.tables.proofs.measuring.Symbol as measuring-def
 use Rattle.tables.proofs.measuring.Met as measuring-thm
-use Rattle.storage.proofs.table.get as get
-use Rattle.storage.proofs.table.get.Symbol as get-def
-use Rattle.storage.proofs.table.get.Met as get-thm
+use Rattle.table.proofs.get as get
+use Rattle.table.proofs.get.Symbol as get-def
+use Rattle.table.proofs.get.Met as get-thm
 use Rattle.tables.proofs.measure_next as next
 use Rattle.tables.proofs.measure_next.Symbol as next-def
 use Rattle.tables.proofs.measure_next.Met as next-thm
@@ -255,5 +255,5 @@ measure-table-spec 𝓤 H 𝓜 𝓖 𝓡 =
     (tables 𝓤 H 𝓜 𝓡 code.env .C) (tables 𝓤 H 𝓜 𝓡 code.env .Λ) #this code.function (code.unfolded 𝓤 H 𝓜 𝓡)
     (meets 𝓤 H (𝓖 .A) (givenOf 𝓤 H 𝓜 𝓖) (𝓜 .mem) (𝓡 .run) (tablesOf 𝓤 H 𝓜 (tables 𝓤 H 𝓜 𝓡 code.env))
     (cited 𝓤 H (measuring-con 𝓤 H (𝓖 .A) (𝓜 .mem) (𝓡 .run)) 𝓜 𝓡 code.env #measuring measuring-def.routine code.calls-tables·measuring (measuring-thm.met 𝓤 H 𝓜 𝓖 𝓡))
-    (cited 𝓤 H (get-con 𝓤 H (𝓖 .A) (𝓜 .mem) (𝓡 .run)) 𝓜 𝓡 code.env #get get-def.routine code.calls-storage·table·get (get-thm.met 𝓤 H 𝓜 𝓖 𝓡))
+    (cited 𝓤 H (get-con 𝓤 H (𝓖 .A) (𝓜 .mem) (𝓡 .run)) 𝓜 𝓡 code.env #get get-def.routine code.calls-table·get (get-thm.met 𝓤 H 𝓜 𝓖 𝓡))
     (cited 𝓤 H (next-con 𝓤 H (𝓖 .A) (𝓜 .mem) (𝓡 .run)) 𝓜 𝓡 code.env #next next-def.routine code.calls-tables·measure-next (next-thm.met 𝓤 H 𝓜 𝓖 𝓡)))

@@ -55,7 +55,7 @@ use Rattle.tables.specs.Tables.{held, measured-as, begin-save}
 use Rattle.tables.proofs.Turns.{slot-is, step-is, held-is, header-fits, past-fits, to-save, save-begins, save-turns, save-ends}
 use Rattle.tables.proofs.measure_table.Symbol.{name as #measure}
 use Rattle.tables.proofs.begin.Symbol.{name as #begins}
-use Rattle.storage.proofs.table.get.Symbol.{name as #get}
+use Rattle.table.proofs.get.Symbol.{name as #get}
 use Rattle.records.proofs.steps.save_slot.Symbol.{name as #slot}
 use Rattle.tables.proofs.save_table.Key.{name as #this}
 use Rattle.storage.proofs.Task as task
@@ -72,9 +72,9 @@ use Rattle.tables.proofs.measure_table.Met as measure-thm
 use Rattle.tables.proofs.begin as begins
 use Rattle.tables.proofs.begin.Symbol as begins-def
 use Rattle.tables.proofs.begin.Met as begins-thm
-use Rattle.storage.proofs.table.get as get
-use Rattle.storage.proofs.table.get.Symbol as get-def
-use Rattle.storage.proofs.table.get.Met as get-thm
+use Rattle.table.proofs.get as get
+use Rattle.table.proofs.get.Symbol as get-def
+use Rattle.table.proofs.get.Met as get-thm
 use Rattle.records.proofs.steps.save_slot as slot
 use Rattle.records.proofs.steps.save_slot.Symbol as slot-def
 use Rattle.records.proofs.steps.save_slot.Met as slot-thm
@@ -317,5 +317,5 @@ save-table-spec 𝓤 H 𝓜 𝓖 𝓡 =
     (meets 𝓤 H (𝓖 .A) (givenOf 𝓤 H 𝓜 𝓖) (𝓜 .mem) (𝓡 .run) (tablesOf 𝓤 H 𝓜 (tables 𝓤 H 𝓜 𝓡 code.env))
     (cited 𝓤 H (measure-con 𝓤 H (𝓖 .A) (𝓜 .mem) (𝓡 .run)) 𝓜 𝓡 code.env #measure measure-def.routine code.calls-tables·measure-table (measure-thm.met 𝓤 H 𝓜 𝓖 𝓡))
     (cited 𝓤 H (begins-con 𝓤 H (𝓖 .A) (𝓜 .mem) (𝓡 .run)) 𝓜 𝓡 code.env #begins begins-def.routine code.calls-tables·begin (begins-thm.met 𝓤 H 𝓜 𝓖 𝓡))
-    (cited 𝓤 H (get-con 𝓤 H (𝓖 .A) (𝓜 .mem) (𝓡 .run)) 𝓜 𝓡 code.env #get get-def.routine code.calls-storage·table·get (get-thm.met 𝓤 H 𝓜 𝓖 𝓡))
+    (cited 𝓤 H (get-con 𝓤 H (𝓖 .A) (𝓜 .mem) (𝓡 .run)) 𝓜 𝓡 code.env #get get-def.routine code.calls-table·get (get-thm.met 𝓤 H 𝓜 𝓖 𝓡))
     (cited 𝓤 H (slot-con 𝓤 H (𝓖 .A) (𝓜 .mem) (𝓡 .run)) 𝓜 𝓡 code.env #slot slot-def.routine code.calls-records·steps·save-slot (slot-thm.met 𝓤 H 𝓜 𝓖 𝓡)))

@@ -1,4 +1,4 @@
--- `core::stack::finish` meets its contract.
+-- `opcodes::stack::finish` meets its contract.
 use borrow.Author.Needs.{needs}
 use Rattle.opcodes.proofs.stack.finish.Statement.{statement}
 use Rattle.opcodes.specs.Stack.{finish}

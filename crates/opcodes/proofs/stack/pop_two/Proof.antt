@@ -1,4 +1,4 @@
--- `core::stack::pop_two` meets its contract.
+-- `opcodes::stack::pop_two` meets its contract.
 use borrow.Author.Needs.{needs}
 use Rattle.opcodes.proofs.stack.pop_two.Statement.{statement}
 use Rattle.opcodes.specs.Stack.{pop-second, pop-first, pop-two}

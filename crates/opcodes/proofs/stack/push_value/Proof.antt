@@ -1,4 +1,4 @@
--- `core::stack::push_value` meets its contract.
+-- `opcodes::stack::push_value` meets its contract.
 use borrow.Author.Needs.{needs}
 use Rattle.opcodes.proofs.stack.push_value.Statement.{statement}
 use Rattle.opcodes.specs.Stack.{pushed-to, push-value}

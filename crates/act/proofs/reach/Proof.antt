@@ -1,0 +1,28 @@
+-- `act::reach` meets its contract.
+use Prim.Native.Nat.{_<_}
+use mathlib.Core.Path.{_∙_}
+use native.Mathlib.Omega.{arith}
+use lib.ListN.{getD}
+use Rattle.bytecode.proofs.OperandRule.{by-table}
+use borrow.Author.Needs.{needs}
+use Rattle.act.proofs.reach.Statement.{statement}
+use Rattle.act.proofs.reach.Tie as tie
+use Rattle.act.proofs.reach.Reads as reads
+use Rattle.act.proofs.reach.Lts as lts
+use Rattle.bytecode.proofs.operands.extent.Reads as extent-reads
+use Rattle.bytecode.proofs.operands.operand_sizes.Reads as operand-sizes-reads
+
+operand-sizes-requires : tie.Need-operand-sizes-requires
+operand-sizes-requires c κs = search needs
+
+extent-requires : tie.Need-extent-requires
+extent-requires c κs = search needs
+
+returns : tie.Need-returns
+returns c =
+    let start = c .before .before .before .before in
+    let byte : getD (start .args .code .now) (start .args .place) 0 < 256 = omega (arith, c .before .before .before .shared-slice-known .given (start .args .place)) in
+    c .extent .ensures ∙ by-table _ (start .args .code .now) (start .args .place) (c .before .before .operand-sizes .ensures) byte
+
+pub reach-spec : {M : Type 1} → statement M
+reach-spec = tie.close (tie.spec operand-sizes-requires extent-requires returns)

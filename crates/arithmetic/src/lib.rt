@@ -1,0 +1,66 @@
+// Opcodes that calculate with numbers: MUL, MULI, LT, GT.
+ghost use mathlib.Core.Path.{_≡_};
+ghost use Rattle.opcodes.specs.Registers.{on-stack};
+ghost use Rattle.opcodes.specs.Stack.{op-mul, op-muli, op-compare};
+use inlinevec::PopResult;
+use opcodes::Did;
+use opcodes::PopTwoResult;
+use opcodes::Registers;
+use opcodes::stack::finish;
+use opcodes::stack::pop_two;
+
+// MUL.
+pub fn op_mul(stack: &mut [u64; 1000], registers: Registers, next: usize) -> Did
+    ensures { λ r. ⌜ on-stack r (now (stack .exit)) ≡ op-mul (now (stack .entry)) registers next ⌝ }
+{
+    match pop_two(stack, registers.height) {
+        PopTwoResult::NotPoppedTwo(refusal) => Did::Refused(refusal),
+        PopTwoResult::PoppedTwo {
+            first,
+            second,
+            height,
+        } => finish(
+            stack,
+            registers,
+            next,
+            height,
+            calculations::mul_checked(first, second),
+        ),
+    }
+}
+
+// MULI.
+pub fn op_muli(stack: &mut [u64; 1000], registers: Registers, next: usize, number: u32) -> Did
+    ensures { λ r. ⌜ on-stack r (now (stack .exit)) ≡ op-muli (now (stack .entry)) registers next number ⌝ }
+{
+    match inlinevec::pop(stack, registers.height) {
+        PopResult::NotPopped(refusal) => Did::Refused(refusal),
+        PopResult::Popped { value, height } => finish(
+            stack,
+            registers,
+            next,
+            height,
+            calculations::mul_checked_i(value, number),
+        ),
+    }
+}
+
+// LT, and GT where is_lt is false: the right value is on top.
+pub fn op_compare(stack: &mut [u64; 1000], registers: Registers, next: usize, is_lt: bool) -> Did
+    ensures { λ r. ⌜ on-stack r (now (stack .exit)) ≡ op-compare (now (stack .entry)) registers next «is_lt» ⌝ }
+{
+    match pop_two(stack, registers.height) {
+        PopTwoResult::NotPoppedTwo(refusal) => Did::Refused(refusal),
+        PopTwoResult::PoppedTwo {
+            first: right,
+            second: left,
+            height,
+        } => finish(
+            stack,
+            registers,
+            next,
+            height,
+            calculations::value_cmp(left, right, is_lt),
+        ),
+    }
+}

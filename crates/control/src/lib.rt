@@ -1,0 +1,118 @@
+// Opcodes that choose where the run goes on: DO, LOOP, LOOP_INDEX, JUMP_IF_FALSE.
+ghost use mathlib.Core.Path.{_≡_};
+ghost use Rattle.opcodes.specs.Registers.{on-stack};
+ghost use Rattle.opcodes.specs.Control.{looping, opened-to, op-do, op-loop, op-loop-index, op-jump-if-false};
+use inlinevec::LastLoopResult;
+use inlinevec::Loop;
+use inlinevec::Loops;
+use inlinevec::LoopsResult;
+use inlinevec::PopLoopResult;
+use inlinevec::PopResult;
+use opcodes::Did;
+use opcodes::PopTwoResult;
+use opcodes::Registers;
+use opcodes::stack::moved;
+use opcodes::stack::pop_two;
+use opcodes::stack::push_value;
+
+// The registers at another place and another height, with other open loops.
+fn looping(registers: Registers, place: usize, height: usize, loops: Loops) -> Registers
+    ensures { λ r. ⌜ r ≡ looping registers place height loops ⌝ }
+{
+    Registers {
+        place,
+        height,
+        loops,
+        memory: registers.memory,
+    }
+}
+
+// On at a place with one loop more.
+fn opened_to(registers: Registers, place: usize, height: usize, result: LoopsResult) -> Did
+    ensures { λ r. ⌜ r ≡ opened-to registers place height result ⌝ }
+{
+    match result {
+        LoopsResult::NewLoops(loops) => Did::Next(looping(registers, place, height, loops)),
+        LoopsResult::NoNewLoops(refusal) => Did::Refused(refusal),
+    }
+}
+
+// DO: the index is on top, the limit below it.
+pub fn op_do(stack: &[u64; 1000], registers: Registers, next: usize) -> Did
+    ensures { λ r. ⌜ r ≡ op-do (now (stack .entry)) registers next ⌝ }
+{
+    match pop_two(stack, registers.height) {
+        PopTwoResult::NotPoppedTwo(refusal) => Did::Refused(refusal),
+        PopTwoResult::PoppedTwo {
+            first: index,
+            second: limit,
+            height,
+        } => {
+            let opened = Loop {
+                place: next,
+                index: values::to_u32(index),
+                limit: values::to_u32(limit),
+            };
+            let loops = registers.loops;
+            opened_to(registers, next, height, inlinevec::push_loop(loops, opened))
+        }
+    }
+}
+
+// LOOP: back exactly if index + 1 is below the limit.
+pub fn op_loop(registers: Registers, next: usize) -> Did
+    ensures { λ r. ⌜ r ≡ op-loop registers next ⌝ }
+{
+    let open = registers.loops;
+    match inlinevec::pop_loop(open) {
+        PopLoopResult::NotPoppedLoop(refusal) => Did::Refused(refusal),
+        PopLoopResult::PoppedLoop { last, loops } => {
+            if last.index as u64 + 1 < last.limit as u64 {
+                let again = Loop {
+                    place: last.place,
+                    index: last.index + 1,
+                    limit: last.limit,
+                };
+                return opened_to(
+                    registers,
+                    last.place,
+                    registers.height,
+                    inlinevec::push_loop(loops, again),
+                );
+            }
+            Did::Next(looping(registers, next, registers.height, loops))
+        }
+    }
+}
+
+// LOOP_INDEX.
+pub fn op_loop_index(stack: &mut [u64; 1000], registers: Registers, next: usize) -> Did
+    ensures { λ r. ⌜ on-stack r (now (stack .exit)) ≡ op-loop-index (now (stack .entry)) registers next ⌝ }
+{
+    let open = registers.loops;
+    match inlinevec::last_loop(open) {
+        LastLoopResult::NoLastLoop(refusal) => Did::Refused(refusal),
+        LastLoopResult::LastLoop(last) => push_value(
+            stack,
+            registers,
+            next,
+            registers.height,
+            values::to_u32_val(last.index),
+        ),
+    }
+}
+
+// JUMP_IF_FALSE, its operand being there.
+pub fn op_jump_if_false(stack: &[u64; 1000], registers: Registers, next: usize, target: u32) -> Did
+    ensures { λ r. ⌜ r ≡ op-jump-if-false (now (stack .entry)) registers next target ⌝ }
+{
+    match inlinevec::pop(stack, registers.height) {
+        PopResult::NotPopped(refusal) => Did::Refused(refusal),
+        PopResult::Popped { value, height } => {
+            if value == values::to_bool_val(false) {
+                return Did::Next(moved(registers, target as usize, height));
+            }
+            Did::Next(moved(registers, next, height))
+        }
+    }
+}

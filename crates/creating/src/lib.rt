@@ -1,0 +1,140 @@
+// Creation: its tests, the program as the pool's first entry, the image's tasks.
+ghost use mathlib.Core.Path.{_≡_};
+ghost use Rattle.vm.specs.declared.CreateResult.the-variants.{NotCreated};
+ghost use Rattle.vm.specs.Creation.{new-machine, prepared, unfit, prepare, created, made, create};
+use core::Machine;
+use core::Phase;
+use creation::CreationResult;
+use creation::creation_tests;
+use errors::Refusal;
+use inlinevec::Frame;
+use inlinevec::Frames;
+use inlinevec::Loop;
+use inlinevec::Loops;
+use pools::InstructionsRef;
+use pools::InternResult;
+use storage::Task;
+use tables::InUse;
+use vm::CreateResult;
+use vm::Prepared;
+
+// A machine that has not run, with so many bytes and entries in its pool.
+fn new_machine(bytes: usize, entries: usize, next_id: u32, count: u32) -> Machine
+    ensures { λ r. ⌜ r ≡ new-machine bytes entries «next_id» count ⌝ }
+{
+    let none = Loop {
+        place: 0,
+        index: 0,
+        limit: 0,
+    };
+    let main = Frame {
+        entry: InstructionsRef(0),
+        place: 0,
+    };
+    let loops = Loops {
+        count: 0,
+        outer: none,
+        inner: none,
+    };
+    let frames = Frames {
+        count: 1,
+        main,
+        task: main,
+    };
+    Machine {
+        phase: Phase::New,
+        height: 0,
+        loops,
+        frames,
+        memory: 0,
+        pool: bytes,
+        entries,
+        next_id,
+        count,
+        saved: 0,
+    }
+}
+
+// A creation that is refused.
+fn unfit(refusal: Refusal) -> Prepared
+    ensures { λ r. ⌜ r ≡ unfit refusal ⌝ }
+{
+    Prepared {
+        fits: false,
+        refusal,
+        machine: new_machine(0, 0, 0, 0),
+        count: 0,
+    }
+}
+
+// The tests, and then the program as the pool's first entry.
+fn prepare(
+    pool: &mut [u8],
+    ends: &mut [u32; 1024],
+    image: &mut [u8],
+    program: &mut [u8],
+    slots: usize,
+) -> Prepared
+    ensures { λ r. ⌜ prepared r (now (pool .exit)) (now (ends .exit)) (now (image .exit)) (now (program .exit)) ≡ prepare (now (pool .entry)) (now (ends .entry)) (now (image .entry)) (now (program .entry)) slots ⌝ }
+{
+    match creation_tests(slots, pool.len(), program, image) {
+        CreationResult::Unfit(refusal) => unfit(refusal),
+        CreationResult::Fit {
+            next_id,
+            count,
+            s_len,
+        } => match interning::intern_instructions(pool, ends, 0, 0, program) {
+            InternResult::NotInterned(refusal) => unfit(refusal),
+            InternResult::Interned { entry: _, bytes } => Prepared {
+                fits: true,
+                refusal: Refusal::PoolFull,
+                machine: new_machine(bytes, 1, next_id, s_len),
+                count,
+            },
+        },
+    }
+}
+
+// The machine, once its tasks are loaded.
+fn created(machine: Machine, used: InUse) -> CreateResult
+    ensures { λ r. ⌜ r ≡ created machine used ⌝ }
+{
+    let mut after = machine;
+    after.pool = used.bytes;
+    after.entries = used.entries;
+    CreateResult::Created(after)
+}
+
+// No machine: why a creation is refused.
+fn not_created(ready: Prepared) -> CreateResult
+    ensures { λ r. ⌜ r ≡ NotCreated (ready .refusal) ⌝ }
+{
+    let refusal = ready.refusal;
+    CreateResult::NotCreated(refusal)
+}
+
+// Creates a machine for a program over the tasks of an image.
+pub fn create(
+    table: &mut [Task],
+    pool: &mut [u8],
+    ends: &mut [u32; 1024],
+    image: &mut [u8],
+    program: &mut [u8],
+) -> CreateResult
+    ensures { λ r. ⌜ made r (now (table .exit)) (now (pool .exit)) (now (ends .exit)) (now (image .exit)) (now (program .exit)) ≡ create (now (table .entry)) (now (pool .entry)) (now (ends .entry)) (now (image .entry)) (now (program .entry)) ⌝ }
+{
+    let ready = prepare(pool, ends, image, program, table.len());
+    if ready.fits {
+        let used = loading::load_table(
+            table,
+            pool,
+            ends,
+            image,
+            ready.machine.pool,
+            ready.machine.entries,
+            ready.count,
+        );
+        return created(ready.machine, used);
+    }
+    not_created(ready)
+}
