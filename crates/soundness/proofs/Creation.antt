@@ -63,7 +63,7 @@ none-loaded : (l : Loading) → load-tasks [] l ≡ l
 unfolding load-tasks
 none-loaded l = refl
 
-loads-tasks : (bytes : List ℕ) (image : Image) (l : Loading) → read-image bytes ≡ sound image → load-table bytes l ≡ load-tasks (image .tasks) (cleared l)
+pub loads-tasks : (bytes : List ℕ) (image : Image) (l : Loading) → read-image bytes ≡ sound image → load-table bytes l ≡ load-tasks (image .tasks) (cleared l)
 loads-tasks [] image l e = load-none l ∙ sym (none-loaded (cleared l)) ∙ ap (λ (i : Image). load-tasks (i .tasks) (cleared l)) (none-image image e)
 loads-tasks (byte ∷ bytes) image l e = load-table-tasks (byte ∷ bytes) image l (omega arith) e
 

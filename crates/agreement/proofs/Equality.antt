@@ -1,0 +1,123 @@
+-- EQ and NEQ beside the Rust's arms: a vector on the stack of a sound world lies in memory in use, so that no slice panics.
+use Prim.Native.Nat.{ℕ, suc, _+_, _≤_, _<_}
+use mathlib.Core.Bool.{true, false, cond}
+use mathlib.Core.Path.{_≡_, refl}
+use mathlib.Core.List.{List}
+use native.Mathlib.Omega.{arith}
+use lib.Dec.{eqb}
+use lib.ListN.{length, getD, take}
+use lib.Seq.{length-take-le}
+use borrow.Author.Tests.{le-leb}
+use Rattle.image.specs.Numbers.{Bytes}
+use Rattle.inlinevec.specs.Stacks.{values-of}
+use Rattle.values.specs.Values.{is-vec, raw-tag, fat-pointer, to-fat-pointer, bool-not, value-eq, turned}
+use Rattle.values.specs.declared.FatPointer.{FatPointer}
+use Rattle.values.specs.declared.PointerResult.{PointerResult}
+use Rattle.values.specs.declared.TagResult.{TagResult}
+use Rattle.values.specs.declared.ValueResult.{ValueResult}
+use Rattle.values.specs.declared.ValueResult.the-variants.{Value, NoValue}
+use Rattle.memory.specs.Change.{inside}
+use Rattle.memory.specs.Reads.{get-slice-bytes, is-m-slice-eq}
+use Rattle.opcodes.specs.Stack.{finish, on-two}
+use Rattle.opcodes.specs.Equality.{eq-right, eq-left, eq-vectors, eq-tagged, eq-right-tag, eq-left-tag, eq-values, turned-if, op-eq}
+use Rattle.opcodes.specs.declared.Registers.{Registers}
+use Rattle.opcodes.specs.declared.PopTwoResult.{PopTwoResult}
+use Rattle.core.specs.Execute.{kept}
+use Rattle.calls.specs.Machines.{registers-of}
+use Rattle.runs.specs.World.{World}
+use Rattle.runs.specs.Step.{Stepped, inner-did}
+use Rattle.soundness.specs.Sound.{Inside}
+use Rattle.rust.specs.Errors.{VMError, InvalidType, TypeMismatch, Out, err}
+use Rattle.rust.specs.Values as values
+use Rattle.rust.specs.Helpers.{slice}
+use Rattle.rust.specs.Memory as memory
+use Rattle.rust.specs.Vm as rust
+use Rattle.rust.specs.Vm.{VM, pushes}
+use Rattle.agreement.specs.View.{view}
+use Rattle.agreement.specs.Agreement.{Agree, refusal-of}
+use Rattle.agreement.proofs.Facts.{Facts}
+use Rattle.agreement.proofs.Laws.{same, two-off}
+use Rattle.agreement.proofs.Views.{stepped}
+use Rattle.agreement.proofs.Values.{eq-agrees, neq-agrees, tag-agrees, pointer-agrees}
+use Rattle.agreement.proofs.Stack.{finished, missed}
+
+-- a slice of a vector that lies in memory
+pub sliced : {w : World} {a : Stepped} (l : List ℕ) (pointer : FatPointer) (k : List ℕ → Out VM) → pointer .offset + pointer .size ≤ length l
+    → Agree w a (k (get-slice-bytes l pointer)) → Agree w a (memory.get-slice-bytes l pointer k)
+unfolding memory.get-slice-bytes slice
+sliced l pointer k inside agrees = rw (le-leb (pointer .offset + pointer .size) (length l) inside) agrees
+
+-- and the test of it
+pub is-inside : (l : List ℕ) (pointer : FatPointer) → pointer .offset + pointer .size ≤ length l → inside l pointer ≡ true
+unfolding inside
+is-inside l pointer lies = le-leb (pointer .offset + pointer .size) (length l) lies
+
+-- two vectors
+slices-agree : {w : World} (f : ValueResult → Stepped) (k : ℕ → Out VM) → ((value : ℕ) → Agree w (f (Value value)) (k value))
+    → (l : List ℕ) (left right : FatPointer) → left .offset + left .size ≤ length l → right .offset + right .size ≤ length l
+    → Agree w (f (is-m-slice-eq l left right)) (memory.is-m-slice-eq l left right k)
+unfolding is-m-slice-eq memory.is-m-slice-eq
+slices-agree {w} f k given l left right a b =
+    same f (eqb (left .size) (right .size))
+    (λ t. same f (eqb (left .offset) (right .offset)) (λ u. given _)
+    (λ u. rw (is-inside l left a, is-inside l right b) (sliced l left _ a (sliced l right _ b (given _)))))
+    (λ t. given _)
+
+-- two values, over memory in use; g is EQ's own answer or NEQ's, which turns it round
+module _ {w : World} (g : ℕ → ℕ) (f : ValueResult → Stepped) (k : ℕ → Out VM) (given : (value : ℕ) → Agree w (f (Value value)) (k (g value)))
+    (missed : (error : VMError) → Agree w (f (NoValue (refusal-of error))) (err error)) (l : List ℕ) where
+  eq-agree : (left right : ℕ) → Inside (length l) left → Inside (length l) right → (scalar : (ℕ → Out VM) → Out VM) → Agree w (f (value-eq left right)) (scalar k)
+      → Agree w (f (eq-values l left right))
+      (values.tag left λ tag-left. values.tag right λ tag-right. cond (eqb tag-left tag-right)
+      (cond (is-vec left) (values.to-fat-pointer left λ a. values.to-fat-pointer right λ b. memory.is-m-slice-eq l a b λ v. k (g v)) (scalar k)) (err TypeMismatch))
+  unfolding eq-values eq-left-tag eq-right-tag eq-tagged eq-vectors eq-left eq-right
+  eq-agree left right in-left in-right scalar scalars =
+      tag-agrees (λ (o : TagResult). f (eq-left-tag l left right o)) _ left
+      (λ t. tag-agrees (λ (o : TagResult). f (eq-right-tag l left right (raw-tag left) o)) _ right
+      (λ u. same f (eqb (raw-tag left) (raw-tag right))
+      (λ e. same f (is-vec left)
+      (λ v. pointer-agrees (λ (o : PointerResult). f (eq-left l right o)) _ left
+      (λ a. pointer-agrees (λ (o : PointerResult). f (eq-right l (fat-pointer left) o)) _ right
+      (λ b. slices-agree f (λ v. k (g v)) given l (fat-pointer left) (fat-pointer right) (in-left a) (in-right b))
+      (missed InvalidType))
+      (missed InvalidType))
+      (λ v. scalars))
+      (λ e. missed TypeMismatch))
+      (missed InvalidType))
+      (missed InvalidType)
+
+module _ (w : World) (stale : ℕ) (h : Facts w) (bytes : Bytes (w .pool)) (next : ℕ) where
+  abbrev r : Registers
+  r = registers-of (w .machine)
+
+  -- a value on the stack over the memory in use
+  pub in-memory : (i : ℕ) → i < w .machine .height → Inside (length (take (w .machine .memory) (w .memory))) (getD (w .stack) i 0)
+  in-memory i less = rw (length-take-le (w .machine .memory) (w .memory) (h .memory)) (h .inside i less)
+
+  pub eq : Agree w (stepped w (kept (op-eq (w .stack) (w .memory) r next true) (w .memory))) (rust.eq next (view stale w))
+  unfolding op-eq on-two turned-if rust.eq view registers-of inner-did
+  eq =
+      two-off (w .stack) (w .machine .height) (h .height)
+      (λ (o : PopTwoResult). stepped w (kept (on-two (λ right left. eq-values (take (w .machine .memory) (w .memory)) left right) (w .stack) r next o) (w .memory))) _ refl
+      (λ i e. eq-agree (λ v. v) (λ (v : ValueResult). stepped w (kept (finish (w .stack) r next i v) (w .memory))) (λ v. pushes (view stale w) next (values-of i (w .stack)) v)
+      (finished w stale h bytes next i) (missed w stale h bytes next i) (take (w .machine .memory) (w .memory)) _ _ (in-memory i (omega arith)) (in-memory (suc i) (omega arith))
+      (λ k. values.value-eq (getD (w .stack) i 0) (getD (w .stack) (suc i) 0) k)
+      (eq-agrees (λ (v : ValueResult). stepped w (kept (finish (w .stack) r next i v) (w .memory))) _ (finished w stale h bytes next i) (missed w stale h bytes next i) _ _))
+
+  turned-given : (height value : ℕ) → Agree w (stepped w (kept (finish (w .stack) r next height (turned (Value value))) (w .memory))) (pushes (view stale w) next (values-of height (w .stack)) (bool-not value))
+  unfolding turned
+  turned-given height value = finished w stale h bytes next height (bool-not value)
+
+  turned-missed : (height : ℕ) (error : VMError) → Agree w (stepped w (kept (finish (w .stack) r next height (turned (NoValue (refusal-of error)))) (w .memory))) (err error)
+  unfolding turned
+  turned-missed height error = missed w stale h bytes next height error
+
+  pub neq : Agree w (stepped w (kept (op-eq (w .stack) (w .memory) r next false) (w .memory))) (rust.neq next (view stale w))
+  unfolding op-eq on-two turned-if rust.neq view registers-of inner-did
+  neq =
+      two-off (w .stack) (w .machine .height) (h .height)
+      (λ (o : PopTwoResult). stepped w (kept (on-two (λ right left. turned (eq-values (take (w .machine .memory) (w .memory)) left right)) (w .stack) r next o) (w .memory))) _ refl
+      (λ i e. eq-agree bool-not (λ (v : ValueResult). stepped w (kept (finish (w .stack) r next i (turned v)) (w .memory))) (λ v. pushes (view stale w) next (values-of i (w .stack)) v)
+      (turned-given i) (turned-missed i) (take (w .machine .memory) (w .memory)) _ _ (in-memory i (omega arith)) (in-memory (suc i) (omega arith))
+      (λ k. values.value-neq (getD (w .stack) i 0) (getD (w .stack) (suc i) 0) k)
+      (neq-agrees (λ (v : ValueResult). stepped w (kept (finish (w .stack) r next i v) (w .memory))) _ (finished w stale h bytes next i) (missed w stale h bytes next i) _ _))

@@ -1,0 +1,70 @@
+-- One run: our run of some fuel beside as many turns of the Rust's loop.
+use Prim.Native.Nat.{ℕ, zero, suc}
+use mathlib.Core.Bool.{Bool, true, false}
+use mathlib.Core.Path.{_≡_, refl}
+use lib.Dec.{ltb}
+use lib.ListN.{length}
+use borrow.Author.Tests.{leb-true, leb-false, lt-ltb, le-ltb}
+use Rattle.errors.specs.declared.Refusal.{Refusal}
+use Rattle.errors.specs.declared.Refusal.the-variants as refusal
+use Rattle.image.specs.Numbers.{Bytes}
+use Rattle.pools.proofs.Laws.{getD-entries}
+use Rattle.calls.specs.Machines.{current, code-of}
+use Rattle.calls.specs.declared.Outcome.the-variants as outcome
+use Rattle.runs.specs.World.{World, code, place, at-end}
+use Rattle.runs.specs.Step.{Stepped, step}
+use Rattle.runs.specs.Run.{End, end-at, follow, run}
+use Rattle.soundness.specs.Sound.{Sound}
+use Rattle.soundness.proofs.Step.{step-sound}
+use Rattle.rust.specs.Errors.{VMError, Out, ok, err, panic}
+use Rattle.rust.specs.Vm as rust
+use Rattle.rust.specs.Vm.{VM}
+use Rattle.rust.specs.Run.{Ran, running, failed, panicked, onward, finished, while}
+use Rattle.agreement.specs.View.{view}
+use Rattle.agreement.specs.Agreement.{Agree, goes-on, lacks, errs, panics, Over, refusal-of}
+use Rattle.agreement.proofs.Facts.{facts}
+use Rattle.agreement.proofs.Step.{agrees}
+
+-- where a run ends, sound, its pool of bytes, beside what the Rust's loop comes to
+pub data Same : End → Ran → Type 0 where
+  both-end : (stale : ℕ) (w : World) (left : ℕ) → Sound w → Bytes (w .pool) → Same (end-at w left outcome.Done) (finished (view stale w))
+  both-pause : (stale : ℕ) (w : World) → Sound w → Bytes (w .pool) → Same (end-at w 0 outcome.Paused) (running (view stale w))
+  both-err : (stale : ℕ) (w : World) (left : ℕ) (error : VMError) → rust.step (view stale w) ≡ err error → Same (end-at w left (outcome.Refused (refusal-of error))) (failed error)
+  both-panic : (stale : ℕ) (w : World) (left : ℕ) → rust.step (view stale w) ≡ panic → Same (end-at w left (outcome.Refused refusal.UnexpectedEOB)) panicked
+  meets : (stale : ℕ) (w : World) (left : ℕ) (number : Refusal) (vm : VM) (ran : Ran) → rust.step (view stale w) ≡ ok vm → Over w number vm → Same (end-at w left (outcome.Refused number)) ran
+
+-- the Rust's test of its loop is ours
+module _ (w : World) (stale : ℕ) (s : Sound w) where
+  code-is : rust.instructions (view stale w) ≡ code w
+  unfolding view code-of
+  code-is = getD-entries (w .pool) (w .ends) (w .machine .entries) (current (w .machine .frames) .entry .0) (facts s .frame)
+
+  goes : at-end w ≡ false → ltb (view stale w .pc) (length (rust.instructions (view stale w))) ≡ true
+  unfolding at-end view
+  goes before = rw code-is (lt-ltb (place w) (length (code w)) (leb-false _ _ before))
+
+  stops : at-end w ≡ true → ltb (view stale w .pc) (length (rust.instructions (view stale w))) ≡ false
+  unfolding at-end view
+  stops past = rw code-is (le-ltb (place w) (length (code w)) (leb-true _ _ past))
+
+-- on from an instruction
+module _ (others : World → End) (turn : VM → Ran) (alike : (v : World) (stale : ℕ) → Sound v → Bytes (v .pool) → Same (others v) (turn (view stale v))) where
+  follows : (w : World) (stale left : ℕ) (a : Stepped) (o : Out VM) → Sound w → step w ≡ a → rust.step (view stale w) ≡ o → Agree w a o → Same (follow others w left a) (onward turn o)
+  unfolding follow onward
+  follows w stale left _ _ s e o (goes-on later bytes) = alike _ later (step-sound w _ s e) bytes
+  follows w stale left _ _ s e o (lacks {r} {vm} over) = meets stale w left r vm _ o over
+  follows w stale left _ _ s e o (errs error) = both-err stale w left error o
+  follows w stale left _ _ s e o panics = both-panic stale w left o
+
+pub run-same : (fuel : ℕ) (w : World) (stale : ℕ) → Sound w → Bytes (w .pool) → Same (run fuel w) (while fuel (view stale w))
+unfolding run while
+run-same zero w stale s bytes = by (at-end w) refl
+  where
+    by : (b : Bool) → at-end w ≡ b → Same (run zero w) (while zero (view stale w))
+    by true e = rw (e, stops w stale s e) (both-end stale w 0 s bytes)
+    by false e = rw (e, goes w stale s e) (both-pause stale w s bytes)
+run-same (suc fuel) w stale s bytes = by (at-end w) refl (λ v later sound more. run-same fuel v later sound more)
+  where
+    by : (b : Bool) → at-end w ≡ b → ((v : World) (later : ℕ) → Sound v → Bytes (v .pool) → Same (run fuel v) (while fuel (view later v))) → Same (run (suc fuel) w) (while (suc fuel) (view stale w))
+    by true e ih = rw (e, stops w stale s e) (both-end stale w (suc fuel) s bytes)
+    by false e ih = rw (e, goes w stale s e) (follows (λ v. run fuel v) (while fuel) ih w stale (suc fuel) (step w) (rust.step (view stale w)) s refl refl (agrees w stale s bytes e))

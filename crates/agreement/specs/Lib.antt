@@ -1,0 +1,6 @@
+pub mod View
+pub mod Agreement
+pub mod Reads
+pub mod Runs
+pub mod Creation
+pub mod Demand

@@ -1,0 +1,30 @@
+-- A read of a value beside the Rust's unbox_value: the kind, and the part of memory or of the pool beside it.
+use Prim.Native.Nat.{ℕ, _/_, _%_}
+use mathlib.Core.Bool.{Bool, true}
+use mathlib.Core.Path.{_≡_}
+use mathlib.Core.List.{List}
+use Rattle.values.specs.Values.{is-vec, raw-tag, fat-pointer}
+use Rattle.values.specs.declared.FatPointer.{FatPointer}
+use Rattle.pools.specs.Pool.{entry-of}
+use Rattle.pools.specs.declared.InstructionsRef.{InstructionsRef}
+use Rattle.memory.specs.Reads.{get-slice-bytes}
+use Rattle.unbox.specs.declared.Return.{Return}
+use Rattle.unbox.specs.declared.Return.the-variants as ours
+use Rattle.rust.specs.Errors.{VMError, Out, ok, err}
+use Rattle.rust.specs.Memory.{words}
+use Rattle.rust.specs.Unbox as rust
+use Rattle.agreement.specs.Agreement.{refusal-of}
+
+-- over memory in use, the pool and its ends
+pub data Reads (memory pool ends : List ℕ) : Return → Out rust.Return → Type 0 where
+  number : (n : ℕ) → Reads memory pool ends (ours.U32 n) (ok (rust.U32 n))
+  truth : (b : Bool) → Reads memory pool ends (ours.Boolean b) (ok (rust.Truth b))
+  text : (pointer : FatPointer) → Reads memory pool ends (ours.String pointer) (ok (rust.String (get-slice-bytes memory pointer)))
+  calldata : (entry : InstructionsRef) → Reads memory pool ends (ours.CallData entry) (ok (rust.CallData (entry-of pool ends (entry .0))))
+  numbers : (pointer : FatPointer) → Reads memory pool ends (ours.VecU32 pointer) (ok (rust.VecU32 (words (pointer .size / 4) (get-slice-bytes memory pointer))))
+  null : Reads memory pool ends ours.Null (ok rust.Null)
+  refused : (error : VMError) → Reads memory pool ends (ours.NoReturn (refusal-of error)) (err error)
+
+-- a vector of numbers starts at a multiple of 4
+abbrev pub Aligned : ℕ → Type 0
+Aligned value = is-vec value ≡ true → raw-tag value ≡ 6 → fat-pointer value .offset % 4 ≡ 0

@@ -1,0 +1,11 @@
+pub mod Errors
+pub mod InlineVec
+pub mod Values
+pub mod Helpers
+pub mod Memory
+pub mod Instructions
+pub mod TaskTypes
+pub mod Storage
+pub mod Vm
+pub mod Run
+pub mod Unbox
