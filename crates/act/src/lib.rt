@@ -1,10 +1,11 @@
 // One instruction that needs a task, a frame or the pool, on the record of the slot it names.
 ghost use mathlib.Core.Path.{_≡_};
-ghost use Prim.Native.Nat.{_≤_, _<_};
+ghost use Prim.Native.Nat.{_<_, _≤_};
+ghost use lib.ListN.{getD, length};
 ghost use Rattle.pools.specs.Pool.{pooled, start-of};
 ghost use Rattle.calls.specs.Frames.{intern-calldata, with-entry, on-pool, push-calldata, enter, op-call, op-end-call};
 ghost use Rattle.bytecode.specs.Operands.{extent};
-ghost use Rattle.calls.specs.Act.{went-by, created, tasked-by, created-by, on-all, on-frames, on-task, cut, act};
+ghost use Rattle.calls.specs.Act.{went-by, created, tasked-by, created-by, bare, on-all, on-frames, on-task, cut, act};
 use bytecode::Extent;
 use bytecode::OperandResult;
 use bytecode::opcodes::CALL;
@@ -306,10 +307,29 @@ fn on_frames(
     on_task(stack, memory, machine, task, op, next)
 }
 
-// How far the instruction at a place reaches.
-fn reach(code: &[u8], place: usize) -> Extent
+// Whether an opcode of this file has no operands: T_CREATE to T_DELETE, CALL, END_CALL.
+fn bare(op: u8) -> bool
+    ensures { λ r. ⌜ r ≡ bare op ⌝ }
+{
+    match op {
+        0x07 => true,
+        0x08 => true,
+        0x09 => true,
+        0x0A => true,
+        0x11 => true,
+        0x12 => true,
+        _ => false,
+    }
+}
+
+// How far the instruction at a place reaches; the table of operand sizes is made only where it is needed.
+fn reach(code: &[u8], place: usize, op: u8) -> Extent
+    requires { ⌜ (place < length (now code)) × (op ≡ getD (now code) place 0) ⌝ }
     ensures { λ r. ⌜ r ≡ extent (now (code .entry)) place ⌝ }
 {
+    if bare(op) {
+        return Extent::Next(place + 1);
+    }
     let sizes = operand_sizes();
     extent(&sizes, code, place)
 }
@@ -342,7 +362,7 @@ pub fn act(
         return cut(task);
     }
     let op = byte_at(code, place);
-    match reach(code, place) {
+    match reach(code, place, op) {
         Extent::Cut => cut(task),
         Extent::Next(next) => {
             on_frames(stack, memory, pool, ends, machine, task, op, place, next)

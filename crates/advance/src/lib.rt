@@ -1,14 +1,14 @@
 // The run of the current code, up to an instruction that needs a task, a frame or the pool.
 ghost use mathlib.Core.Path.{_≡_};
-ghost use Rattle.calls.specs.Advance.{named, wanted, halted-at, gone-on, advance, onward};
+ghost use Rattle.calls.specs.Advance.{named, wanted, halted-at, gone-on, advance};
 use bytecode::opcodes::S_SAVE;
 use bytecode::opcodes::T_CREATE;
 use bytecode::opcodes::T_GET_FIELD;
 use bytecode::opcodes::T_SET_FIELD;
 use calls::Gone;
 use calls::Outcome;
+use calls::machines::byte_at;
 use calls::machines::code_of;
-use calls::machines::op_at;
 use calls::machines::registers_of;
 use calls::machines::settled;
 use core::Halt;
@@ -47,15 +47,8 @@ fn wanted(stack: &[u64; 1000], machine: Machine, op: u8) -> usize
 }
 
 // Why the steps halted, and what is at hand.
-fn halted_at(
-    stack: &[u64; 1000],
-    pool: &[u8],
-    ends: &[u32; 1024],
-    machine: Machine,
-    left: u64,
-    halt: Halt,
-) -> Gone
-    ensures { λ r. ⌜ r ≡ halted-at (now (stack .entry)) (now (pool .entry)) (now (ends .entry)) machine left halt ⌝ }
+fn halted_at(stack: &[u64; 1000], machine: Machine, op: u8, left: u64, halt: Halt) -> Gone
+    ensures { λ r. ⌜ r ≡ halted-at (now (stack .entry)) machine op left halt ⌝ }
 {
     match halt {
         Halt::AtEnd => Gone {
@@ -82,17 +75,14 @@ fn halted_at(
             slot: 0,
             outcome: Outcome::Refused(refusal),
         },
-        Halt::Outer => {
-            let op = op_at(pool, ends, machine);
-            Gone {
-                machine,
-                left,
-                running: true,
-                saves: op == S_SAVE,
-                slot: wanted(stack, machine, op),
-                outcome: Outcome::Paused,
-            }
-        }
+        Halt::Outer => Gone {
+            machine,
+            left,
+            running: true,
+            saves: op == S_SAVE,
+            slot: wanted(stack, machine, op),
+            outcome: Outcome::Paused,
+        },
     }
 }
 
@@ -117,22 +107,7 @@ pub fn advance(
         fuel,
     );
     let halt = stepped.halt;
+    let op = byte_at(code, stepped.registers.place);
     let after = settled(machine, stepped.registers);
-    halted_at(stack, pool, ends, after, stepped.left, halt)
-}
-
-// The same after an instruction that was finished; a refused one ends the run.
-pub fn onward(
-    stack: &mut [u64; 1000],
-    memory: &mut [u8],
-    pool: &mut [u8],
-    ends: &mut [u32; 1024],
-    gone: Gone,
-) -> Gone
-    ensures { λ r. ⌜ gone-on r (now (stack .exit)) (now (memory .exit)) (now (pool .exit)) (now (ends .exit)) ≡ onward (now (stack .entry)) (now (memory .entry)) (now (pool .entry)) (now (ends .entry)) gone ⌝ }
-{
-    if gone.running {
-        return advance(stack, memory, pool, ends, gone.machine, gone.left);
-    }
-    gone
+    halted_at(stack, after, op, stepped.left, halt)
 }

@@ -1,6 +1,6 @@
 -- One instruction that needs a task, a frame or the pool, on the record of the slot it names.
 use Prim.Native.Nat.{ℕ, _+_, _%_, _^_}
-use mathlib.Core.Bool.{cond}
+use mathlib.Core.Bool.{Bool, cond, _||_}
 use mathlib.Core.List.{List}
 use lib.Dec.{eqb, leb}
 use lib.ListN.{length, getD}
@@ -107,3 +107,9 @@ act-at stack memory pool ends machine task code place =
 unfoldable pub act : List ℕ → List ℕ → List ℕ → List ℕ → Machine → Task → OnAll
 act stack memory pool ends machine task =
     act-at stack memory pool ends machine task (code-of pool ends machine) (current (machine .frames) .place)
+
+-- ---- how the code finds the instruction's extent
+
+-- the opcodes here that have no operands
+unfoldable pub bare : ℕ → Bool
+bare op = eqb op T-CREATE || eqb op T-GET-FIELD || eqb op T-SET-FIELD || eqb op T-DELETE || eqb op CALL || eqb op END-CALL

@@ -3,6 +3,7 @@ use Prim.Native.Nat.{ℕ, _-_}
 use mathlib.Core.Bool.{Bool, true, false, cond}
 use mathlib.Core.List.{List}
 use lib.Dec.{eqb}
+use lib.ListN.{getD}
 use Rattle.bytecode.specs.Opcodes.{T-CREATE, T-GET-FIELD, T-SET-FIELD, S-SAVE}
 use Rattle.inlinevec.specs.Stacks.{pop}
 use Rattle.inlinevec.specs.declared.PopResult.{PopResult}
@@ -13,7 +14,6 @@ use Rattle.core.specs.declared.Machine.{Machine}
 use Rattle.core.specs.declared.Halt.{Halt}
 use Rattle.core.specs.declared.Halt.the-variants as halt
 use Rattle.calls.specs.Machines.{code-of, registers-of, settled}
-use Rattle.calls.specs.Act.{op-at}
 use Rattle.calls.specs.declared.Gone.{Gone}
 use Rattle.calls.specs.declared.Outcome.{Outcome}
 use Rattle.calls.specs.declared.Outcome.the-variants.{Done, Paused, Refused}
@@ -43,12 +43,11 @@ abbrev pub at-hand : Machine → ℕ → Bool → ℕ → Gone
 at-hand machine left saves slot = record { machine = machine; left = left; running = true; saves = saves; slot = slot; outcome = Paused }
 
 -- why the steps halted, and what is at hand
-unfoldable pub halted-at : List ℕ → List ℕ → List ℕ → Machine → ℕ → Halt → Gone
-halted-at stack pool ends machine left halt.AtEnd = ended machine left Done
-halted-at stack pool ends machine left halt.OutOfFuel = ended machine left Paused
-halted-at stack pool ends machine left (halt.Refused refusal) = ended machine left (Refused refusal)
-halted-at stack pool ends machine left halt.Outer =
-    at-hand machine left (eqb (op-at pool ends machine) S-SAVE) (wanted stack machine (op-at pool ends machine))
+unfoldable pub halted-at : List ℕ → Machine → ℕ → ℕ → Halt → Gone
+halted-at stack machine op left halt.AtEnd = ended machine left Done
+halted-at stack machine op left halt.OutOfFuel = ended machine left Paused
+halted-at stack machine op left (halt.Refused refusal) = ended machine left (Refused refusal)
+halted-at stack machine op left halt.Outer = at-hand machine left (eqb op S-SAVE) (wanted stack machine op)
 
 -- a machine on its way, the stack, memory, pool and ends then
 pub record GoneOn : Type 0 where
@@ -65,14 +64,11 @@ gone-on gone stack memory pool ends = record { gone = gone; stack = stack; memor
 -- where the steps of the current code halted
 unfoldable pub after-steps : List ℕ → List ℕ → Machine → Halted → GoneOn
 after-steps pool ends machine h =
-    gone-on (halted-at (h .stack) pool ends (settled machine (h .at .registers)) (h .at .left) (h .at .halt)) (h .stack) (h .memory) pool ends
+    gone-on
+    (halted-at (h .stack) (settled machine (h .at .registers)) (getD (code-of pool ends machine) (h .at .registers .place) 0) (h .at .left) (h .at .halt))
+    (h .stack) (h .memory) pool ends
 
 -- the run of the current code from the machine's place on
 unfoldable pub advance : List ℕ → List ℕ → List ℕ → List ℕ → Machine → ℕ → GoneOn
 advance stack memory pool ends machine fuel =
     after-steps pool ends machine (steps fuel stack memory (code-of pool ends machine) (registers-of machine) (machine .count))
-
--- the same after an instruction that was finished; a refused one ends the run
-unfoldable pub onward : List ℕ → List ℕ → List ℕ → List ℕ → Gone → GoneOn
-onward stack memory pool ends gone =
-    cond (gone .running) (advance stack memory pool ends (gone .machine) (gone .left)) (gone-on gone stack memory pool ends)

@@ -13,6 +13,10 @@ use Rattle.calls.specs.declared.Went.{Went}
 use Rattle.calls.specs.declared.Went.the-variants.{Onto, Refused}
 use Rattle.calls.specs.declared.Outcome.the-variants as outcome
 
+-- a run at its beginning
+abbrev pub begun : Machine → ℕ → Gone
+begun machine fuel = at-hand machine fuel false 0
+
 -- one unit of fuel to a finished instruction
 abbrev pub spent : ℕ → ℕ
 spent left = left - 1

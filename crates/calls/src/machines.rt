@@ -1,8 +1,7 @@
-// The machine's record: its current frame, its code, its registers, the opcode at hand.
+// The machine's record: its current frame, its code, its registers.
 ghost use mathlib.Core.Path.{_≡_};
 ghost use lib.ListN.{getD};
 ghost use Rattle.calls.specs.Machines.{current, with-current, code-of, registers-of, settled};
-ghost use Rattle.calls.specs.Act.{op-at};
 use core::Machine;
 use inlinevec::Frame;
 use inlinevec::Frames;
@@ -80,12 +79,4 @@ pub fn byte_at(code: &[u8], place: usize) -> u8
         return code[place];
     }
     0
-}
-
-// The opcode at hand.
-pub fn op_at(pool: &[u8], ends: &[u32; 1024], machine: Machine) -> u8
-    ensures { λ r. ⌜ r ≡ op-at (now (pool .entry)) (now (ends .entry)) machine ⌝ }
-{
-    let frame = current(machine.frames);
-    byte_at(code_of(pool, ends, machine), frame.place)
 }

@@ -1,12 +1,13 @@
 // Opcodes that choose where the run goes on: DO, LOOP, LOOP_INDEX, JUMP_IF_FALSE.
 ghost use mathlib.Core.Path.{_≡_};
+ghost use Prim.Native.Nat.{_<_};
+ghost use Rattle.inlinevec.specs.Stacks.{of-loops, to-loops, last-two, change-two, pop-two};
 ghost use Rattle.opcodes.specs.Registers.{on-stack};
 ghost use Rattle.opcodes.specs.Control.{looping, opened-to, op-do, op-loop, op-loop-index, op-jump-if-false};
-use inlinevec::LastLoopResult;
+use errors::Refusal;
 use inlinevec::Loop;
 use inlinevec::Loops;
 use inlinevec::LoopsResult;
-use inlinevec::PopLoopResult;
 use inlinevec::PopResult;
 use opcodes::Did;
 use opcodes::PopTwoResult;
@@ -59,30 +60,61 @@ pub fn op_do(stack: &[u64; 1000], registers: Registers, next: usize) -> Did
     }
 }
 
+// The innermost loop.
+fn innermost(loops: Loops) -> Loop
+    ensures { λ r. ⌜ r ≡ last-two (of-loops loops) ⌝ }
+{
+    if loops.count == 1 {
+        return loops.outer;
+    }
+    loops.inner
+}
+
+// The loops with another innermost one.
+fn with_innermost(loops: Loops, last: Loop) -> Loops
+    ensures { λ r. ⌜ r ≡ to-loops (change-two (of-loops loops) last) ⌝ }
+{
+    let mut changed = loops;
+    if loops.count == 1 {
+        changed.outer = last;
+        return changed;
+    }
+    changed.inner = last;
+    changed
+}
+
+// The loops without the innermost one, which stays at its place.
+fn without_innermost(loops: Loops) -> Loops
+    requires { ⌜ 0 < loops .count ⌝ }
+    ensures { λ r. ⌜ r ≡ to-loops (pop-two (of-loops loops)) ⌝ }
+{
+    let mut changed = loops;
+    changed.count = loops.count - 1;
+    changed
+}
+
 // LOOP: back exactly if index + 1 is below the limit.
 pub fn op_loop(registers: Registers, next: usize) -> Did
     ensures { λ r. ⌜ r ≡ op-loop registers next ⌝ }
 {
     let open = registers.loops;
-    match inlinevec::pop_loop(open) {
-        PopLoopResult::NotPoppedLoop(refusal) => Did::Refused(refusal),
-        PopLoopResult::PoppedLoop { last, loops } => {
-            if last.index as u64 + 1 < last.limit as u64 {
-                let again = Loop {
-                    place: last.place,
-                    index: last.index + 1,
-                    limit: last.limit,
-                };
-                return opened_to(
-                    registers,
-                    last.place,
-                    registers.height,
-                    inlinevec::push_loop(loops, again),
-                );
-            }
-            Did::Next(looping(registers, next, registers.height, loops))
-        }
+    if open.count == 0 {
+        return Did::Refused(Refusal::StackUnderflow);
     }
+    if 2 < open.count {
+        return Did::Refused(Refusal::WrongPhaseOrUnsound);
+    }
+    let last = innermost(open);
+    if last.index as u64 + 1 < last.limit as u64 {
+        let again = Loop {
+            place: last.place,
+            index: last.index + 1,
+            limit: last.limit,
+        };
+        let loops = with_innermost(open, again);
+        return Did::Next(looping(registers, last.place, registers.height, loops));
+    }
+    Did::Next(looping(registers, next, registers.height, without_innermost(open)))
 }
 
 // LOOP_INDEX.
@@ -90,16 +122,20 @@ pub fn op_loop_index(stack: &mut [u64; 1000], registers: Registers, next: usize)
     ensures { λ r. ⌜ on-stack r (now (stack .exit)) ≡ op-loop-index (now (stack .entry)) registers next ⌝ }
 {
     let open = registers.loops;
-    match inlinevec::last_loop(open) {
-        LastLoopResult::NoLastLoop(refusal) => Did::Refused(refusal),
-        LastLoopResult::LastLoop(last) => push_value(
-            stack,
-            registers,
-            next,
-            registers.height,
-            values::to_u32_val(last.index),
-        ),
+    if open.count == 0 {
+        return Did::Refused(Refusal::StackUnderflow);
     }
+    if 2 < open.count {
+        return Did::Refused(Refusal::WrongPhaseOrUnsound);
+    }
+    let last = innermost(open);
+    push_value(
+        stack,
+        registers,
+        next,
+        registers.height,
+        values::to_u32_val(last.index),
+    )
 }
 
 // JUMP_IF_FALSE, its operand being there.

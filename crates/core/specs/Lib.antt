@@ -1,4 +1,5 @@
 pub mod Cut
 pub mod Operated
 pub mod Execute
+pub mod Kinds
 pub mod Steps

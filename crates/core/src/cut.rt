@@ -2,6 +2,7 @@
 ghost use mathlib.Core.Path.{_≡_};
 ghost use Prim.Native.Nat.{_≤_};
 ghost use Rattle.core.specs.Cut.{cut-muli, cut-m-st, cut-jump, cut};
+ghost use Rattle.core.specs.Kinds.{cut-stored};
 use bytecode::opcodes::JUMP_IF_FALSE;
 use bytecode::opcodes::M_ST;
 use bytecode::opcodes::MULI;
@@ -68,6 +69,16 @@ pub(crate) fn cut(stack: &[u64; 1000], registers: Registers, op: u8) -> Did
     }
     if op == JUMP_IF_FALSE {
         return cut_jump(stack, registers);
+    }
+    Did::Refused(Refusal::UnexpectedEOB)
+}
+
+// One that stands by the table of operand sizes.
+pub(crate) fn cut_stored(stack: &[u64; 1000], registers: Registers, op: u8) -> Did
+    ensures { λ r. ⌜ r ≡ cut-stored (now (stack .entry)) registers op ⌝ }
+{
+    if op == M_ST {
+        return cut_m_st(stack, registers);
     }
     Did::Refused(Refusal::UnexpectedEOB)
 }

@@ -1,11 +1,12 @@
-// One instruction that needs no task, frame or pool: the byte at the place picks it, by what it touches and then by its opcode.
+// One instruction that needs no task, frame or pool: the byte at the place picks it, by what stands behind its opcode.
 ghost use mathlib.Core.Path.{_≡_};
 ghost use Prim.Native.Nat.{_≤_, _<_};
 ghost use lib.ListN.{length};
 ghost use Rattle.opcodes.specs.Registers.{on-stack, on-memory};
-ghost use Rattle.core.specs.Execute.{plain, operated, is-equality, execute, instruct};
-ghost use Rattle.bytecode.specs.Operands.{Follows};
+ghost use Rattle.core.specs.Execute.{plain, is-equality, instruct};
+ghost use Rattle.core.specs.Kinds.{is-plain, pushes-byte, takes-number, numbered, stored, by-table};
 use crate::cut::cut;
+use crate::cut::cut_stored;
 use crate::operated::jump_if_false;
 use crate::operated::m_st;
 use crate::operated::m_sti;
@@ -17,6 +18,7 @@ use arithmetic::op_mul;
 use bytecode::Extent;
 use bytecode::opcodes::*;
 use bytecode::operands::extent;
+use bytecode::operands::operand_sizes;
 use control::op_do;
 use control::op_loop;
 use control::op_loop_index;
@@ -67,37 +69,23 @@ fn plain(stack: &mut [u64; 1000], registers: Registers, next: usize, op: u8, cou
     Did::Next(moved(registers, next, registers.height))
 }
 
-// Over the code and the stack.
-fn operated(
-    stack: &mut [u64; 1000],
-    code: &[u8],
-    registers: Registers,
-    next: usize,
-    op: u8,
-    count: u32,
-) -> Did
-    requires { ⌜ registers .place ≤ 9223372036854775808 ⌝ }
-    ensures { λ r. ⌜ on-stack r (now (stack .exit)) ≡ operated (now (stack .entry)) (now (code .entry)) registers next op count ⌝ }
+// Nothing behind the opcode, and over the stack alone: S_LEN, DO, LOOP, LOOP_INDEX, DROP, DUP, SWAP, LT, GT, MUL.
+fn is_plain(op: u8) -> bool
+    ensures { λ r. ⌜ r ≡ is-plain op ⌝ }
 {
-    if op == PUSH_U32 {
-        return push_u32(stack, code, registers, next);
+    match op {
+        0x0D => true,
+        0x0E => true,
+        0x0F => true,
+        0x10 => true,
+        0x13 => true,
+        0x14 => true,
+        0x15 => true,
+        0x18 => true,
+        0x19 => true,
+        0x1F => true,
+        _ => false,
     }
-    if op == PUSH_STATE {
-        return push_u8(stack, code, registers, next);
-    }
-    if op == PUSH_TASK_FIELD {
-        return push_u8(stack, code, registers, next);
-    }
-    if op == PUSH_MAX_STATES {
-        return push_u8(stack, code, registers, next);
-    }
-    if op == MULI {
-        return muli(stack, code, registers, next);
-    }
-    if op == JUMP_IF_FALSE {
-        return jump_if_false(stack, code, registers, next);
-    }
-    plain(stack, registers, next, op, count)
 }
 
 // EQ and NEQ.
@@ -110,22 +98,56 @@ fn is_equality(op: u8) -> bool
     op == NEQ
 }
 
-// Over memory too.
-fn execute(
+// A byte behind the opcode, which it pushes: PUSH_STATE, PUSH_TASK_FIELD, PUSH_MAX_STATES.
+fn pushes_byte(op: u8) -> bool
+    ensures { λ r. ⌜ r ≡ pushes-byte op ⌝ }
+{
+    match op {
+        0x03 => true,
+        0x05 => true,
+        0x06 => true,
+        _ => false,
+    }
+}
+
+// A number of four bytes behind the opcode: PUSH_U32, JUMP_IF_FALSE, MULI.
+fn takes_number(op: u8) -> bool
+    ensures { λ r. ⌜ r ≡ takes-number op ⌝ }
+{
+    match op {
+        0x01 => true,
+        0x1A => true,
+        0x1E => true,
+        _ => false,
+    }
+}
+
+// The three that take a number.
+fn numbered(stack: &mut [u64; 1000], code: &[u8], registers: Registers, next: usize, op: u8) -> Did
+    requires { ⌜ registers .place ≤ 9223372036854775808 ⌝ }
+    ensures { λ r. ⌜ on-stack r (now (stack .exit)) ≡ numbered (now (stack .entry)) (now (code .entry)) registers next op ⌝ }
+{
+    if op == PUSH_U32 {
+        return push_u32(stack, code, registers, next);
+    }
+    if op == MULI {
+        return muli(stack, code, registers, next);
+    }
+    jump_if_false(stack, code, registers, next)
+}
+
+// Any other: M_STI, M_ST and M_MUTA over memory; S_LOAD, and bytes without an opcode, do nothing.
+fn stored(
     stack: &mut [u64; 1000],
     memory: &mut [u8],
     code: &[u8],
     registers: Registers,
     next: usize,
     op: u8,
-    count: u32,
 ) -> Did
     requires { ⌜ registers .place ≤ 9223372036854775808 ⌝ }
-    ensures { λ r. ⌜ on-memory r (now (stack .exit)) (now (memory .exit)) ≡ execute (now (stack .entry)) (now (memory .entry)) (now (code .entry)) registers next op count ⌝ }
+    ensures { λ r. ⌜ on-memory r (now (stack .exit)) (now (memory .exit)) ≡ stored (now (stack .entry)) (now (memory .entry)) (now (code .entry)) registers next op ⌝ }
 {
-    if is_equality(op) {
-        return op_eq(stack, memory, registers, next, op == EQ);
-    }
     if op == M_STI {
         return m_sti(stack, memory, code, registers, next);
     }
@@ -135,25 +157,55 @@ fn execute(
     if op == M_MUTA {
         return op_m_muta(stack, memory, registers, next);
     }
-    operated(stack, code, registers, next, op, count)
+    Did::Next(moved(registers, next, registers.height))
 }
 
-// The instruction at the place, which lies in the code, by the table of operand sizes.
+// The same, by the table of operand sizes.
+fn by_table(
+    stack: &mut [u64; 1000],
+    memory: &mut [u8],
+    code: &[u8],
+    registers: Registers,
+    op: u8,
+) -> Did
+    requires { ⌜ registers .place < length (now code) ⌝ }
+    ensures { λ r. ⌜ on-memory r (now (stack .exit)) (now (memory .exit)) ≡ by-table (now (stack .entry)) (now (memory .entry)) (now (code .entry)) registers op ⌝ }
+{
+    let sizes = operand_sizes();
+    match extent(&sizes, code, registers.place) {
+        Extent::Next(next) => stored(stack, memory, code, registers, next, op),
+        Extent::Cut => cut_stored(stack, registers, op),
+    }
+}
+
+// The instruction at the place, which lies in the code. For most opcodes the next place is a constant further, so that a run does
+// not wait for the table; each function here is called at one place, so that the compiler makes one loop of them.
 pub(crate) fn instruct(
     stack: &mut [u64; 1000],
     memory: &mut [u8],
-    sizes: &[u8; 256],
     code: &[u8],
     registers: Registers,
     count: u32,
 ) -> Did
-    requires { ⌜ (registers .place < length (now code)) × Follows (now sizes) ⌝ }
+    requires { ⌜ registers .place < length (now code) ⌝ }
     ensures { λ r. ⌜ on-memory r (now (stack .exit)) (now (memory .exit)) ≡ instruct (now (stack .entry)) (now (memory .entry)) (now (code .entry)) registers count ⌝ }
 {
     let place = registers.place;
     let op = code[place];
-    match extent(sizes, code, place) {
-        Extent::Next(next) => execute(stack, memory, code, registers, next, op, count),
-        Extent::Cut => cut(stack, registers, op),
+    if is_plain(op) {
+        return plain(stack, registers, place + 1, op, count);
     }
+    if is_equality(op) {
+        return op_eq(stack, memory, registers, place + 1, op == EQ);
+    }
+    if pushes_byte(op) {
+        return push_u8(stack, code, registers, place + 2);
+    }
+    if takes_number(op) {
+        if code.len() - place < 5 {
+            return cut(stack, registers, op);
+        }
+        return numbered(stack, code, registers, place + 5, op);
+    }
+    by_table(stack, memory, code, registers, op)
 }

@@ -4,7 +4,6 @@ ghost use Rattle.core.specs.Steps.{is-outer, stepped, steps};
 use crate::Halt;
 use crate::Stepped;
 use crate::execute::instruct;
-use bytecode::operands::operand_sizes;
 use opcodes::Did;
 use opcodes::Registers;
 
@@ -36,7 +35,6 @@ pub fn steps(
 ) -> Stepped
     ensures { λ r. ⌜ stepped r (now (stack .exit)) (now (memory .exit)) ≡ steps fuel (now (stack .entry)) (now (memory .entry)) (now (code .entry)) registers count ⌝ }
 {
-    let sizes = operand_sizes();
     let mut at = registers;
     let mut left = fuel;
     while at.place < code.len() {
@@ -55,7 +53,7 @@ pub fn steps(
                 halt: Halt::Outer,
             };
         }
-        match instruct(stack, memory, &sizes, code, at, count) {
+        match instruct(stack, memory, code, at, count) {
             Did::Next(next) => {
                 at = next;
                 left -= 1;

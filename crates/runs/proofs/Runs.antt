@@ -20,10 +20,10 @@ use Rattle.tasks.specs.Changes.{applied}
 use Rattle.core.specs.Execute.{instruct}
 use Rattle.core.specs.Steps.{Halted, is-outer, halted, onward, turn as core-turn, steps}
 use Rattle.core.specs.declared.Machine.{Machine}
+use Rattle.core.specs.declared.Halt.{Halt}
 use Rattle.core.specs.declared.Halt.the-variants as halt
 use Rattle.calls.specs.Machines.{current, code-of, registers-of, settled}
-use Rattle.calls.specs.Act.{op-at}
-use Rattle.calls.specs.Advance.{GoneOn, ended as outcome-at, at-hand, wanted, halted-at, after-steps, advance, onward as calls-onward}
+use Rattle.calls.specs.Advance.{GoneOn, ended as outcome-at, at-hand, wanted, halted-at, after-steps, advance}
 use Rattle.calls.specs.Turns.{turned, save-went, saved}
 use Rattle.calls.specs.Act.{OnAll}
 use Rattle.calls.specs.declared.Outcome.the-variants as outcomes
@@ -42,7 +42,11 @@ use Rattle.runs.proofs.Settled.{on-bool, registers-settled, code-settle
 abbrev pub world-of : Going → World
 world-of g = world (g .gone .machine) (g .table) (g .stack) (g .memory) (g .pool) (g .ends) (g .save)
 
--- where it ends
+-- where it ends, between two turns
+unfoldable pub comes-to : Going → End
+comes-to g = cond (g .gone .running) (run (g .gone .left) (world-of g)) (end-at (world-of g) (g .gone .left) (g .gone .outcome))
+
+-- where it ends, with an instruction at hand
 unfoldable pub finishes : Going → End
 finishes g =
     cond (g .gone .running)
@@ -128,7 +132,7 @@ module _ (machine : Machine) (table : List Task) (pool ends save : List ℕ) whe
       (at-the-end (suc fuel) registers stack memory)
 
 -- a run begins
-pub begun : (fuel : ℕ) (w : World) → finishes (begins fuel w) ≡ run fuel w
+begun : (fuel : ℕ) (w : World) → finishes (begins fuel w) ≡ run fuel w
 unfolding begins advance
 begun fuel w =
     claim (w .machine) (w .table) (w .pool) (w .ends) (w .save) fuel (registers-of (w .machine)) (w .stack) (w .memory)
@@ -166,28 +170,40 @@ module _ (code : List ℕ) (count : ℕ) where
       (ends (suc fuel) r s m (omega arith))
 
 -- of the machine that they are put back into
-left-falls : (fuel : ℕ) (s pool e : List ℕ) (machine : Machine) (h : Halted) → Spare fuel h → halted-at s pool e machine (h .at .left) (h .at .halt) .left ≤ fuel
+left-falls : (fuel : ℕ) (s : List ℕ) (machine : Machine) (op : ℕ) (h : Halted) → Spare fuel h → halted-at s machine op (h .at .left) (h .at .halt) .left ≤ fuel
 unfolding halted-at
-left-falls fuel s pool e machine _ (ends left r _ m less) = less
-left-falls fuel s pool e machine _ (pauses left r _ m less) = less
-left-falls fuel s pool e machine _ (refuses refusal left r _ m less) = less
-left-falls fuel s pool e machine _ (waits left r _ m less some) = less
+left-falls fuel s machine op _ (ends left r _ m less) = less
+left-falls fuel s machine op _ (pauses left r _ m less) = less
+left-falls fuel s machine op _ (refuses refusal left r _ m less) = less
+left-falls fuel s machine op _ (waits left r _ m less some) = less
 
-waits-fueled : (fuel : ℕ) (s pool e : List ℕ) (machine : Machine) (h : Halted) → Spare fuel h → halted-at s pool e machine (h .at .left) (h .at .halt) .running ≡ true → 0 < halted-at s pool e machine (h .at .left) (h .at .halt) .left
+waits-fueled : (fuel : ℕ) (s : List ℕ) (machine : Machine) (op : ℕ) (h : Halted) → Spare fuel h → halted-at s machine op (h .at .left) (h .at .halt) .running ≡ true → 0 < halted-at s machine op (h .at .left) (h .at .halt) .left
 unfolding halted-at
-waits-fueled fuel s pool e machine _ (ends left r _ m less) running = absurd (never running)
-waits-fueled fuel s pool e machine _ (pauses left r _ m less) running = absurd (never running)
-waits-fueled fuel s pool e machine _ (refuses refusal left r _ m less) running = absurd (never running)
-waits-fueled fuel s pool e machine _ (waits left r _ m less some) running = some
+waits-fueled fuel s machine op _ (ends left r _ m less) running = absurd (never running)
+waits-fueled fuel s machine op _ (pauses left r _ m less) running = absurd (never running)
+waits-fueled fuel s machine op _ (refuses refusal left r _ m less) running = absurd (never running)
+waits-fueled fuel s machine op _ (waits left r _ m less some) running = some
 
 -- an instruction at hand has fuel
-pub fueled : (fuel : ℕ) (w : World) → begins fuel w .gone .running ≡ true → 0 < begins fuel w .gone .left
+fueled : (fuel : ℕ) (w : World) → begins fuel w .gone .running ≡ true → 0 < begins fuel w .gone .left
 unfolding begins advance after-steps
-fueled fuel w running = waits-fueled fuel _ _ _ _ _ (spare _ _ fuel _ _ _) running
+fueled fuel w running = waits-fueled fuel _ _ _ _ (spare _ _ fuel _ _ _) running
 
 begins-left : (fuel : ℕ) (w : World) → begins fuel w .gone .left ≤ fuel
 unfolding begins advance after-steps
-begins-left fuel w = left-falls fuel _ _ _ _ _ (spare _ _ fuel _ _ _)
+begins-left fuel w = left-falls fuel _ _ _ _ (spare _ _ fuel _ _ _)
+
+-- at an outcome nothing is to be saved
+none-saved : (s : List ℕ) (machine : Machine) (op left : ℕ) (h : Halt) → halted-at s machine op left h .running ≡ false → halted-at s machine op left h .saves ≡ false
+unfolding halted-at
+none-saved s machine op left halt.AtEnd stopped = refl
+none-saved s machine op left halt.OutOfFuel stopped = refl
+none-saved s machine op left (halt.Refused refusal) stopped = refl
+none-saved s machine op left halt.Outer stopped = absurd (never (sym stopped))
+
+begins-none-saved : (fuel : ℕ) (w : World) → begins fuel w .gone .running ≡ false → begins fuel w .gone .saves ≡ false
+unfolding begins advance after-steps
+begins-none-saved fuel w stopped = none-saved _ _ _ _ _ stopped
 
 -- ---- a turn
 
@@ -228,51 +244,77 @@ unfolding outer saves acts save-turn act-turn
 turns-by g true = saves-turns g _ (save-leaves _ (g .table) (g .pool) (g .ends) _ (g .save))
 turns-by g false = acts-turns g _ (act-leaves (g .stack) (g .memory) (g .pool) (g .ends) (g .gone .machine) _)
 
-turns : (g : Going) → Turns g (turn g) (outer (world-of g) (g .gone .saves) (g .gone .slot))
-unfolding turn
-turns g = turns-by g (g .gone .saves)
-
+-- a machine on its way turns
 at-work : (g : Going) → g .gone .running ≡ true
+    → turn g ≡ cond (g .gone .saves) (from-saving (save-turn (g .table) (g .pool) (g .ends) (g .save) (g .gone)) (g .stack) (g .memory)) (from-acting (act-turn (g .table) (g .stack) (g .memory) (g .pool) (g .ends) (g .gone)) (g .save))
+unfolding turn
+at-work g running =
+    ap (λ (b : Bool). cond (g .gone .saves) (from-saving (save-turn (g .table) (g .pool) (g .ends) (g .save) (g .gone)) (g .stack) (g .memory)) (cond b (from-acting (act-turn (g .table) (g .stack) (g .memory) (g .pool) (g .ends) (g .gone)) (g .save)) g)) running
+
+turns : (g : Going) → g .gone .running ≡ true → Turns g (turn g) (outer (world-of g) (g .gone .saves) (g .gone .slot))
+turns g running = subst (λ (h : Going). Turns g h (outer (world-of g) (g .gone .saves) (g .gone .slot))) (sym (at-work g running)) (turns-by g (g .gone .saves))
+
+-- one at its outcome stays
+stays-put : (g : Going) → g .gone .running ≡ false → g .gone .saves ≡ false → turn g ≡ g
+unfolding turn
+stays-put g stopped none = simp (none, stopped)
+
+-- ---- where it ends
+
+with-instruction : (g : Going) → g .gone .running ≡ true
     → finishes g ≡ follow (λ v. run (g .gone .left - 1) v) (world-of g) (g .gone .left) (outer (world-of g) (g .gone .saves) (g .gone .slot))
 unfolding finishes
-at-work g running = simp (running)
+with-instruction g running = simp (running)
 
-goes-to : (g h : Going) (stepped : Stepped) → Turns g h stepped → finishes (goes-on h) ≡ follow (λ v. run (g .gone .left - 1) v) (world-of g) (g .gone .left) stepped
-unfolding goes-on calls-onward follow begins finishes
-goes-to g _ _ (on machine table s m p e save) = begun (g .gone .left - 1) (world machine table s m p e save)
-goes-to g _ _ (stays refusal) = refl
+without : (g : Going) → g .gone .running ≡ false → finishes g ≡ end-at (world-of g) (g .gone .left) (g .gone .outcome)
+unfolding finishes
+without g stopped = simp (stopped)
 
--- a turn, and the code after it
-pub turned-on : (g : Going) → g .gone .running ≡ true → finishes (goes-on (turn g)) ≡ finishes g
-turned-on g running = goes-to g _ _ (turns g) ∙ sym (at-work g running)
-
-fueled-after : (g h : Going) (stepped : Stepped) → Turns g h stepped → goes-on h .gone .running ≡ true → 0 < goes-on h .gone .left
-unfolding goes-on calls-onward begins
-fueled-after g _ _ (on machine table s m p e save) running = fueled (g .gone .left - 1) (world machine table s m p e save) running
-fueled-after g _ _ (stays refusal) running = absurd (never running)
-
-pub still-fueled : (g : Going) → goes-on (turn g) .gone .running ≡ true → 0 < goes-on (turn g) .gone .left
-still-fueled g running = fueled-after g _ _ (turns g) running
-
-one-at-most : (b : Bool) → cond b 1 0 ≤ 1
-one-at-most true = omega arith
-one-at-most false = omega arith
-
-fewer-after : (g h : Going) (stepped : Stepped) → Turns g h stepped → g .gone .running ≡ true → 0 < g .gone .left → turns-left (goes-on h) < turns-left g
-unfolding goes-on calls-onward begins
-fewer-after g _ _ (on machine table s m p e save) running some =
-    let less = begins-left (g .gone .left - 1) (world machine table s m p e save) in
-    let one = one-at-most (begins (g .gone .left - 1) (world machine table s m p e save) .gone .running) in
-    let here : _≡_ {A = ℕ} (cond (g .gone .running) 1 0) 1 = ap (λ (b : Bool). cond {A = ℕ} b 1 0) running in
-    omega (arith, less, one, here, some)
-fewer-after g _ _ (stays refusal) running some =
-    let here : _≡_ {A = ℕ} (cond (g .gone .running) 1 0) 1 = ap (λ (b : Bool). cond {A = ℕ} b 1 0) running in
-    omega (arith, here)
-
-pub fewer : (g : Going) → g .gone .running ≡ true → 0 < g .gone .left → turns-left (goes-on (turn g)) < turns-left g
-fewer g running some = fewer-after g _ _ (turns g) running some
+on-its-way : (g : Going) → g .gone .running ≡ true → comes-to g ≡ run (g .gone .left) (world-of g)
+unfolding comes-to
+on-its-way g running = simp (running)
 
 -- at its outcome
-pub ended : (g : Going) → g .gone .running ≡ false → finishes g ≡ end-at (world-of g) (g .gone .left) (g .gone .outcome)
-unfolding finishes
-ended g running = simp (running)
+pub ended : (g : Going) → g .gone .running ≡ false → comes-to g ≡ end-at (world-of g) (g .gone .left) (g .gone .outcome)
+unfolding comes-to
+ended g stopped = simp (stopped)
+
+-- after the instruction at hand
+comes-after : (g h : Going) (stepped : Stepped) → Turns g h stepped → comes-to h ≡ follow (λ v. run (g .gone .left - 1) v) (world-of g) (g .gone .left) stepped
+unfolding comes-to follow
+comes-after g _ _ (on machine table s m p e save) = refl
+comes-after g _ _ (stays refusal) = refl
+
+turned-on : (g : Going) → (g .gone .running ≡ false → g .gone .saves ≡ false) → comes-to (turn g) ≡ finishes g
+turned-on g none =
+    on-bool (g .gone .running) (λ running. comes-after g _ _ (turns g running) ∙ sym (with-instruction g running))
+    (λ stopped. ap comes-to (stays-put g stopped (none stopped)) ∙ ended g stopped ∙ sym (without g stopped))
+
+-- after the current code and the instruction that it comes to
+pub went-on : (g : Going) → g .gone .running ≡ true → comes-to (goes-on g) ≡ comes-to g
+unfolding goes-on
+went-on g running =
+    turned-on (begins (g .gone .left) (world-of g)) (begins-none-saved (g .gone .left) (world-of g)) ∙ begun (g .gone .left) (world-of g) ∙ sym (on-its-way g running)
+
+-- ---- with fewer turns to come
+
+fewer-after : (fuel : ℕ) (g h : Going) (stepped : Stepped) → Turns g h stepped → g .gone .left ≤ fuel → 0 < g .gone .left → turns-left h < fuel * 2 + 1
+fewer-after fuel g _ _ (on machine table s m p e save) less some = omega (arith, less, some)
+fewer-after fuel g _ _ (stays refusal) less some = omega (arith, less)
+
+fewer-at-rest : (fuel : ℕ) (g : Going) → g .gone .running ≡ false → g .gone .left ≤ fuel → turns-left g < fuel * 2 + 1
+fewer-at-rest fuel g stopped less =
+    let none : _≡_ {A = ℕ} (cond (g .gone .running) 1 0) 0 = ap (λ (b : Bool). cond {A = ℕ} b 1 0) stopped in
+    omega (arith, less, none)
+
+fewer-than : (fuel : ℕ) (w : World) → turns-left (turn (begins fuel w)) < fuel * 2 + 1
+fewer-than fuel w =
+    on-bool (begins fuel w .gone .running) (λ running. fewer-after fuel (begins fuel w) _ _ (turns (begins fuel w) running) (begins-left fuel w) (fueled fuel w running))
+    (λ stopped. subst (λ (h : Going). turns-left h < fuel * 2 + 1) (sym (stays-put (begins fuel w) stopped (begins-none-saved fuel w stopped))) (fewer-at-rest fuel (begins fuel w) stopped (begins-left fuel w)))
+
+pub fewer : (g : Going) → g .gone .running ≡ true → turns-left (goes-on g) < turns-left g
+unfolding goes-on
+fewer g running =
+    let one : _≡_ {A = ℕ} (cond (g .gone .running) 1 0) 1 = ap (λ (b : Bool). cond {A = ℕ} b 1 0) running in
+    let less = fewer-than (g .gone .left) (world-of g) in
+    omega (arith, one, less)

@@ -15,15 +15,15 @@ use Rattle.tasks.specs.Changes.{applied}
 use Rattle.tasks.specs.declared.Change.{Change}
 use Rattle.core.specs.declared.Machine.{Machine}
 use Rattle.calls.specs.Act.{OnAll, on-all, act}
-use Rattle.calls.specs.Advance.{GoneOn, gone-on, advance, onward}
-use Rattle.calls.specs.Turns.{turned, saved, ran}
+use Rattle.calls.specs.Advance.{GoneOn, gone-on, advance}
+use Rattle.calls.specs.Turns.{begun, turned, saved, ran}
 use Rattle.calls.specs.declared.Acted.{Acted}
 use Rattle.calls.specs.declared.Gone.{Gone}
 use Rattle.calls.specs.declared.Ran.{Ran}
-use Rattle.runs.specs.World.{World, world}
+use Rattle.runs.specs.World.{world}
 use Rattle.runs.specs.Run.{End, ran-to, run}
 use Rattle.runs.specs.Going.{Going, going, Acting, acting, after-act, act-turn, Saving, saving, after-save, save-turn, from-acting, from-saving, turn, beside, begins, goes-on}
-use Rattle.runs.proofs.Runs.{world-of, finishes, turns-left, begun, fueled, turned-on, still-fueled, fewer, ended}
+use Rattle.runs.proofs.Runs.{comes-to, turns-left, went-on, fewer, ended}
 
 -- ---- a change
 
@@ -75,46 +75,39 @@ module _ (table : List Task) (stack memory pool ends save : List ℕ) (gone : Go
   turns-saving saves e = ap (λ (s : Saving). from-saving s stack memory) e ∙ sym (simp (saves))
 
   -- one that names a slot
-  pub turns-acting : {r : Gone} {table′ : List Task} {stack′ memory′ pool′ ends′ : List ℕ} → gone .saves ≡ false → acting r table′ stack′ memory′ pool′ ends′ ≡ act-turn table stack memory pool ends gone
+  pub turns-acting : {r : Gone} {table′ : List Task} {stack′ memory′ pool′ ends′ : List ℕ} → gone .saves ≡ false → gone .running ≡ true → acting r table′ stack′ memory′ pool′ ends′ ≡ act-turn table stack memory pool ends gone
       → going r table′ stack′ memory′ pool′ ends′ save ≡ turn (going gone table stack memory pool ends save)
   unfolding turn
-  turns-acting saves e = ap (λ (a : Acting). from-acting a save) e ∙ sym (simp (saves))
+  turns-acting saves running e = ap (λ (a : Acting). from-acting a save) e ∙ sym (simp (saves, running))
+
+  -- at its outcome
+  pub turns-none : gone .saves ≡ false → gone .running ≡ false → going gone table stack memory pool ends save ≡ turn (going gone table stack memory pool ends save)
+  unfolding turn
+  turns-none saves running = sym (simp (saves, running))
 
 -- ---- the run
 
 -- it begins
-pub begins-at : (machine : Machine) (fuel : ℕ) (table : List Task) (stack memory pool ends save : List ℕ) {r : Gone} {stack′ memory′ pool′ ends′ : List ℕ} → gone-on r stack′ memory′ pool′ ends′ ≡ advance stack memory pool ends machine fuel
-    → going r table stack′ memory′ pool′ ends′ save ≡ begins fuel (world machine table stack memory pool ends save)
-unfolding begins
-begins-at machine fuel table stack memory pool ends save e = ap (λ (a : GoneOn). beside a table save) e
+pub begins-same : (machine : Machine) (fuel : ℕ) (table : List Task) (stack memory pool ends save : List ℕ) {r : Gone} → r ≡ begun machine fuel
+    → comes-to (going r table stack memory pool ends save) ≡ run fuel (world machine table stack memory pool ends save)
+unfolding comes-to
+begins-same machine fuel table stack memory pool ends save e = ap (λ (g : Gone). comes-to (going g table stack memory pool ends save)) e
 
--- a turn, and the code after it
-pub goes-at : (g : Going) {r r′ : Gone} {table : List Task} {stack memory pool ends save stack′ memory′ pool′ ends′ : List ℕ} → going r table stack memory pool ends save ≡ turn g → gone-on r′ stack′ memory′ pool′ ends′ ≡ onward stack memory pool ends r
-    → going r′ table stack′ memory′ pool′ ends′ save ≡ goes-on (turn g)
-unfolding goes-on
-goes-at g {r} {r′} {table} {stack} {memory} {pool} {ends} {save} e f = ap (λ (a : GoneOn). beside a table save) f ∙ ap goes-on e
-
--- an instruction at hand has fuel
-abbrev pub Fueled : Going → Type 0
-Fueled g = g .gone .running ≡ true → 0 < g .gone .left
-
-pub begins-fueled : (fuel : ℕ) (w : World) {now : Going} → now ≡ begins fuel w → Fueled now
-begins-fueled fuel w e = subst Fueled (sym e) (fueled fuel w)
-
-pub goes-fueled : (g : Going) {now : Going} → now ≡ goes-on (turn g) → Fueled now
-goes-fueled g e = subst Fueled (sym e) (still-fueled g)
+-- the current code, and the instruction that it comes to
+pub goes-at : (g : Going) {r r′ : Gone} {table′ : List Task} {stack memory pool ends stack′ memory′ pool′ ends′ save′ : List ℕ}
+    → gone-on r stack memory pool ends ≡ advance (g .stack) (g .memory) (g .pool) (g .ends) (g .gone .machine) (g .gone .left)
+    → going r′ table′ stack′ memory′ pool′ ends′ save′ ≡ turn (going r (g .table) stack memory pool ends (g .save)) → going r′ table′ stack′ memory′ pool′ ends′ save′ ≡ goes-on g
+unfolding goes-on begins
+goes-at g e f = f ∙ ap (λ (a : GoneOn). turn (beside a (g .table) (g .save))) e
 
 -- it comes to the same end
-pub begins-same : (fuel : ℕ) (w : World) {now : Going} → now ≡ begins fuel w → finishes now ≡ run fuel w
-begins-same fuel w e = ap finishes e ∙ begun fuel w
-
-pub goes-same : (g : Going) {now : Going} {end : End} → now ≡ goes-on (turn g) → g .gone .running ≡ true → finishes g ≡ end → finishes now ≡ end
-goes-same g e running so-far = ap finishes e ∙ turned-on g running ∙ so-far
+pub goes-same : (g : Going) {now : Going} {end : End} → now ≡ goes-on g → g .gone .running ≡ true → comes-to g ≡ end → comes-to now ≡ end
+goes-same g e running so-far = ap comes-to e ∙ went-on g running ∙ so-far
 
 -- with fewer turns to come
-pub goes-fewer : (g : Going) {now : Going} → now ≡ goes-on (turn g) → g .gone .running ≡ true → Fueled g → turns-left now < turns-left g
-goes-fewer g e running some = subst (λ (h : Going). turns-left h < turns-left g) (sym e) (fewer g running (some running))
+pub goes-fewer : (g : Going) {now : Going} → now ≡ goes-on g → g .gone .running ≡ true → turns-left now < turns-left g
+goes-fewer g e running = subst (λ (h : Going). turns-left h < turns-left g) (sym e) (fewer g running)
 
 -- at its outcome
-pub ends-run : (g : Going) {r : Ran} {end : End} → g .gone .running ≡ false → r ≡ ran (g .gone) → finishes g ≡ end → ran-to r (g .table) (g .stack) (g .memory) (g .pool) (g .ends) (g .save) ≡ end
+pub ends-run : (g : Going) {r : Ran} {end : End} → g .gone .running ≡ false → r ≡ ran (g .gone) → comes-to g ≡ end → ran-to r (g .table) (g .stack) (g .memory) (g .pool) (g .ends) (g .save) ≡ end
 ends-run g running e so-far = ap (λ (a : Ran). ran-to a (g .table) (g .stack) (g .memory) (g .pool) (g .ends) (g .save)) e ∙ sym (ended g running) ∙ so-far

@@ -8,7 +8,7 @@ use Rattle.storage.specs.Tasks.{blank}
 use Rattle.tasks.specs.Changes.{applied}
 use Rattle.image.specs.Table.{SavedTable, save-table}
 use Rattle.calls.specs.Act.{OnAll, act}
-use Rattle.calls.specs.Advance.{GoneOn, advance, onward}
+use Rattle.calls.specs.Advance.{GoneOn, advance}
 use Rattle.calls.specs.Turns.{turned, saved}
 use Rattle.calls.specs.declared.Gone.{Gone}
 use Rattle.runs.specs.World.{World, world}
@@ -77,11 +77,11 @@ from-acting a save = going (a .gone) (a .table) (a .stack) (a .memory) (a .pool)
 abbrev pub from-saving : Saving → List ℕ → List ℕ → Going
 from-saving s stack memory = going (s .gone) (s .table) stack memory (s .pool) (s .ends) (s .save)
 
--- the instruction at hand
+-- the instruction at hand; a machine at its outcome stays as it is
 unfoldable pub turn : Going → Going
 turn g =
     cond (g .gone .saves) (from-saving (save-turn (g .table) (g .pool) (g .ends) (g .save) (g .gone)) (g .stack) (g .memory))
-    (from-acting (act-turn (g .table) (g .stack) (g .memory) (g .pool) (g .ends) (g .gone)) (g .save))
+    (cond (g .gone .running) (from-acting (act-turn (g .table) (g .stack) (g .memory) (g .pool) (g .ends) (g .gone)) (g .save)) g)
 
 -- the run of the current code, with the table and the save buffer beside it
 abbrev pub beside : GoneOn → List Task → List ℕ → Going
@@ -90,5 +90,6 @@ beside a table save = going (a .gone) table (a .stack) (a .memory) (a .pool) (a 
 unfoldable pub begins : ℕ → World → Going
 begins fuel w = beside (advance (w .stack) (w .memory) (w .pool) (w .ends) (w .machine) fuel) (w .table) (w .save)
 
+-- that run, and the instruction that it comes to
 unfoldable pub goes-on : Going → Going
-goes-on g = beside (onward (g .stack) (g .memory) (g .pool) (g .ends) (g .gone)) (g .table) (g .save)
+goes-on g = turn (begins (g .gone .left) (world (g .gone .machine) (g .table) (g .stack) (g .memory) (g .pool) (g .ends) (g .save)))

@@ -6,7 +6,6 @@ ghost use Rattle.runs.specs.Going.{going, acting, act-turn, saving, save
 ghost use Rattle.runs.specs.Run.{ran-to, run};
 use act::act;
 use advance::advance;
-use advance::onward;
 use calls::Gone;
 use calls::Ran;
 use core::Machine;
@@ -65,7 +64,7 @@ fn save_turn(
     turns::saved(gone.machine, gone.left, result)
 }
 
-// The instruction at hand.
+// The instruction at hand; a machine that is at its outcome stays as it is.
 fn turn(
     table: &mut [Task],
     stack: &mut [u64; 1000],
@@ -80,7 +79,10 @@ fn turn(
     if gone.saves {
         return save_turn(table, pool, ends, save, gone);
     }
-    act_turn(table, stack, memory, pool, ends, gone)
+    if gone.running {
+        return act_turn(table, stack, memory, pool, ends, gone);
+    }
+    gone
 }
 
 // The run: at most so many instructions.
@@ -96,10 +98,10 @@ pub fn drive(
 ) -> Ran
     ensures { λ r. ⌜ ran-to r (now (table .exit)) (now (stack .exit)) (now (memory .exit)) (now (pool .exit)) (now (ends .exit)) (now (save .exit)) ≡ run fuel (world machine (now (table .entry)) (now (stack .entry)) (now (memory .entry)) (now (pool .entry)) (now (ends .entry)) (now (save .entry))) ⌝ }
 {
-    let mut gone = advance(stack, memory, pool, ends, machine, fuel);
+    let mut gone = turns::begun(machine, fuel);
     while gone.running {
-        gone = turn(table, stack, memory, pool, ends, save, gone);
-        let next = onward(stack, memory, pool, ends, gone);
+        gone = advance(stack, memory, pool, ends, gone.machine, gone.left);
+        let next = turn(table, stack, memory, pool, ends, save, gone);
         gone = next;
     }
     turns::ran(gone)

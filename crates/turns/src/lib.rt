@@ -1,6 +1,6 @@
 // What an instruction that needs a task, a frame or the pool makes of a machine on its way: one unit of fuel less, or a refusal.
 ghost use mathlib.Core.Path.{_≡_};
-ghost use Rattle.calls.specs.Turns.{spent, turned, saved, ran, rewound};
+ghost use Rattle.calls.specs.Turns.{begun, spent, turned, saved, ran, rewound};
 use calls::Gone;
 use calls::Outcome;
 use calls::Ran;
@@ -10,6 +10,20 @@ use calls::machines::settled;
 use core::Machine;
 use image::SaveResult;
 use opcodes::stack::moved;
+
+// A run at its beginning.
+pub fn begun(machine: Machine, fuel: u64) -> Gone
+    ensures { λ r. ⌜ r ≡ begun machine fuel ⌝ }
+{
+    Gone {
+        machine,
+        left: fuel,
+        running: true,
+        saves: false,
+        slot: 0,
+        outcome: Outcome::Paused,
+    }
+}
 
 // The fuel after one instruction.
 fn spent(left: u64) -> u64

@@ -34,7 +34,7 @@ byte-at-requires : tie.Need-byte-at-requires
 byte-at-requires c κs = search needs
 
 reach-requires : tie.Need-reach-requires
-reach-requires c κs = search needs
+reach-requires c κs = (c .before .if1 .left, c .byte-at .ensures)
 
 enum-told : tie.Need-enum-told
 enum-told c = search needs

@@ -47,32 +47,32 @@ use Rattle.storage.proofs.Records.{R, table-ty}
 use Rattle.core.specs.declared.Machine.{Machine}
 use Rattle.calls.specs.declared.Gone.{Gone}
 use Rattle.calls.specs.declared.Ran.{Ran}
-use Rattle.calls.specs.Advance.{gone-on, advance as advance-of, onward as onward-of}
-use Rattle.calls.specs.Turns.{ran as ran-of}
+use Rattle.calls.specs.Advance.{gone-on, advance as advance-of}
+use Rattle.calls.specs.Turns.{begun as begun-of, ran as ran-of}
 use Rattle.runs.specs.World.{world}
 use Rattle.runs.specs.Run.{End, ran-to, run as run-of}
 use Rattle.runs.specs.Going.{Going, going, turn as turn-of}
 use Rattle.runs.proofs.Values.{machine-val, machine-vals, machine-ty, machine-tells, machine-makes, machine-typed, gone-val, gone-vals, gone-ty, gone-tells, gone-makes, gone-typed, ran-val, ran-vals, ran-ty, ran-tells, ran-makes, ran-typed}
-use Rattle.runs.proofs.Fields.{take-running, is-true, is-false}
-use Rattle.runs.proofs.Runs.{finishes, turns-left}
-use Rattle.runs.proofs.Turns.{begins-at, goes-at, Fueled, begins-fueled, goes-fueled, begins-same, goes-same, goes-fewer, ends-run}
+use Rattle.runs.proofs.Fields.{machine-is, left-fits, take-machine, take-left, take-running, is-true, is-false}
+use Rattle.runs.proofs.Runs.{comes-to, turns-left}
+use Rattle.runs.proofs.Turns.{begins-same, goes-at, goes-same, goes-fewer, ends-run}
+use Rattle.turns.proofs.begun.Symbol.{name as #begins}
 use Rattle.advance.proofs.advance.Symbol.{name as #advance}
 use Rattle.runs.proofs.turn.Symbol.{name as #turn}
-use Rattle.advance.proofs.onward.Symbol.{name as #onward}
 use Rattle.turns.proofs.ran.Symbol.{name as #ends}
 use Rattle.runs.proofs.drive.Key.{name as #this}
 use Rattle.core.proofs.Machine as machine
 use Rattle.calls.proofs.Gone as gone
 use Rattle.calls.proofs.Ran as ran
+use Rattle.turns.proofs.begun as begins
+use Rattle.turns.proofs.begun.Symbol as begins-def
+use Rattle.turns.proofs.begun.Met as begins-thm
 use Rattle.advance.proofs.advance as advance
 use Rattle.advance.proofs.advance.Symbol as advance-def
 use Rattle.advance.proofs.advance.Met as advance-thm
 use Rattle.runs.proofs.turn as turn
 use Rattle.runs.proofs.turn.Symbol as turn-def
 use Rattle.runs.proofs.turn.Met as turn-thm
-use Rattle.advance.proofs.onward as onward
-use Rattle.advance.proofs.onward.Symbol as onward-def
-use Rattle.advance.proofs.onward.Met as onward-thm
 use Rattle.turns.proofs.ran as ends
 use Rattle.turns.proofs.ran.Symbol as ends-def
 use Rattle.turns.proofs.ran.Met as ends-thm
@@ -86,14 +86,14 @@ stayed = (stay-slice (0 ∷ []) tt (plain (λ _. R)), (stay-ref (1 ∷ []) tt (p
 
 -- the contracts that the walk cites
 module _ {M : Type 1} (𝓤 : URA M) (H : Heap 𝓤) (A : Atoms 𝓤) (at-mem : Memory → SProp 𝓤) (run : Routine → Fun 𝓤) where
+  abbrev begins-con : Contract 𝓤
+  begins-con = tripleOf 𝓤 H A begins.signature (begins.spec 𝓤 H A at-mem run)
+
   abbrev advance-con : Contract 𝓤
   advance-con = tripleOf 𝓤 H A advance.signature (advance.spec 𝓤 H A at-mem run)
 
   abbrev turn-con : Contract 𝓤
   turn-con = tripleOf 𝓤 H A turn.signature (turn.spec 𝓤 H A at-mem run)
-
-  abbrev onward-con : Contract 𝓤
-  onward-con = tripleOf 𝓤 H A onward.signature (onward.spec 𝓤 H A at-mem run)
 
   abbrev ends-con : Contract 𝓤
   ends-con = tripleOf 𝓤 H A ends.signature (ends.spec 𝓤 H A at-mem run)
@@ -112,8 +112,7 @@ record State (n₀ n₂ n₃ n₅ : ℕ) (y : End) : Type 0 where
   me-len : length me ≡ n₂
   po-len : length po ≡ n₃
   sv-len : length sv ≡ n₅
-  some : Fueled (going g ts st me po en sv)
-  so-far : finishes (going g ts st me po en sv) ≡ y
+  so-far : comes-to (going g ts st me po en sv) ≡ y
 
 abbrev now-at : {n₀ n₂ n₃ n₅ : ℕ} {y : End} → State n₀ n₂ n₃ n₅ y → Going
 now-at s = going (s .g) (s .ts) (s .st) (s .me) (s .po) (s .en) (s .sv)
@@ -179,7 +178,7 @@ module _ {M : Type 1} (𝓤 : URA M) (H : Heap 𝓤) (A : Atoms 𝓤) (W : Given
         fsplit ! $ move ! (1 ∷ []) $ fsplit ! $ move ! (1 ∷ []) $ fsplit ! $ move ! (1 ∷ []) $ fsplit ! $ move ! (1 ∷ []) $ fsplit ! $ move ! (1 ∷ []) $ fsplit ! $ move ! (1 ∷ []) $ drop ! $ nothing ! $ owned ! u64 (Is u64) (uint-makes 𝓤 H A W w64) fuel _ (refl, fuel-fits) $ fjoin ! $ owned ! machine.the-row (Is machine.the-row) (machine-makes 𝓤 H A) m _ m-is $ fjoin ! $ move ! (1 ∷ 0 ∷ []) $ fjoin ! $ move ! (1 ∷ 0 ∷ []) $ fjoin ! $ move ! (1 ∷ 0 ∷ []) $ fjoin ! $ move ! (1 ∷ 0 ∷ []) $ fjoin ! $ move ! (1 ∷ 0 ∷ []) $ fjoin ! $ move ! (1 ∷ 0 ∷ []) $ fjoin ! $
         owned ! ran.the-row (Is ran.the-row) (ran-makes 𝓤 H A) r _ is $ move ! (1 ∷ 0 ∷ []) $ done !
 
-    module _ (𝓣 : Tables 𝓤 H) (known-advance : Triple 𝓤 (𝓣 .C #advance) (advance-con 𝓤 H A at-mem run)) (known-turn : Triple 𝓤 (𝓣 .C #turn) (turn-con 𝓤 H A at-mem run)) (known-onward : Triple 𝓤 (𝓣 .C #onward) (onward-con 𝓤 H A at-mem run)) (known-ends : Triple 𝓤 (𝓣 .C #ends) (ends-con 𝓤 H A at-mem run)) (l₀ l₁ l₂ l₃ l₄ l₅ l₆ l₇ l₈ l₉ l₁₀ l₁₁ l₁₂ l₁₃ l₁₄ l₁₅ l₁₆ l₁₇ l₁₈ l₁₉ l₂₀ l₂₁ l₂₂ l₂₃ l₂₄ l₂₅ l₂₆ l₂₇ l₂₈ l₂₉ l₃₀ l₃₁ l₃₂ l₃₃ : ℕ) where
+    module _ (𝓣 : Tables 𝓤 H) (known-begins : Triple 𝓤 (𝓣 .C #begins) (begins-con 𝓤 H A at-mem run)) (known-advance : Triple 𝓤 (𝓣 .C #advance) (advance-con 𝓤 H A at-mem run)) (known-turn : Triple 𝓤 (𝓣 .C #turn) (turn-con 𝓤 H A at-mem run)) (known-ends : Triple 𝓤 (𝓣 .C #ends) (ends-con 𝓤 H A at-mem run)) (l₀ l₁ l₂ l₃ l₄ l₅ l₆ l₇ l₈ l₉ l₁₀ l₁₁ l₁₂ l₁₃ l₁₄ l₁₅ l₁₆ l₁₇ l₁₈ l₁₉ l₂₀ l₂₁ l₂₂ l₂₃ l₂₄ l₂₅ l₂₆ l₂₇ : ℕ) where
       abbrev C : Calls 𝓤 H
       C = 𝓣 .C
 
@@ -187,141 +186,132 @@ module _ {M : Type 1} (𝓤 : URA M) (H : Heap 𝓤) (A : Atoms 𝓤) (W : Given
       Λ = 𝓣 .Λ
 
       abbrev En : Env 𝓤 H
-      En = (ran-ty, l₀) ∷ (sliceTy (tyRef (named 0) mut table-ty), l₁) ∷ (tyRef (named 1) mut (tyArray (tyInt w64) 1000), l₂) ∷ (sliceTy (tyRef (named 2) mut (tyInt w8)), l₃) ∷ (sliceTy (tyRef (named 3) mut (tyInt w8)), l₄) ∷ (tyRef (named 4) mut (tyArray (tyInt w32) 1024), l₅) ∷ (sliceTy (tyRef (named 5) mut (tyInt w8)), l₆) ∷ (machine-ty, l₇) ∷ (tyInt w64, l₈) ∷ (gone-ty, l₉) ∷ (gone-ty, l₁₀) ∷ (tyRef erased mut (tyArray (tyInt w64) 1000), l₁₁) ∷ (tyRef erased mut (tyInt w8), l₁₂) ∷ (sliceTy (tyRef erased mut (tyInt w8)), l₁₃) ∷ (tyRef erased mut (tyInt w8), l₁₄) ∷ (sliceTy (tyRef erased mut (tyInt w8)), l₁₅) ∷ (tyRef erased mut (tyArray (tyInt w32) 1024), l₁₆) ∷ (tyBool, l₁₇) ∷ (tyRef erased mut table-ty, l₁₈) ∷ (sliceTy (tyRef erased mut table-ty), l₁₉) ∷ (tyRef erased mut (tyArray (tyInt w64) 1000), l₂₀) ∷ (tyRef erased mut (tyInt w8), l₂₁) ∷ (sliceTy (tyRef erased mut (tyInt w8)), l₂₂) ∷ (tyRef erased mut (tyInt w8), l₂₃) ∷ (sliceTy (tyRef erased mut (tyInt w8)), l₂₄) ∷ (tyRef erased mut (tyArray (tyInt w32) 1024), l₂₅) ∷ (tyRef erased mut (tyInt w8), l₂₆) ∷ (sliceTy (tyRef erased mut (tyInt w8)), l₂₇) ∷ (tyRef erased mut (tyArray (tyInt w64) 1000), l₂₈) ∷ (tyRef erased mut (tyInt w8), l₂₉) ∷ (sliceTy (tyRef erased mut (tyInt w8)), l₃₀) ∷ (tyRef erased mut (tyInt w8), l₃₁) ∷ (sliceTy (tyRef erased mut (tyInt w8)), l₃₂) ∷ (tyRef erased mut (tyArray (tyInt w32) 1024), l₃₃) ∷ []
+      En = (ran-ty, l₀) ∷ (sliceTy (tyRef (named 0) mut table-ty), l₁) ∷ (tyRef (named 1) mut (tyArray (tyInt w64) 1000), l₂) ∷ (sliceTy (tyRef (named 2) mut (tyInt w8)), l₃) ∷ (sliceTy (tyRef (named 3) mut (tyInt w8)), l₄) ∷ (tyRef (named 4) mut (tyArray (tyInt w32) 1024), l₅) ∷ (sliceTy (tyRef (named 5) mut (tyInt w8)), l₆) ∷ (machine-ty, l₇) ∷ (tyInt w64, l₈) ∷ (gone-ty, l₉) ∷ (gone-ty, l₁₀) ∷ (tyBool, l₁₁) ∷ (tyRef erased mut (tyArray (tyInt w64) 1000), l₁₂) ∷ (tyRef erased mut (tyInt w8), l₁₃) ∷ (sliceTy (tyRef erased mut (tyInt w8)), l₁₄) ∷ (tyRef erased mut (tyInt w8), l₁₅) ∷ (sliceTy (tyRef erased mut (tyInt w8)), l₁₆) ∷ (tyRef erased mut (tyArray (tyInt w32) 1024), l₁₇) ∷ (tyRef erased mut table-ty, l₁₈) ∷ (sliceTy (tyRef erased mut table-ty), l₁₉) ∷ (tyRef erased mut (tyArray (tyInt w64) 1000), l₂₀) ∷ (tyRef erased mut (tyInt w8), l₂₁) ∷ (sliceTy (tyRef erased mut (tyInt w8)), l₂₂) ∷ (tyRef erased mut (tyInt w8), l₂₃) ∷ (sliceTy (tyRef erased mut (tyInt w8)), l₂₄) ∷ (tyRef erased mut (tyArray (tyInt w32) 1024), l₂₅) ∷ (tyRef erased mut (tyInt w8), l₂₆) ∷ (sliceTy (tyRef erased mut (tyInt w8)), l₂₇) ∷ []
 
       -- the locals with a machine on its way
       abbrev With : Gone → List (Item 𝓤)
-      With g = ‵ (froom (tyRef erased mut (tyArray (tyInt w32) 1024)) l₃₃ 0) ∷ ‵ (fdies (tyRef erased mut (tyArray (tyInt w32) 1024)) l₃₃) ∷ ‵ (froom (sliceTy (tyRef erased mut (tyInt w8))) l₃₂ 0) ∷ ‵ (fdies (sliceTy (tyRef erased mut (tyInt w8))) l₃₂) ∷ ‵ (froom (tyRef erased mut (tyInt w8)) l₃₁ 0) ∷ ‵ (fdies (tyRef erased mut (tyInt w8)) l₃₁) ∷ ‵ (froom (sliceTy (tyRef erased mut (tyInt w8))) l₃₀ 0) ∷ ‵ (fdies (sliceTy (tyRef erased mut (tyInt w8))) l₃₀) ∷ ‵ (froom (tyRef erased mut (tyInt w8)) l₂₉ 0) ∷ ‵ (fdies (tyRef erased mut (tyInt w8)) l₂₉) ∷ ‵ (froom (tyRef erased mut (tyArray (tyInt w64) 1000)) l₂₈ 0) ∷ ‵ (fdies (tyRef erased mut (tyArray (tyInt w64) 1000)) l₂₈) ∷ ‵ (froom (sliceTy (tyRef erased mut (tyInt w8))) l₂₇ 0) ∷ ‵ (fdies (sliceTy (tyRef erased mut (tyInt w8))) l₂₇) ∷ ‵ (froom (tyRef erased mut (tyInt w8)) l₂₆ 0) ∷ ‵ (fdies (tyRef erased mut (tyInt w8)) l₂₆) ∷ ‵ (froom (tyRef erased mut (tyArray (tyInt w32) 1024)) l₂₅ 0) ∷ ‵ (fdies (tyRef erased mut (tyArray (tyInt w32) 1024)) l₂₅) ∷ ‵ (froom (sliceTy (tyRef erased mut (tyInt w8))) l₂₄ 0) ∷ ‵ (fdies (sliceTy (tyRef erased mut (tyInt w8))) l₂₄) ∷ ‵ (froom (tyRef erased mut (tyInt w8)) l₂₃ 0) ∷ ‵ (fdies (tyRef erased mut (tyInt w8)) l₂₃) ∷ ‵ (froom (sliceTy (tyRef erased mut (tyInt w8))) l₂₂ 0) ∷ ‵ (fdies (sliceTy (tyRef erased mut (tyInt w8))) l₂₂) ∷ ‵ (froom (tyRef erased mut (tyInt w8)) l₂₁ 0) ∷ ‵ (fdies (tyRef erased mut (tyInt w8)) l₂₁) ∷ ‵ (froom (tyRef erased mut (tyArray (tyInt w64) 1000)) l₂₀ 0) ∷ ‵ (fdies (tyRef erased mut (tyArray (tyInt w64) 1000)) l₂₀) ∷ ‵ (froom (sliceTy (tyRef erased mut table-ty)) l₁₉ 0) ∷ ‵ (fdies (sliceTy (tyRef erased mut table-ty)) l₁₉) ∷ ‵ (froom (tyRef erased mut table-ty) l₁₈ 0) ∷ ‵ (fdies (tyRef erased mut table-ty) l₁₈) ∷ ‵ (froom tyBool l₁₇ 0) ∷ ‵ (fdies tyBool l₁₇) ∷ ‵ (froom (tyRef erased mut (tyArray (tyInt w32) 1024)) l₁₆ 0) ∷ ‵ (fdies (tyRef erased mut (tyArray (tyInt w32) 1024)) l₁₆) ∷ ‵ (froom (sliceTy (tyRef erased mut (tyInt w8))) l₁₅ 0) ∷ ‵ (fdies (sliceTy (tyRef erased mut (tyInt w8))) l₁₅) ∷ ‵ (froom (tyRef erased mut (tyInt w8)) l₁₄ 0) ∷ ‵ (fdies (tyRef erased mut (tyInt w8)) l₁₄) ∷ ‵ (froom (sliceTy (tyRef erased mut (tyInt w8))) l₁₃ 0) ∷ ‵ (fdies (sliceTy (tyRef erased mut (tyInt w8))) l₁₃) ∷ ‵ (froom (tyRef erased mut (tyInt w8)) l₁₂ 0) ∷ ‵ (fdies (tyRef erased mut (tyInt w8)) l₁₂) ∷ ‵ (froom (tyRef erased mut (tyArray (tyInt w64) 1000)) l₁₁ 0) ∷ ‵ (fdies (tyRef erased mut (tyArray (tyInt w64) 1000)) l₁₁) ∷ ‵ (froom gone-ty l₁₀ 0) ∷ ‵ (fdies gone-ty l₁₀) ∷ ‵ (fat fullShare gone-ty l₉ 0 (gone-val g)) ∷ ‵ (fdies gone-ty l₉) ∷ ‵ (fat fullShare (tyInt w64) l₈ 0 (vint w64 fuel)) ∷ ‵ (fdies (tyInt w64) l₈) ∷ ‵ (fat fullShare machine-ty l₇ 0 (machine-val m)) ∷ ‵ (fdies machine-ty l₇) ∷ ‵ (fat fullShare (sliceTy (tyRef (named 5) mut (tyInt w8))) l₆ 0 (sliceVal (b₅, o₅) n₅)) ∷ ‵ (fdies (sliceTy (tyRef (named 5) mut (tyInt w8))) l₆) ∷ ‵ (fat fullShare (tyRef (named 4) mut (tyArray (tyInt w32) 1024)) l₅ 0 (vptr b₄ o₄)) ∷ ‵ (fdies (tyRef (named 4) mut (tyArray (tyInt w32) 1024)) l₅) ∷ ‵ (fat fullShare (sliceTy (tyRef (named 3) mut (tyInt w8))) l₄ 0 (sliceVal (b₃, o₃) n₃)) ∷ ‵ (fdies (sliceTy (tyRef (named 3) mut (tyInt w8))) l₄) ∷ ‵ (fat fullShare (sliceTy (tyRef (named 2) mut (tyInt w8))) l₃ 0 (sliceVal (b₂, o₂) n₂)) ∷ ‵ (fdies (sliceTy (tyRef (named 2) mut (tyInt w8))) l₃) ∷ ‵ (fat fullShare (tyRef (named 1) mut (tyArray (tyInt w64) 1000)) l₂ 0 (vptr b₁ o₁)) ∷ ‵ (fdies (tyRef (named 1) mut (tyArray (tyInt w64) 1000)) l₂) ∷ ‵ (fat fullShare (sliceTy (tyRef (named 0) mut table-ty)) l₁ 0 (sliceVal (b₀, o₀) n₀)) ∷ ‵ (fdies (sliceTy (tyRef (named 0) mut table-ty)) l₁) ∷ ‵ (froom ran-ty l₀ 0) ∷ ‵ (fdies ran-ty l₀) ∷ []
+      With g = ‵ (froom (sliceTy (tyRef erased mut (tyInt w8))) l₂₇ 0) ∷ ‵ (fdies (sliceTy (tyRef erased mut (tyInt w8))) l₂₇) ∷ ‵ (froom (tyRef erased mut (tyInt w8)) l₂₆ 0) ∷ ‵ (fdies (tyRef erased mut (tyInt w8)) l₂₆) ∷ ‵ (froom (tyRef erased mut (tyArray (tyInt w32) 1024)) l₂₅ 0) ∷ ‵ (fdies (tyRef erased mut (tyArray (tyInt w32) 1024)) l₂₅) ∷ ‵ (froom (sliceTy (tyRef erased mut (tyInt w8))) l₂₄ 0) ∷ ‵ (fdies (sliceTy (tyRef erased mut (tyInt w8))) l₂₄) ∷ ‵ (froom (tyRef erased mut (tyInt w8)) l₂₃ 0) ∷ ‵ (fdies (tyRef erased mut (tyInt w8)) l₂₃) ∷ ‵ (froom (sliceTy (tyRef erased mut (tyInt w8))) l₂₂ 0) ∷ ‵ (fdies (sliceTy (tyRef erased mut (tyInt w8))) l₂₂) ∷ ‵ (froom (tyRef erased mut (tyInt w8)) l₂₁ 0) ∷ ‵ (fdies (tyRef erased mut (tyInt w8)) l₂₁) ∷ ‵ (froom (tyRef erased mut (tyArray (tyInt w64) 1000)) l₂₀ 0) ∷ ‵ (fdies (tyRef erased mut (tyArray (tyInt w64) 1000)) l₂₀) ∷ ‵ (froom (sliceTy (tyRef erased mut table-ty)) l₁₉ 0) ∷ ‵ (fdies (sliceTy (tyRef erased mut table-ty)) l₁₉) ∷ ‵ (froom (tyRef erased mut table-ty) l₁₈ 0) ∷ ‵ (fdies (tyRef erased mut table-ty) l₁₈) ∷ ‵ (froom (tyRef erased mut (tyArray (tyInt w32) 1024)) l₁₇ 0) ∷ ‵ (fdies (tyRef erased mut (tyArray (tyInt w32) 1024)) l₁₇) ∷ ‵ (froom (sliceTy (tyRef erased mut (tyInt w8))) l₁₆ 0) ∷ ‵ (fdies (sliceTy (tyRef erased mut (tyInt w8))) l₁₆) ∷ ‵ (froom (tyRef erased mut (tyInt w8)) l₁₅ 0) ∷ ‵ (fdies (tyRef erased mut (tyInt w8)) l₁₅) ∷ ‵ (froom (sliceTy (tyRef erased mut (tyInt w8))) l₁₄ 0) ∷ ‵ (fdies (sliceTy (tyRef erased mut (tyInt w8))) l₁₄) ∷ ‵ (froom (tyRef erased mut (tyInt w8)) l₁₃ 0) ∷ ‵ (fdies (tyRef erased mut (tyInt w8)) l₁₃) ∷ ‵ (froom (tyRef erased mut (tyArray (tyInt w64) 1000)) l₁₂ 0) ∷ ‵ (fdies (tyRef erased mut (tyArray (tyInt w64) 1000)) l₁₂) ∷ ‵ (froom tyBool l₁₁ 0) ∷ ‵ (fdies tyBool l₁₁) ∷ ‵ (froom gone-ty l₁₀ 0) ∷ ‵ (fdies gone-ty l₁₀) ∷ ‵ (fat fullShare gone-ty l₉ 0 (gone-val g)) ∷ ‵ (fdies gone-ty l₉) ∷ ‵ (fat fullShare (tyInt w64) l₈ 0 (vint w64 fuel)) ∷ ‵ (fdies (tyInt w64) l₈) ∷ ‵ (fat fullShare machine-ty l₇ 0 (machine-val m)) ∷ ‵ (fdies machine-ty l₇) ∷ ‵ (fat fullShare (sliceTy (tyRef (named 5) mut (tyInt w8))) l₆ 0 (sliceVal (b₅, o₅) n₅)) ∷ ‵ (fdies (sliceTy (tyRef (named 5) mut (tyInt w8))) l₆) ∷ ‵ (fat fullShare (tyRef (named 4) mut (tyArray (tyInt w32) 1024)) l₅ 0 (vptr b₄ o₄)) ∷ ‵ (fdies (tyRef (named 4) mut (tyArray (tyInt w32) 1024)) l₅) ∷ ‵ (fat fullShare (sliceTy (tyRef (named 3) mut (tyInt w8))) l₄ 0 (sliceVal (b₃, o₃) n₃)) ∷ ‵ (fdies (sliceTy (tyRef (named 3) mut (tyInt w8))) l₄) ∷ ‵ (fat fullShare (sliceTy (tyRef (named 2) mut (tyInt w8))) l₃ 0 (sliceVal (b₂, o₂) n₂)) ∷ ‵ (fdies (sliceTy (tyRef (named 2) mut (tyInt w8))) l₃) ∷ ‵ (fat fullShare (tyRef (named 1) mut (tyArray (tyInt w64) 1000)) l₂ 0 (vptr b₁ o₁)) ∷ ‵ (fdies (tyRef (named 1) mut (tyArray (tyInt w64) 1000)) l₂) ∷ ‵ (fat fullShare (sliceTy (tyRef (named 0) mut table-ty)) l₁ 0 (sliceVal (b₀, o₀) n₀)) ∷ ‵ (fdies (sliceTy (tyRef (named 0) mut table-ty)) l₁) ∷ ‵ (froom ran-ty l₀ 0) ∷ ‵ (fdies ran-ty l₀) ∷ []
 
       abbrev At : State n₀ n₂ n₃ n₅ y₀ → List (Item 𝓤)
       At s = Has (s .ts) (s .st) (s .me) (s .po) (s .en) (s .sv) (With (s .g))
 
       abbrev Left : Out → SProp 𝓤
-      Left = afterBlock 𝓤 H (afterSeq 𝓤 H (Wp 𝓤 H C Λ En mir.t-9 (atReturn 𝓤 H En Post)) (atReturn 𝓤 H En Post))
+      Left = afterBlock 𝓤 H (afterSeq 𝓤 H (Wp 𝓤 H C Λ En mir.t-3 (atReturn 𝓤 H En Post)) (atReturn 𝓤 H En Post))
 
       abbrev Turned : State n₀ n₂ n₃ n₅ y₀ → Out → SProp 𝓤
       Turned s = afterTurn 𝓤 H (Below 𝓤 H A Less At s) Left
 
       -- at its outcome
-      leaves : (s : State n₀ n₂ n₃ n₅ y₀) → s .g .running ≡ false → Sq W (At s) (runs C Λ En mir.t-9 (atRet En Post))
+      leaves : (s : State n₀ n₂ n₃ n₅ y₀) → s .g .running ≡ false → Sq W (At s) (runs C Λ En mir.t-3 (atRet En Post))
       leaves s out =
           nothing ! $ nothing ! $
           lent 0 [] tt (gone.the-row ∷ []) ran.the-row 𝓤 (ends.clauses 𝓤 H A at-mem run) tt (s .g, tt) (gone-val (s .g) ∷ [], tt) ! (fmOf 𝓤 H (W .laws) 𝓣) known-ends
           tt tt (gone-makes 𝓤 H A (s .g) _ (s .g-is), tt) (λ αs δs. tt) (λ αs δs. id⊢ 𝓤 (emp 𝓤))
-          (λ αs δs. (and-then ! (load ! (from ! (stop !)) (look ! 52 refl)) (no-more !)))
+          (λ αs δs. (and-then ! (load ! (from ! (stop !)) (look ! 40 refl)) (no-more !)))
           (λ αs δs w₁ r₁ z₁ f₁. heard ! (r₁ ≡ ran-of (s .g)) (λ e₁. landed-by ! ran.the-row ran-vals ran-tells r₁ w₁ (λ is₁.
-          drop ! $ drop ! $ land ! (from ! (stop !)) (init ! 68 refl (ran-typed 𝓤 H A W r₁ is₁)) $
-          returns ! (look ! 68 refl) $ forget ! 50 refl $ forget ! 52 refl $ forget ! 54 refl $ forget ! 56 refl $ forget ! 58 refl $ forget ! 60 refl $ forget ! 62 refl $ forget ! 64 refl $ forget ! 66 refl $ forget ! 68 refl $
-          move ! (68 ∷ 69 ∷ []) $ free1 ! $ move ! (66 ∷ 67 ∷ []) $ free1 ! $ move ! (64 ∷ 65 ∷ []) $ free1 ! $ move ! (62 ∷ 63 ∷ []) $ free1 ! $ move ! (60 ∷ 61 ∷ []) $ free1 ! $ move ! (58 ∷ 59 ∷ []) $ free1 ! $ move ! (56 ∷ 57 ∷ []) $ free1 ! $ move ! (54 ∷ 55 ∷ []) $ free1 ! $ move ! (52 ∷ 53 ∷ []) $ free1 ! $ move ! (50 ∷ 51 ∷ []) $ free1 ! $ move ! (48 ∷ 49 ∷ []) $ free1 ! $ move ! (46 ∷ 47 ∷ []) $ free1 ! $ move ! (44 ∷ 45 ∷ []) $ free1 ! $ move ! (42 ∷ 43 ∷ []) $ free1 ! $ move ! (40 ∷ 41 ∷ []) $ free1 ! $ move ! (38 ∷ 39 ∷ []) $ free1 ! $ move ! (36 ∷ 37 ∷ []) $ free1 ! $ move ! (34 ∷ 35 ∷ []) $ free1 ! $ move ! (32 ∷ 33 ∷ []) $ free1 ! $ move ! (30 ∷ 31 ∷ []) $ free1 ! $ move ! (28 ∷ 29 ∷ []) $ free1 ! $ move ! (26 ∷ 27 ∷ []) $ free1 ! $ move ! (24 ∷ 25 ∷ []) $ free1 ! $ move ! (22 ∷ 23 ∷ []) $ free1 ! $ move ! (20 ∷ 21 ∷ []) $ free1 ! $ move ! (18 ∷ 19 ∷ []) $ free1 ! $ move ! (16 ∷ 17 ∷ []) $ free1 ! $ move ! (14 ∷ 15 ∷ []) $ free1 ! $ move ! (12 ∷ 13 ∷ []) $ free1 ! $ move ! (10 ∷ 11 ∷ []) $ free1 ! $ move ! (8 ∷ 9 ∷ []) $ free1 ! $ move ! (6 ∷ 7 ∷ []) $ free1 ! $ move ! (4 ∷ 5 ∷ []) $ free1 ! $ move ! (2 ∷ 3 ∷ []) $ free1 ! $ free0 ! $
+          drop ! $ drop ! $ land ! (from ! (stop !)) (init ! 56 refl (ran-typed 𝓤 H A W r₁ is₁)) $
+          returns ! (look ! 56 refl) $ forget ! 38 refl $ forget ! 40 refl $ forget ! 42 refl $ forget ! 44 refl $ forget ! 46 refl $ forget ! 48 refl $ forget ! 50 refl $ forget ! 52 refl $ forget ! 54 refl $ forget ! 56 refl $
+          move ! (56 ∷ 57 ∷ []) $ free1 ! $ move ! (54 ∷ 55 ∷ []) $ free1 ! $ move ! (52 ∷ 53 ∷ []) $ free1 ! $ move ! (50 ∷ 51 ∷ []) $ free1 ! $ move ! (48 ∷ 49 ∷ []) $ free1 ! $ move ! (46 ∷ 47 ∷ []) $ free1 ! $ move ! (44 ∷ 45 ∷ []) $ free1 ! $ move ! (42 ∷ 43 ∷ []) $ free1 ! $ move ! (40 ∷ 41 ∷ []) $ free1 ! $ move ! (38 ∷ 39 ∷ []) $ free1 ! $ move ! (36 ∷ 37 ∷ []) $ free1 ! $ move ! (34 ∷ 35 ∷ []) $ free1 ! $ move ! (32 ∷ 33 ∷ []) $ free1 ! $ move ! (30 ∷ 31 ∷ []) $ free1 ! $ move ! (28 ∷ 29 ∷ []) $ free1 ! $ move ! (26 ∷ 27 ∷ []) $ free1 ! $ move ! (24 ∷ 25 ∷ []) $ free1 ! $ move ! (22 ∷ 23 ∷ []) $ free1 ! $ move ! (20 ∷ 21 ∷ []) $ free1 ! $ move ! (18 ∷ 19 ∷ []) $ free1 ! $ move ! (16 ∷ 17 ∷ []) $ free1 ! $ move ! (14 ∷ 15 ∷ []) $ free1 ! $ move ! (12 ∷ 13 ∷ []) $ free1 ! $ move ! (10 ∷ 11 ∷ []) $ free1 ! $ move ! (8 ∷ 9 ∷ []) $ free1 ! $ move ! (6 ∷ 7 ∷ []) $ free1 ! $ move ! (4 ∷ 5 ∷ []) $ free1 ! $ move ! (2 ∷ 3 ∷ []) $ free1 ! $ free0 ! $
           by ! (exits r₁ (s .ts) (s .st) (s .me) (s .po) (s .en) (s .sv) is₁ (s .ts-len) (s .me-len) (s .po-len) (s .sv-len) (ends-run (now-at s) out e₁ (s .so-far))))))
 
-      -- the code after a turn
-      goes-on-then : (s : State n₀ n₂ n₃ n₅ y₀) (r : Gone) (ts : List Task) (st me po en sv : List ℕ) → s .g .running ≡ true → Is gone.the-row r (gone-vals r) → length ts ≡ n₀ → length me ≡ n₂ → length po ≡ n₃ → length sv ≡ n₅ → going r ts st me po en sv ≡ turn-of (now-at s)
-          → Sq W (Parted ts st me po en sv (With r)) (runs C Λ En (past 13 mir.turn-1) (anyQ (Turned s)))
+      -- the instruction that the code comes to
+      takes-turn : (s : State n₀ n₂ n₃ n₅ y₀) (r : Gone) (st me po en : List ℕ) → s .g .running ≡ true → Is gone.the-row r (gone-vals r) → length me ≡ n₂ → length po ≡ n₃ → gone-on r st me po en ≡ advance-of (s .st) (s .me) (s .po) (s .en) (s .g .machine) (s .g .left)
+          → Sq W (Has (s .ts) st me po en (s .sv) (With r)) (runs C Λ En (past 9 mir.turn-1) (anyQ (Turned s)))
       unfolding afterTurn
-      goes-on-then s r ts st me po en sv more is m₀ m₂ m₃ m₅ e =
-          assigns ! (addr ! (from ! (hop ! (look ! 66 refl) (stop !)))) (from ! (stop !)) (init ! 14 refl (tt, tt)) $
-          assigns ! (addr ! (from ! (fld ! refl (hop ! (look-in ! 64 (sub ! 0 refl (whole !))) (stop !))))) (from ! (stop !)) (init ! 12 refl (tt, tt)) $
-          assigns ! (agg ! (and-then ! (load ! (from ! (stop !)) (look ! 12 refl)) (and-then ! (load ! (from ! (fld ! refl (stop !))) (look-in ! 64 (sub ! 1 refl (whole !)))) (no-more !)))) (from ! (stop !)) (init ! 10 refl (tt, (tt, (record { fits = g₂ .0 }, tt)))) $
-          assigns ! (addr ! (from ! (fld ! refl (hop ! (look-in ! 62 (sub ! 0 refl (whole !))) (stop !))))) (from ! (stop !)) (init ! 8 refl (tt, tt)) $
-          assigns ! (agg ! (and-then ! (load ! (from ! (stop !)) (look ! 8 refl)) (and-then ! (load ! (from ! (fld ! refl (stop !))) (look-in ! 62 (sub ! 1 refl (whole !)))) (no-more !)))) (from ! (stop !)) (init ! 6 refl (tt, (tt, (record { fits = g₃ .0 }, tt)))) $
-          assigns ! (addr ! (from ! (hop ! (look ! 60 refl) (stop !)))) (from ! (stop !)) (init ! 4 refl (tt, tt)) $
-          lent 4 Four (tt, (tt, (tt, (tt, tt)))) (gone.the-row ∷ []) gone.the-row 𝓤 (onward.clauses 𝓤 H A at-mem run) (st, (me, (po, (en, tt)))) (r, tt) (gone-val r ∷ [], tt) ! (fmOf 𝓤 H (W .laws) 𝓣) known-onward
-          (tt, (g₂, (g₃, (tt, tt)))) (tt, (m₂, (m₃, (tt, tt)))) (gone-makes 𝓤 H A r _ is, tt) (λ αs δs. tt) (λ αs δs. id⊢ 𝓤 (emp 𝓤))
-          (λ αs δs. (and-then ! (load ! (from ! (stop !)) (look ! 14 refl)) (and-then ! (load ! (from ! (stop !)) (look ! 10 refl)) (and-then ! (load ! (from ! (stop !)) (look ! 6 refl)) (and-then ! (load ! (from ! (stop !)) (look ! 4 refl)) (and-then ! (load ! (from ! (stop !)) (look ! 52 refl)) (no-more !)))))))
-          (λ αs δs w₂ r₂ z₂ f₂. heard ! (gone-on r₂ (z₂ .0) (z₂ .1 .0) (z₂ .1 .1 .0) (z₂ .1 .1 .1 .0) ≡ onward-of st me po en r) (λ e₂. landed-by ! gone.the-row gone-vals gone-tells r₂ w₂ (λ is₂.
-          land ! (from ! (stop !)) (init ! 50 refl (gone-typed 𝓤 H A W r₂ is₂)) $
-          fsplit ! $ move ! (1 ∷ []) $ fsplit ! $ move ! (1 ∷ []) $ fsplit ! $ move ! (1 ∷ []) $ fsplit ! $ move ! (1 ∷ []) $ drop ! $ move ! (5 ∷ []) $ fsplit ! $ move ! (1 ∷ []) $ fsplit ! $ move ! (1 ∷ []) $ drop ! $ nothing ! $ move ! (1 ∷ 0 ∷ []) $ fjoin ! $ move ! (2 ∷ 0 ∷ []) $ fjoin ! $ move ! (2 ∷ 0 ∷ []) $ fjoin ! $ move ! (2 ∷ 0 ∷ []) $ fjoin ! $ move ! (2 ∷ 0 ∷ []) $ fjoin ! $ move ! (1 ∷ 0 ∷ []) $ fjoin ! $
-          move ! (1 ∷ []) $ fsplit ! $ move ! (1 ∷ []) $ fsplit ! $ move ! (1 ∷ []) $ fsplit ! $ move ! (1 ∷ []) $ fsplit ! $ move ! (1 ∷ []) $ drop ! $ move ! (5 ∷ []) $ fsplit ! $ move ! (1 ∷ []) $ fsplit ! $ move ! (1 ∷ []) $ drop ! $ nothing ! $ move ! (1 ∷ 0 ∷ []) $ fjoin ! $ move ! (2 ∷ 0 ∷ []) $ fjoin ! $ move ! (2 ∷ 0 ∷ []) $ fjoin ! $ move ! (2 ∷ 0 ∷ []) $ fjoin ! $ move ! (2 ∷ 0 ∷ []) $ fjoin ! $ move ! (1 ∷ 0 ∷ []) $ fjoin ! $ move ! (1 ∷ 0 ∷ []) $
-          assigns-last ! (of-opd ! (load ! (from ! (stop !)) (look ! 48 refl))) (from ! (stop !)) (store ! 50 refl (gone-typed 𝓤 H A W r₂ is₂)) $
-          forget ! 2 refl $ forget ! 4 refl $ forget ! 6 refl $ forget ! 8 refl $ forget ! 10 refl $ forget ! 12 refl $ forget ! 48 refl $
+      takes-turn s r st me po en more is m₂ m₃ e =
+          assigns ! (addr ! (from ! (fld ! refl (hop ! (look-in ! 54 (sub ! 0 refl (whole !))) (stop !))))) (from ! (stop !)) (init ! 20 refl (tt, tt)) $
+          assigns ! (agg ! (and-then ! (load ! (from ! (stop !)) (look ! 20 refl)) (and-then ! (load ! (from ! (fld ! refl (stop !))) (look-in ! 54 (sub ! 1 refl (whole !)))) (no-more !)))) (from ! (stop !)) (init ! 18 refl (tt, (tt, (record { fits = g₀ .0 }, tt)))) $
+          assigns ! (addr ! (from ! (hop ! (look ! 52 refl) (stop !)))) (from ! (stop !)) (init ! 16 refl (tt, tt)) $
+          assigns ! (addr ! (from ! (fld ! refl (hop ! (look-in ! 50 (sub ! 0 refl (whole !))) (stop !))))) (from ! (stop !)) (init ! 14 refl (tt, tt)) $
+          assigns ! (agg ! (and-then ! (load ! (from ! (stop !)) (look ! 14 refl)) (and-then ! (load ! (from ! (fld ! refl (stop !))) (look-in ! 50 (sub ! 1 refl (whole !)))) (no-more !)))) (from ! (stop !)) (init ! 12 refl (tt, (tt, (record { fits = g₂ .0 }, tt)))) $
+          assigns ! (addr ! (from ! (fld ! refl (hop ! (look-in ! 48 (sub ! 0 refl (whole !))) (stop !))))) (from ! (stop !)) (init ! 10 refl (tt, tt)) $
+          assigns ! (agg ! (and-then ! (load ! (from ! (stop !)) (look ! 10 refl)) (and-then ! (load ! (from ! (fld ! refl (stop !))) (look-in ! 48 (sub ! 1 refl (whole !)))) (no-more !)))) (from ! (stop !)) (init ! 8 refl (tt, (tt, (record { fits = g₃ .0 }, tt)))) $
+          assigns ! (addr ! (from ! (hop ! (look ! 46 refl) (stop !)))) (from ! (stop !)) (init ! 6 refl (tt, tt)) $
+          assigns ! (addr ! (from ! (fld ! refl (hop ! (look-in ! 44 (sub ! 0 refl (whole !))) (stop !))))) (from ! (stop !)) (init ! 4 refl (tt, tt)) $
+          assigns ! (agg ! (and-then ! (load ! (from ! (stop !)) (look ! 4 refl)) (and-then ! (load ! (from ! (fld ! refl (stop !))) (look-in ! 44 (sub ! 1 refl (whole !)))) (no-more !)))) (from ! (stop !)) (init ! 2 refl (tt, (tt, (record { fits = g₅ .0 }, tt)))) $
+          lent 6 All (tt, (tt, (tt, (tt, (tt, (tt, tt)))))) (gone.the-row ∷ []) gone.the-row 𝓤 (turn.clauses 𝓤 H A at-mem run) (s .ts, (st, (me, (po, (en, (s .sv, tt)))))) (r, tt) (gone-val r ∷ [], tt) ! (fmOf 𝓤 H (W .laws) 𝓣) known-turn
+          (g₀, (tt, (g₂, (g₃, (tt, (g₅, tt)))))) (s .ts-len, (tt, (m₂, (m₃, (tt, (s .sv-len, tt)))))) (gone-makes 𝓤 H A r _ is, tt) (λ αs δs. tt) (λ αs δs. id⊢ 𝓤 (emp 𝓤))
+          (λ αs δs. (and-then ! (load ! (from ! (stop !)) (look ! 18 refl)) (and-then ! (load ! (from ! (stop !)) (look ! 16 refl)) (and-then ! (load ! (from ! (stop !)) (look ! 12 refl)) (and-then ! (load ! (from ! (stop !)) (look ! 8 refl)) (and-then ! (load ! (from ! (stop !)) (look ! 6 refl)) (and-then ! (load ! (from ! (stop !)) (look ! 2 refl)) (and-then ! (load ! (from ! (stop !)) (look ! 38 refl)) (no-more !)))))))))
+          (λ αs δs w₂ r₂ z₂ f₂. heard ! (going r₂ (z₂ .0) (z₂ .1 .0) (z₂ .1 .1 .0) (z₂ .1 .1 .1 .0) (z₂ .1 .1 .1 .1 .0) (z₂ .1 .1 .1 .1 .1 .0) ≡ turn-of (going r (s .ts) st me po en (s .sv))) (λ e₂. landed-by ! gone.the-row gone-vals gone-tells r₂ w₂ (λ is₂.
+          land ! (from ! (stop !)) (init ! 36 refl (gone-typed 𝓤 H A W r₂ is₂)) $
+          assigns-last ! (of-opd ! (load ! (from ! (stop !)) (look ! 36 refl))) (from ! (stop !)) (store ! 38 refl (gone-typed 𝓤 H A W r₂ is₂)) $
+          forget ! 2 refl $ forget ! 4 refl $ forget ! 6 refl $ forget ! 8 refl $ forget ! 10 refl $ forget ! 12 refl $ forget ! 14 refl $ forget ! 16 refl $ forget ! 18 refl $ forget ! 20 refl $ forget ! 36 refl $
           again ! Less At s (record {
             g = r₂;
-            ts = ts;
-            st = z₂ .0;
-            me = z₂ .1 .0;
-            po = z₂ .1 .1 .0;
-            en = z₂ .1 .1 .1 .0;
-            sv = sv;
+            ts = z₂ .0;
+            st = z₂ .1 .0;
+            me = z₂ .1 .1 .0;
+            po = z₂ .1 .1 .1 .0;
+            en = z₂ .1 .1 .1 .1 .0;
+            sv = z₂ .1 .1 .1 .1 .1 .0;
             g-is = is₂;
-            ts-len = m₀;
-            me-len = f₂ .1 .0;
-            po-len = f₂ .1 .1 .0;
-            sv-len = m₅;
-            some = goes-fueled (now-at s) (goes-at (now-at s) e e₂);
+            ts-len = f₂ .0;
+            me-len = f₂ .1 .1 .0;
+            po-len = f₂ .1 .1 .1 .0;
+            sv-len = f₂ .1 .1 .1 .1 .1 .0;
             so-far = goes-same (now-at s) (goes-at (now-at s) e e₂) more (s .so-far);
-          }) (goes-fewer (now-at s) (goes-at (now-at s) e e₂) more (s .some)))))
+          }) (goes-fewer (now-at s) (goes-at (now-at s) e e₂) more))))
 
-      -- a turn
+      -- the current code, and that instruction
       goes : (s : State n₀ n₂ n₃ n₅ y₀) → s .g .running ≡ true → Sq W (At s) (runs C Λ En (past 2 mir.turn-1) (anyQ (Turned s)))
       goes s more =
-          assigns ! (addr ! (from ! (fld ! refl (hop ! (look-in ! 66 (sub ! 0 refl (whole !))) (stop !))))) (from ! (stop !)) (init ! 32 refl (tt, tt)) $
-          assigns ! (agg ! (and-then ! (load ! (from ! (stop !)) (look ! 32 refl)) (and-then ! (load ! (from ! (fld ! refl (stop !))) (look-in ! 66 (sub ! 1 refl (whole !)))) (no-more !)))) (from ! (stop !)) (init ! 30 refl (tt, (tt, (record { fits = g₀ .0 }, tt)))) $
-          assigns ! (addr ! (from ! (hop ! (look ! 64 refl) (stop !)))) (from ! (stop !)) (init ! 28 refl (tt, tt)) $
-          assigns ! (addr ! (from ! (fld ! refl (hop ! (look-in ! 62 (sub ! 0 refl (whole !))) (stop !))))) (from ! (stop !)) (init ! 26 refl (tt, tt)) $
-          assigns ! (agg ! (and-then ! (load ! (from ! (stop !)) (look ! 26 refl)) (and-then ! (load ! (from ! (fld ! refl (stop !))) (look-in ! 62 (sub ! 1 refl (whole !)))) (no-more !)))) (from ! (stop !)) (init ! 24 refl (tt, (tt, (record { fits = g₂ .0 }, tt)))) $
-          assigns ! (addr ! (from ! (fld ! refl (hop ! (look-in ! 60 (sub ! 0 refl (whole !))) (stop !))))) (from ! (stop !)) (init ! 22 refl (tt, tt)) $
-          assigns ! (agg ! (and-then ! (load ! (from ! (stop !)) (look ! 22 refl)) (and-then ! (load ! (from ! (fld ! refl (stop !))) (look-in ! 60 (sub ! 1 refl (whole !)))) (no-more !)))) (from ! (stop !)) (init ! 20 refl (tt, (tt, (record { fits = g₃ .0 }, tt)))) $
-          assigns ! (addr ! (from ! (hop ! (look ! 58 refl) (stop !)))) (from ! (stop !)) (init ! 18 refl (tt, tt)) $
-          assigns ! (addr ! (from ! (fld ! refl (hop ! (look-in ! 56 (sub ! 0 refl (whole !))) (stop !))))) (from ! (stop !)) (init ! 16 refl (tt, tt)) $
-          assigns ! (agg ! (and-then ! (load ! (from ! (stop !)) (look ! 16 refl)) (and-then ! (load ! (from ! (fld ! refl (stop !))) (look-in ! 56 (sub ! 1 refl (whole !)))) (no-more !)))) (from ! (stop !)) (init ! 14 refl (tt, (tt, (record { fits = g₅ .0 }, tt)))) $
-          lent 6 All (tt, (tt, (tt, (tt, (tt, (tt, tt)))))) (gone.the-row ∷ []) gone.the-row 𝓤 (turn.clauses 𝓤 H A at-mem run) (s .ts, (s .st, (s .me, (s .po, (s .en, (s .sv, tt)))))) (s .g, tt) (gone-val (s .g) ∷ [], tt) ! (fmOf 𝓤 H (W .laws) 𝓣) known-turn
-          (g₀, (tt, (g₂, (g₃, (tt, (g₅, tt)))))) (s .ts-len, (tt, (s .me-len, (s .po-len, (tt, (s .sv-len, tt)))))) (gone-makes 𝓤 H A (s .g) _ (s .g-is), tt) (λ αs δs. tt) (λ αs δs. id⊢ 𝓤 (emp 𝓤))
-          (λ αs δs. (and-then ! (load ! (from ! (stop !)) (look ! 30 refl)) (and-then ! (load ! (from ! (stop !)) (look ! 28 refl)) (and-then ! (load ! (from ! (stop !)) (look ! 24 refl)) (and-then ! (load ! (from ! (stop !)) (look ! 20 refl)) (and-then ! (load ! (from ! (stop !)) (look ! 18 refl)) (and-then ! (load ! (from ! (stop !)) (look ! 14 refl)) (and-then ! (load ! (from ! (stop !)) (look ! 50 refl)) (no-more !)))))))))
-          (λ αs δs w₁ r₁ z₁ f₁. heard ! (going r₁ (z₁ .0) (z₁ .1 .0) (z₁ .1 .1 .0) (z₁ .1 .1 .1 .0) (z₁ .1 .1 .1 .1 .0) (z₁ .1 .1 .1 .1 .1 .0) ≡ turn-of (now-at s)) (λ e₁. landed-by ! gone.the-row gone-vals gone-tells r₁ w₁ (λ is₁.
-          land ! (from ! (stop !)) (store ! 50 refl (gone-typed 𝓤 H A W r₁ is₁)) $
-          forget ! 14 refl $ forget ! 16 refl $ forget ! 18 refl $ forget ! 20 refl $ forget ! 22 refl $ forget ! 24 refl $ forget ! 26 refl $ forget ! 28 refl $ forget ! 30 refl $ forget ! 32 refl $
           fsplit ! $ move ! (1 ∷ []) $ fsplit ! $ move ! (1 ∷ []) $ fsplit ! $ move ! (1 ∷ []) $ fsplit ! $ move ! (1 ∷ []) $ fsplit ! $ move ! (1 ∷ []) $ fsplit ! $ move ! (1 ∷ []) $ drop ! $ nothing ! $ move ! (1 ∷ 0 ∷ []) $ fjoin ! $ move ! (5 ∷ 0 ∷ []) $ fjoin ! $ nothing ! $ move ! (2 ∷ 0 ∷ []) $ fjoin ! $ move ! (2 ∷ 0 ∷ []) $ fjoin ! $ move ! (2 ∷ 0 ∷ []) $ fjoin ! $ move ! (2 ∷ 0 ∷ []) $ fjoin ! $
           move ! (2 ∷ []) $ fsplit ! $ move ! (1 ∷ []) $ fsplit ! $ move ! (1 ∷ []) $ fsplit ! $ move ! (1 ∷ []) $ fsplit ! $ move ! (1 ∷ []) $ fsplit ! $ move ! (1 ∷ []) $ fsplit ! $ move ! (1 ∷ []) $ drop ! $ nothing ! $ move ! (1 ∷ 0 ∷ []) $ fjoin ! $ move ! (5 ∷ 0 ∷ []) $ fjoin ! $ nothing ! $ move ! (2 ∷ 0 ∷ []) $ fjoin ! $ move ! (2 ∷ 0 ∷ []) $ fjoin ! $ move ! (2 ∷ 0 ∷ []) $ fjoin ! $ move ! (2 ∷ 0 ∷ []) $ fjoin ! $ move ! (2 ∷ 0 ∷ 3 ∷ 1 ∷ []) $
-          goes-on-then s r₁ (z₁ .0) (z₁ .1 .0) (z₁ .1 .1 .0) (z₁ .1 .1 .1 .0) (z₁ .1 .1 .1 .1 .0) (z₁ .1 .1 .1 .1 .1 .0) more is₁ (f₁ .0) (f₁ .1 .1 .0) (f₁ .1 .1 .1 .0) (f₁ .1 .1 .1 .1 .1 .0) e₁)))
+          assigns ! (addr ! (from ! (hop ! (look ! 54 refl) (stop !)))) (from ! (stop !)) (init ! 34 refl (tt, tt)) $
+          assigns ! (addr ! (from ! (fld ! refl (hop ! (look-in ! 52 (sub ! 0 refl (whole !))) (stop !))))) (from ! (stop !)) (init ! 32 refl (tt, tt)) $
+          assigns ! (agg ! (and-then ! (load ! (from ! (stop !)) (look ! 32 refl)) (and-then ! (load ! (from ! (fld ! refl (stop !))) (look-in ! 52 (sub ! 1 refl (whole !)))) (no-more !)))) (from ! (stop !)) (init ! 30 refl (tt, (tt, (record { fits = g₂ .0 }, tt)))) $
+          assigns ! (addr ! (from ! (fld ! refl (hop ! (look-in ! 50 (sub ! 0 refl (whole !))) (stop !))))) (from ! (stop !)) (init ! 28 refl (tt, tt)) $
+          assigns ! (agg ! (and-then ! (load ! (from ! (stop !)) (look ! 28 refl)) (and-then ! (load ! (from ! (fld ! refl (stop !))) (look-in ! 50 (sub ! 1 refl (whole !)))) (no-more !)))) (from ! (stop !)) (init ! 26 refl (tt, (tt, (record { fits = g₃ .0 }, tt)))) $
+          assigns ! (addr ! (from ! (hop ! (look ! 48 refl) (stop !)))) (from ! (stop !)) (init ! 24 refl (tt, tt)) $
+          lent 4 Four (tt, (tt, (tt, (tt, tt)))) (machine.the-row ∷ u64 ∷ []) gone.the-row 𝓤 (advance.clauses 𝓤 H A at-mem run) (s .st, (s .me, (s .po, (s .en, tt)))) (s .g .machine, (s .g .left, tt)) (machine-val (s .g .machine) ∷ [], (vint w64 (s .g .left) ∷ [], tt)) ! (fmOf 𝓤 H (W .laws) 𝓣) known-advance
+          (tt, (g₂, (g₃, (tt, tt)))) (tt, (s .me-len, (s .po-len, (tt, tt)))) (machine-makes 𝓤 H A (s .g .machine) _ (machine-is (s .g) (s .g-is)), (uint-makes 𝓤 H A W w64 (s .g .left) _ (refl, left-fits (s .g) (s .g-is)), tt)) (λ αs δs. tt) (λ αs δs. id⊢ 𝓤 (emp 𝓤))
+          (λ αs δs. (and-then ! (load ! (from ! (stop !)) (look ! 34 refl)) (and-then ! (load ! (from ! (stop !)) (look ! 30 refl)) (and-then ! (load ! (from ! (stop !)) (look ! 26 refl)) (and-then ! (load ! (from ! (stop !)) (look ! 24 refl)) (and-then ! (take-machine ! 9 40 (s .g) refl refl) (and-then ! (take-left ! 9 40 (s .g) refl refl) (no-more !))))))))
+          (λ αs δs w₁ r₁ z₁ f₁. heard ! (gone-on r₁ (z₁ .0) (z₁ .1 .0) (z₁ .1 .1 .0) (z₁ .1 .1 .1 .0) ≡ advance-of (s .st) (s .me) (s .po) (s .en) (s .g .machine) (s .g .left)) (λ e₁. landed-by ! gone.the-row gone-vals gone-tells r₁ w₁ (λ is₁.
+          land ! (from ! (stop !)) (store ! 40 refl (gone-typed 𝓤 H A W r₁ is₁)) $
+          forget ! 24 refl $ forget ! 26 refl $ forget ! 28 refl $ forget ! 30 refl $ forget ! 32 refl $ forget ! 34 refl $
+          fsplit ! $ move ! (1 ∷ []) $ fsplit ! $ move ! (1 ∷ []) $ fsplit ! $ move ! (1 ∷ []) $ fsplit ! $ move ! (1 ∷ []) $ drop ! $ move ! (5 ∷ []) $ fsplit ! $ move ! (1 ∷ []) $ fsplit ! $ move ! (1 ∷ []) $ drop ! $ nothing ! $ move ! (1 ∷ 0 ∷ []) $ fjoin ! $ move ! (2 ∷ 0 ∷ []) $ fjoin ! $ move ! (2 ∷ 0 ∷ []) $ fjoin ! $ move ! (2 ∷ 0 ∷ []) $ fjoin ! $ move ! (2 ∷ 0 ∷ []) $ fjoin ! $ move ! (1 ∷ 0 ∷ []) $ fjoin ! $
+          move ! (1 ∷ []) $ fsplit ! $ move ! (1 ∷ []) $ fsplit ! $ move ! (1 ∷ []) $ fsplit ! $ move ! (1 ∷ []) $ fsplit ! $ move ! (1 ∷ []) $ drop ! $ move ! (5 ∷ []) $ fsplit ! $ move ! (1 ∷ []) $ fsplit ! $ move ! (1 ∷ []) $ drop ! $ nothing ! $ move ! (1 ∷ 0 ∷ []) $ fjoin ! $ move ! (2 ∷ 0 ∷ []) $ fjoin ! $ move ! (2 ∷ 0 ∷ []) $ fjoin ! $ move ! (2 ∷ 0 ∷ []) $ fjoin ! $ move ! (2 ∷ 0 ∷ []) $ fjoin ! $ move ! (1 ∷ 0 ∷ []) $ fjoin ! $ move ! (1 ∷ 0 ∷ []) $
+          takes-turn s r₁ (z₁ .0) (z₁ .1 .0) (z₁ .1 .1 .0) (z₁ .1 .1 .1 .0) more is₁ (f₁ .1 .0) (f₁ .1 .1 .0) e₁)))
 
       turns : (s : State n₀ n₂ n₃ n₅ y₀) → Sq W (At s) (runs C Λ En mir.turn-1 (anyQ (Turned s)))
       unfolding afterTurn
       turns s =
-          assigns ! (of-opd ! (take-running ! 9 50 (s .g) refl refl)) (from ! (stop !)) (init ! 34 refl (tt, tt)) $
+          assigns ! (of-opd ! (take-running ! 9 38 (s .g) refl refl)) (from ! (stop !)) (init ! 34 refl (tt, tt)) $
           first ! $ branches ! (load ! (from ! (stop !)) (look ! 34 refl))
           (λ yes. skips ! $ exec ! C Λ En (past 2 mir.turn-1) (anyQ (Turned s)) $ forget ! 34 refl $ goes s (is-true (s .g .running) yes))
-          (λ no. jumps ! $ exec ! C Λ En mir.t-9 (atRet En Post) $ forget ! 34 refl $ leaves s (is-false (s .g .running) no))
+          (λ no. jumps ! $ exec ! C Λ En mir.t-3 (atRet En Post) $ forget ! 34 refl $ leaves s (is-false (s .g .running) no))
 
-      looped : (s : State n₀ n₂ n₃ n₅ y₀) → Sq W (At s) (runs C Λ En mir.t-8 (atRet En Post))
+      looped : (s : State n₀ n₂ n₃ n₅ y₀) → Sq W (At s) (runs C Λ En mir.t-2 (atRet En Post))
       looped s = first ! $ blocks ! $ loops ! 𝓣 Less (InvImage·wf (λ (s : State n₀ n₂ n₃ n₅ y₀). turns-left (now-at s)) (Nat·lt-wfRel .wf)) At turns s
 
-      steps : Sq W (Parted x₀ x₁ x₂ x₃ x₄ x₅ (‵ (froom (tyRef erased mut (tyArray (tyInt w32) 1024)) l₃₃ 0) ∷ ‵ (fdies (tyRef erased mut (tyArray (tyInt w32) 1024)) l₃₃) ∷ ‵ (froom (sliceTy (tyRef erased mut (tyInt w8))) l₃₂ 0) ∷ ‵ (fdies (sliceTy (tyRef erased mut (tyInt w8))) l₃₂) ∷ ‵ (froom (tyRef erased mut (tyInt w8)) l₃₁ 0) ∷ ‵ (fdies (tyRef erased mut (tyInt w8)) l₃₁) ∷ ‵ (froom (sliceTy (tyRef erased mut (tyInt w8))) l₃₀ 0) ∷ ‵ (fdies (sliceTy (tyRef erased mut (tyInt w8))) l₃₀) ∷ ‵ (froom (tyRef erased mut (tyInt w8)) l₂₉ 0) ∷ ‵ (fdies (tyRef erased mut (tyInt w8)) l₂₉) ∷ ‵ (froom (tyRef erased mut (tyArray (tyInt w64) 1000)) l₂₈ 0) ∷ ‵ (fdies (tyRef erased mut (tyArray (tyInt w64) 1000)) l₂₈) ∷ ‵ (froom (sliceTy (tyRef erased mut (tyInt w8))) l₂₇ 0) ∷ ‵ (fdies (sliceTy (tyRef erased mut (tyInt w8))) l₂₇) ∷ ‵ (froom (tyRef erased mut (tyInt w8)) l₂₆ 0) ∷ ‵ (fdies (tyRef erased mut (tyInt w8)) l₂₆) ∷ ‵ (froom (tyRef erased mut (tyArray (tyInt w32) 1024)) l₂₅ 0) ∷ ‵ (fdies (tyRef erased mut (tyArray (tyInt w32) 1024)) l₂₅) ∷ ‵ (froom (sliceTy (tyRef erased mut (tyInt w8))) l₂₄ 0) ∷ ‵ (fdies (sliceTy (tyRef erased mut (tyInt w8))) l₂₄) ∷ ‵ (froom (tyRef erased mut (tyInt w8)) l₂₃ 0) ∷ ‵ (fdies (tyRef erased mut (tyInt w8)) l₂₃) ∷ ‵ (froom (sliceTy (tyRef erased mut (tyInt w8))) l₂₂ 0) ∷ ‵ (fdies (sliceTy (tyRef erased mut (tyInt w8))) l₂₂) ∷ ‵ (froom (tyRef erased mut (tyInt w8)) l₂₁ 0) ∷ ‵ (fdies (tyRef erased mut (tyInt w8)) l₂₁) ∷ ‵ (froom (tyRef erased mut (tyArray (tyInt w64) 1000)) l₂₀ 0) ∷ ‵ (fdies (tyRef erased mut (tyArray (tyInt w64) 1000)) l₂₀) ∷ ‵ (froom (sliceTy (tyRef erased mut table-ty)) l₁₉ 0) ∷ ‵ (fdies (sliceTy (tyRef erased mut table-ty)) l₁₉) ∷ ‵ (froom (tyRef erased mut table-ty) l₁₈ 0) ∷ ‵ (fdies (tyRef erased mut table-ty) l₁₈) ∷ ‵ (froom tyBool l₁₇ 0) ∷ ‵ (fdies tyBool l₁₇) ∷ ‵ (froom (tyRef erased mut (tyArray (tyInt w32) 1024)) l₁₆ 0) ∷ ‵ (fdies (tyRef erased mut (tyArray (tyInt w32) 1024)) l₁₆) ∷ ‵ (froom (sliceTy (tyRef erased mut (tyInt w8))) l₁₅ 0) ∷ ‵ (fdies (sliceTy (tyRef erased mut (tyInt w8))) l₁₅) ∷ ‵ (froom (tyRef erased mut (tyInt w8)) l₁₄ 0) ∷ ‵ (fdies (tyRef erased mut (tyInt w8)) l₁₄) ∷ ‵ (froom (sliceTy (tyRef erased mut (tyInt w8))) l₁₃ 0) ∷ ‵ (fdies (sliceTy (tyRef erased mut (tyInt w8))) l₁₃) ∷ ‵ (froom (tyRef erased mut (tyInt w8)) l₁₂ 0) ∷ ‵ (fdies (tyRef erased mut (tyInt w8)) l₁₂) ∷ ‵ (froom (tyRef erased mut (tyArray (tyInt w64) 1000)) l₁₁ 0) ∷ ‵ (fdies (tyRef erased mut (tyArray (tyInt w64) 1000)) l₁₁) ∷ ‵ (froom gone-ty l₁₀ 0) ∷ ‵ (fdies gone-ty l₁₀) ∷ ‵ (froom gone-ty l₉ 0) ∷ ‵ (fdies gone-ty l₉) ∷ ‵ (fat fullShare (tyInt w64) l₈ 0 (vint w64 fuel)) ∷ ‵ (fdies (tyInt w64) l₈) ∷ ‵ (fat fullShare machine-ty l₇ 0 (machine-val m)) ∷ ‵ (fdies machine-ty l₇) ∷ ‵ (fat fullShare (sliceTy (tyRef (named 5) mut (tyInt w8))) l₆ 0 (sliceVal (b₅, o₅) n₅)) ∷ ‵ (fdies (sliceTy (tyRef (named 5) mut (tyInt w8))) l₆) ∷ ‵ (fat fullShare (tyRef (named 4) mut (tyArray (tyInt w32) 1024)) l₅ 0 (vptr b₄ o₄)) ∷ ‵ (fdies (tyRef (named 4) mut (tyArray (tyInt w32) 1024)) l₅) ∷ ‵ (fat fullShare (sliceTy (tyRef (named 3) mut (tyInt w8))) l₄ 0 (sliceVal (b₃, o₃) n₃)) ∷ ‵ (fdies (sliceTy (tyRef (named 3) mut (tyInt w8))) l₄) ∷ ‵ (fat fullShare (sliceTy (tyRef (named 2) mut (tyInt w8))) l₃ 0 (sliceVal (b₂, o₂) n₂)) ∷ ‵ (fdies (sliceTy (tyRef (named 2) mut (tyInt w8))) l₃) ∷ ‵ (fat fullShare (tyRef (named 1) mut (tyArray (tyInt w64) 1000)) l₂ 0 (vptr b₁ o₁)) ∷ ‵ (fdies (tyRef (named 1) mut (tyArray (tyInt w64) 1000)) l₂) ∷ ‵ (fat fullShare (sliceTy (tyRef (named 0) mut table-ty)) l₁ 0 (sliceVal (b₀, o₀) n₀)) ∷ ‵ (fdies (sliceTy (tyRef (named 0) mut table-ty)) l₁) ∷ ‵ (froom ran-ty l₀ 0) ∷ ‵ (fdies ran-ty l₀) ∷ [])) (runs C Λ En mir.t-1 (atRet En Post))
+      steps : Sq W (Has x₀ x₁ x₂ x₃ x₄ x₅ (‵ (froom (sliceTy (tyRef erased mut (tyInt w8))) l₂₇ 0) ∷ ‵ (fdies (sliceTy (tyRef erased mut (tyInt w8))) l₂₇) ∷ ‵ (froom (tyRef erased mut (tyInt w8)) l₂₆ 0) ∷ ‵ (fdies (tyRef erased mut (tyInt w8)) l₂₆) ∷ ‵ (froom (tyRef erased mut (tyArray (tyInt w32) 1024)) l₂₅ 0) ∷ ‵ (fdies (tyRef erased mut (tyArray (tyInt w32) 1024)) l₂₅) ∷ ‵ (froom (sliceTy (tyRef erased mut (tyInt w8))) l₂₄ 0) ∷ ‵ (fdies (sliceTy (tyRef erased mut (tyInt w8))) l₂₄) ∷ ‵ (froom (tyRef erased mut (tyInt w8)) l₂₃ 0) ∷ ‵ (fdies (tyRef erased mut (tyInt w8)) l₂₃) ∷ ‵ (froom (sliceTy (tyRef erased mut (tyInt w8))) l₂₂ 0) ∷ ‵ (fdies (sliceTy (tyRef erased mut (tyInt w8))) l₂₂) ∷ ‵ (froom (tyRef erased mut (tyInt w8)) l₂₁ 0) ∷ ‵ (fdies (tyRef erased mut (tyInt w8)) l₂₁) ∷ ‵ (froom (tyRef erased mut (tyArray (tyInt w64) 1000)) l₂₀ 0) ∷ ‵ (fdies (tyRef erased mut (tyArray (tyInt w64) 1000)) l₂₀) ∷ ‵ (froom (sliceTy (tyRef erased mut table-ty)) l₁₉ 0) ∷ ‵ (fdies (sliceTy (tyRef erased mut table-ty)) l₁₉) ∷ ‵ (froom (tyRef erased mut table-ty) l₁₈ 0) ∷ ‵ (fdies (tyRef erased mut table-ty) l₁₈) ∷ ‵ (froom (tyRef erased mut (tyArray (tyInt w32) 1024)) l₁₇ 0) ∷ ‵ (fdies (tyRef erased mut (tyArray (tyInt w32) 1024)) l₁₇) ∷ ‵ (froom (sliceTy (tyRef erased mut (tyInt w8))) l₁₆ 0) ∷ ‵ (fdies (sliceTy (tyRef erased mut (tyInt w8))) l₁₆) ∷ ‵ (froom (tyRef erased mut (tyInt w8)) l₁₅ 0) ∷ ‵ (fdies (tyRef erased mut (tyInt w8)) l₁₅) ∷ ‵ (froom (sliceTy (tyRef erased mut (tyInt w8))) l₁₄ 0) ∷ ‵ (fdies (sliceTy (tyRef erased mut (tyInt w8))) l₁₄) ∷ ‵ (froom (tyRef erased mut (tyInt w8)) l₁₃ 0) ∷ ‵ (fdies (tyRef erased mut (tyInt w8)) l₁₃) ∷ ‵ (froom (tyRef erased mut (tyArray (tyInt w64) 1000)) l₁₂ 0) ∷ ‵ (fdies (tyRef erased mut (tyArray (tyInt w64) 1000)) l₁₂) ∷ ‵ (froom tyBool l₁₁ 0) ∷ ‵ (fdies tyBool l₁₁) ∷ ‵ (froom gone-ty l₁₀ 0) ∷ ‵ (fdies gone-ty l₁₀) ∷ ‵ (froom gone-ty l₉ 0) ∷ ‵ (fdies gone-ty l₉) ∷ ‵ (fat fullShare (tyInt w64) l₈ 0 (vint w64 fuel)) ∷ ‵ (fdies (tyInt w64) l₈) ∷ ‵ (fat fullShare machine-ty l₇ 0 (machine-val m)) ∷ ‵ (fdies machine-ty l₇) ∷ ‵ (fat fullShare (sliceTy (tyRef (named 5) mut (tyInt w8))) l₆ 0 (sliceVal (b₅, o₅) n₅)) ∷ ‵ (fdies (sliceTy (tyRef (named 5) mut (tyInt w8))) l₆) ∷ ‵ (fat fullShare (tyRef (named 4) mut (tyArray (tyInt w32) 1024)) l₅ 0 (vptr b₄ o₄)) ∷ ‵ (fdies (tyRef (named 4) mut (tyArray (tyInt w32) 1024)) l₅) ∷ ‵ (fat fullShare (sliceTy (tyRef (named 3) mut (tyInt w8))) l₄ 0 (sliceVal (b₃, o₃) n₃)) ∷ ‵ (fdies (sliceTy (tyRef (named 3) mut (tyInt w8))) l₄) ∷ ‵ (fat fullShare (sliceTy (tyRef (named 2) mut (tyInt w8))) l₃ 0 (sliceVal (b₂, o₂) n₂)) ∷ ‵ (fdies (sliceTy (tyRef (named 2) mut (tyInt w8))) l₃) ∷ ‵ (fat fullShare (tyRef (named 1) mut (tyArray (tyInt w64) 1000)) l₂ 0 (vptr b₁ o₁)) ∷ ‵ (fdies (tyRef (named 1) mut (tyArray (tyInt w64) 1000)) l₂) ∷ ‵ (fat fullShare (sliceTy (tyRef (named 0) mut table-ty)) l₁ 0 (sliceVal (b₀, o₀) n₀)) ∷ ‵ (fdies (sliceTy (tyRef (named 0) mut table-ty)) l₁) ∷ ‵ (froom ran-ty l₀ 0) ∷ ‵ (fdies ran-ty l₀) ∷ [])) (runs C Λ En mir.t-1 (atRet En Post))
       steps =
-          assigns ! (addr ! (from ! (hop ! (look ! 66 refl) (stop !)))) (from ! (stop !)) (init ! 48 refl (tt, tt)) $
-          assigns ! (addr ! (from ! (fld ! refl (hop ! (look-in ! 64 (sub ! 0 refl (whole !))) (stop !))))) (from ! (stop !)) (init ! 46 refl (tt, tt)) $
-          assigns ! (agg ! (and-then ! (load ! (from ! (stop !)) (look ! 46 refl)) (and-then ! (load ! (from ! (fld ! refl (stop !))) (look-in ! 64 (sub ! 1 refl (whole !)))) (no-more !)))) (from ! (stop !)) (init ! 44 refl (tt, (tt, (record { fits = g₂ .0 }, tt)))) $
-          assigns ! (addr ! (from ! (fld ! refl (hop ! (look-in ! 62 (sub ! 0 refl (whole !))) (stop !))))) (from ! (stop !)) (init ! 42 refl (tt, tt)) $
-          assigns ! (agg ! (and-then ! (load ! (from ! (stop !)) (look ! 42 refl)) (and-then ! (load ! (from ! (fld ! refl (stop !))) (look-in ! 62 (sub ! 1 refl (whole !)))) (no-more !)))) (from ! (stop !)) (init ! 40 refl (tt, (tt, (record { fits = g₃ .0 }, tt)))) $
-          assigns ! (addr ! (from ! (hop ! (look ! 60 refl) (stop !)))) (from ! (stop !)) (init ! 38 refl (tt, tt)) $
-          lent 4 Four (tt, (tt, (tt, (tt, tt)))) (machine.the-row ∷ u64 ∷ []) gone.the-row 𝓤 (advance.clauses 𝓤 H A at-mem run) (x₁, (x₂, (x₃, (x₄, tt)))) (m, (fuel, tt)) (machine-val m ∷ [], (vint w64 fuel ∷ [], tt)) ! (fmOf 𝓤 H (W .laws) 𝓣) known-advance
-          (tt, (g₂, (g₃, (tt, tt)))) (tt, (refl, (refl, (tt, tt)))) (machine-makes 𝓤 H A m _ m-is, (uint-makes 𝓤 H A W w64 fuel _ (refl, fuel-fits), tt)) (λ αs δs. tt) (λ αs δs. id⊢ 𝓤 (emp 𝓤))
-          (λ αs δs. (and-then ! (load ! (from ! (stop !)) (look ! 48 refl)) (and-then ! (load ! (from ! (stop !)) (look ! 44 refl)) (and-then ! (load ! (from ! (stop !)) (look ! 40 refl)) (and-then ! (load ! (from ! (stop !)) (look ! 38 refl)) (and-then ! (load ! (from ! (stop !)) (look ! 56 refl)) (and-then ! (load ! (from ! (stop !)) (look ! 54 refl)) (no-more !))))))))
-          (λ αs δs w₁ r₁ z₁ f₁. heard ! (gone-on r₁ (z₁ .0) (z₁ .1 .0) (z₁ .1 .1 .0) (z₁ .1 .1 .1 .0) ≡ advance-of x₁ x₂ x₃ x₄ m fuel) (λ e₁. landed-by ! gone.the-row gone-vals gone-tells r₁ w₁ (λ is₁.
-          land ! (from ! (stop !)) (init ! 52 refl (gone-typed 𝓤 H A W r₁ is₁)) $
-          forget ! 38 refl $ forget ! 40 refl $ forget ! 42 refl $ forget ! 44 refl $ forget ! 46 refl $ forget ! 48 refl $
-          fsplit ! $ move ! (1 ∷ []) $ fsplit ! $ move ! (1 ∷ []) $ fsplit ! $ move ! (1 ∷ []) $ fsplit ! $ move ! (1 ∷ []) $ drop ! $ move ! (5 ∷ []) $ fsplit ! $ move ! (1 ∷ []) $ fsplit ! $ move ! (1 ∷ []) $ drop ! $ nothing ! $ move ! (1 ∷ 0 ∷ []) $ fjoin ! $ move ! (2 ∷ 0 ∷ []) $ fjoin ! $ move ! (2 ∷ 0 ∷ []) $ fjoin ! $ move ! (2 ∷ 0 ∷ []) $ fjoin ! $ move ! (2 ∷ 0 ∷ []) $ fjoin ! $ move ! (1 ∷ 0 ∷ []) $ fjoin ! $
-          move ! (1 ∷ []) $ fsplit ! $ move ! (1 ∷ []) $ fsplit ! $ move ! (1 ∷ []) $ fsplit ! $ move ! (1 ∷ []) $ fsplit ! $ move ! (1 ∷ []) $ drop ! $ move ! (5 ∷ []) $ fsplit ! $ move ! (1 ∷ []) $ fsplit ! $ move ! (1 ∷ []) $ drop ! $ nothing ! $ move ! (1 ∷ 0 ∷ []) $ fjoin ! $ move ! (2 ∷ 0 ∷ []) $ fjoin ! $ move ! (2 ∷ 0 ∷ []) $ fjoin ! $ move ! (2 ∷ 0 ∷ []) $ fjoin ! $ move ! (2 ∷ 0 ∷ []) $ fjoin ! $ move ! (1 ∷ 0 ∷ []) $ fjoin ! $ move ! (1 ∷ 0 ∷ []) $
-          looped (record { g = r₁; ts = x₀; st = z₁ .0; me = z₁ .1 .0; po = z₁ .1 .1 .0; en = z₁ .1 .1 .1 .0; sv = x₅; g-is = is₁; ts-len = refl; me-len = f₁ .1 .0; po-len = f₁ .1 .1 .0; sv-len = refl; some = begins-fueled fuel (world m x₀ x₁ x₂ x₃ x₄ x₅) (begins-at m fuel x₀ x₁ x₂ x₃ x₄ x₅ e₁); so-far = begins-same fuel (world m x₀ x₁ x₂ x₃ x₄ x₅) (begins-at m fuel x₀ x₁ x₂ x₃ x₄ x₅ e₁) }))))
+          nothing ! $ nothing ! $
+          lent 0 [] tt (machine.the-row ∷ u64 ∷ []) gone.the-row 𝓤 (begins.clauses 𝓤 H A at-mem run) tt (m, (fuel, tt)) (machine-val m ∷ [], (vint w64 fuel ∷ [], tt)) ! (fmOf 𝓤 H (W .laws) 𝓣) known-begins
+          tt tt (machine-makes 𝓤 H A m _ m-is, (uint-makes 𝓤 H A W w64 fuel _ (refl, fuel-fits), tt)) (λ αs δs. tt) (λ αs δs. id⊢ 𝓤 (emp 𝓤))
+          (λ αs δs. (and-then ! (load ! (from ! (stop !)) (look ! 44 refl)) (and-then ! (load ! (from ! (stop !)) (look ! 42 refl)) (no-more !))))
+          (λ αs δs w₁ r₁ z₁ f₁. heard ! (r₁ ≡ begun-of m fuel) (λ e₁. landed-by ! gone.the-row gone-vals gone-tells r₁ w₁ (λ is₁.
+          drop ! $ drop ! $ land ! (from ! (stop !)) (init ! 38 refl (gone-typed 𝓤 H A W r₁ is₁)) $
+          looped (record { g = r₁; ts = x₀; st = x₁; me = x₂; po = x₃; en = x₄; sv = x₅; g-is = is₁; ts-len = refl; me-len = refl; po-len = refl; sv-len = refl; so-far = begins-same m fuel x₀ x₁ x₂ x₃ x₄ x₅ e₁ }))))
 
-    walk : (𝓣 : Tables 𝓤 H) (known-advance : Triple 𝓤 (𝓣 .C #advance) (advance-con 𝓤 H A at-mem run)) (known-turn : Triple 𝓤 (𝓣 .C #turn) (turn-con 𝓤 H A at-mem run)) (known-onward : Triple 𝓤 (𝓣 .C #onward) (onward-con 𝓤 H A at-mem run)) (known-ends : Triple 𝓤 (𝓣 .C #ends) (ends-con 𝓤 H A at-mem run)) → ent 𝓤 (onEntry 𝓤 H A f.signature κs₀ qs₀ x at) (WpFn 𝓤 H (𝓣 .C) (𝓣 .Λ) code.function (sliceVal (b₀, o₀) n₀ ∷ vptr b₁ o₁ ∷ sliceVal (b₂, o₂) n₂ ∷ sliceVal (b₃, o₃) n₃ ∷ vptr b₄ o₄ ∷ sliceVal (b₅, o₅) n₅ ∷ machine-val m ∷ vint w64 fuel ∷ []) Post)
+    walk : (𝓣 : Tables 𝓤 H) (known-begins : Triple 𝓤 (𝓣 .C #begins) (begins-con 𝓤 H A at-mem run)) (known-advance : Triple 𝓤 (𝓣 .C #advance) (advance-con 𝓤 H A at-mem run)) (known-turn : Triple 𝓤 (𝓣 .C #turn) (turn-con 𝓤 H A at-mem run)) (known-ends : Triple 𝓤 (𝓣 .C #ends) (ends-con 𝓤 H A at-mem run)) → ent 𝓤 (onEntry 𝓤 H A f.signature κs₀ qs₀ x at) (WpFn 𝓤 H (𝓣 .C) (𝓣 .Λ) code.function (sliceVal (b₀, o₀) n₀ ∷ vptr b₁ o₁ ∷ sliceVal (b₂, o₂) n₂ ∷ sliceVal (b₃, o₃) n₃ ∷ vptr b₄ o₄ ∷ sliceVal (b₅, o₅) n₅ ∷ machine-val m ∷ vint w64 fuel ∷ []) Post)
     unfolding gone-ty machine-ty ran-ty
-    walk 𝓣 known-advance known-turn known-onward known-ends =
+    walk 𝓣 known-begins known-advance known-turn known-ends =
         qed W ((‵ (flft κ₀ q₀) ⊛ ‵ (flft κ₁ q₁) ⊛ ‵ (flft κ₂ q₂) ⊛ ‵ (flft κ₃ q₃) ⊛ ‵ (flft κ₄ q₄) ⊛ ‵ (flft κ₅ q₅) ⊛ ‵ ftrue) ∷ ‵ (owns (typesAt (f.signature .params) κs₀) x at) ∷ []) ∵ enter ! (𝓣 .C) (𝓣 .Λ) code.function (sliceVal (b₀, o₀) n₀ ∷ vptr b₁ o₁ ∷ sliceVal (b₂, o₂) n₂ ∷ sliceVal (b₃, o₃) n₃ ∷ vptr b₄ o₄ ∷ sliceVal (b₅, o₅) n₅ ∷ machine-val m ∷ vint w64 fuel ∷ []) _ $
-        alloc1 ! (λ l₀. alloc1 ! (λ l₁. alloc1 ! (λ l₂. alloc1 ! (λ l₃. alloc1 ! (λ l₄. alloc1 ! (λ l₅. alloc1 ! (λ l₆. alloc1 ! (λ l₇. alloc1 ! (λ l₈. alloc1 ! (λ l₉. alloc1 ! (λ l₁₀. alloc1 ! (λ l₁₁. alloc1 ! (λ l₁₂. alloc1 ! (λ l₁₃. alloc1 ! (λ l₁₄. alloc1 ! (λ l₁₅. alloc1 ! (λ l₁₆. alloc1 ! (λ l₁₇. alloc1 ! (λ l₁₈. alloc1 ! (λ l₁₉. alloc1 ! (λ l₂₀. alloc1 ! (λ l₂₁. alloc1 ! (λ l₂₂. alloc1 ! (λ l₂₃. alloc1 ! (λ l₂₄. alloc1 ! (λ l₂₅. alloc1 ! (λ l₂₆. alloc1 ! (λ l₂₇. alloc1 ! (λ l₂₈. alloc1 ! (λ l₂₉. alloc1 ! (λ l₃₀. alloc1 ! (λ l₃₁. alloc1 ! (λ l₃₂. alloc1 ! (λ l₃₃. alloc0 ! $ params1 ! $
-        pass1 ! (init ! 64 refl (tt, (tt, (record { fits = g₀ .0 }, tt)))) $ pass1 ! (init ! 62 refl (tt, tt)) $ pass1 ! (init ! 60 refl (tt, (tt, (record { fits = g₂ .0 }, tt)))) $ pass1 ! (init ! 58 refl (tt, (tt, (record { fits = g₃ .0 }, tt)))) $ pass1 ! (init ! 56 refl (tt, tt)) $ pass1 ! (init ! 54 refl (tt, (tt, (record { fits = g₅ .0 }, tt)))) $ pass1 ! (init ! 52 refl (machine-typed 𝓤 H A W m m-is)) $ pass1 ! (init ! 50 refl (tt, record { fits = fuel-fits })) $ pass0 ! $
-        move ! (69 ∷ []) $ fsplit ! $ move ! (1 ∷ []) $ fsplit ! $ move ! (1 ∷ []) $ fsplit ! $ move ! (1 ∷ []) $ fsplit ! $ move ! (1 ∷ []) $ fsplit ! $ move ! (1 ∷ []) $ fsplit ! $ move ! (1 ∷ []) $ drop ! $ nothing ! $ move ! (1 ∷ 0 ∷ []) $ fjoin ! $ move ! (5 ∷ 0 ∷ []) $ fjoin ! $ nothing ! $ move ! (2 ∷ 0 ∷ []) $ fjoin ! $ move ! (2 ∷ 0 ∷ []) $ fjoin ! $ move ! (2 ∷ 0 ∷ []) $ fjoin ! $ move ! (2 ∷ 0 ∷ []) $ fjoin ! $
-        move ! (70 ∷ []) $ split ! $ move ! (1 ∷ []) $ split ! $ move ! (1 ∷ []) $ split ! $ move ! (1 ∷ []) $ split ! $ move ! (1 ∷ []) $ split ! $ move ! (1 ∷ []) $ split ! $ move ! (1 ∷ []) $ drop ! $ nothing ! $ move ! (1 ∷ 0 ∷ []) $ fjoin ! $ move ! (5 ∷ 0 ∷ []) $ fjoin ! $ nothing ! $ move ! (2 ∷ 0 ∷ []) $ fjoin ! $ move ! (2 ∷ 0 ∷ []) $ fjoin ! $ move ! (2 ∷ 0 ∷ []) $ fjoin ! $ move ! (2 ∷ 0 ∷ []) $ fjoin ! $ move ! (2 ∷ 0 ∷ 3 ∷ 1 ∷ []) $
-        steps 𝓣 known-advance known-turn known-onward known-ends l₀ l₁ l₂ l₃ l₄ l₅ l₆ l₇ l₈ l₉ l₁₀ l₁₁ l₁₂ l₁₃ l₁₄ l₁₅ l₁₆ l₁₇ l₁₈ l₁₉ l₂₀ l₂₁ l₂₂ l₂₃ l₂₄ l₂₅ l₂₆ l₂₇ l₂₈ l₂₉ l₃₀ l₃₁ l₃₂ l₃₃))))))))))))))))))))))))))))))))))
+        alloc1 ! (λ l₀. alloc1 ! (λ l₁. alloc1 ! (λ l₂. alloc1 ! (λ l₃. alloc1 ! (λ l₄. alloc1 ! (λ l₅. alloc1 ! (λ l₆. alloc1 ! (λ l₇. alloc1 ! (λ l₈. alloc1 ! (λ l₉. alloc1 ! (λ l₁₀. alloc1 ! (λ l₁₁. alloc1 ! (λ l₁₂. alloc1 ! (λ l₁₃. alloc1 ! (λ l₁₄. alloc1 ! (λ l₁₅. alloc1 ! (λ l₁₆. alloc1 ! (λ l₁₇. alloc1 ! (λ l₁₈. alloc1 ! (λ l₁₉. alloc1 ! (λ l₂₀. alloc1 ! (λ l₂₁. alloc1 ! (λ l₂₂. alloc1 ! (λ l₂₃. alloc1 ! (λ l₂₄. alloc1 ! (λ l₂₅. alloc1 ! (λ l₂₆. alloc1 ! (λ l₂₇. alloc0 ! $ params1 ! $
+        pass1 ! (init ! 52 refl (tt, (tt, (record { fits = g₀ .0 }, tt)))) $ pass1 ! (init ! 50 refl (tt, tt)) $ pass1 ! (init ! 48 refl (tt, (tt, (record { fits = g₂ .0 }, tt)))) $ pass1 ! (init ! 46 refl (tt, (tt, (record { fits = g₃ .0 }, tt)))) $ pass1 ! (init ! 44 refl (tt, tt)) $ pass1 ! (init ! 42 refl (tt, (tt, (record { fits = g₅ .0 }, tt)))) $ pass1 ! (init ! 40 refl (machine-typed 𝓤 H A W m m-is)) $ pass1 ! (init ! 38 refl (tt, record { fits = fuel-fits })) $ pass0 ! $
+        move ! (57 ∷ []) $ fsplit ! $ move ! (1 ∷ []) $ fsplit ! $ move ! (1 ∷ []) $ fsplit ! $ move ! (1 ∷ []) $ fsplit ! $ move ! (1 ∷ []) $ fsplit ! $ move ! (1 ∷ []) $ fsplit ! $ move ! (1 ∷ []) $ drop ! $ nothing ! $ move ! (1 ∷ 0 ∷ []) $ fjoin ! $ move ! (1 ∷ 0 ∷ []) $ fjoin ! $ move ! (1 ∷ 0 ∷ []) $ fjoin ! $ move ! (1 ∷ 0 ∷ []) $ fjoin ! $ move ! (1 ∷ 0 ∷ []) $ fjoin ! $ move ! (1 ∷ 0 ∷ []) $ fjoin ! $
+        move ! (57 ∷ []) $ split ! $ move ! (1 ∷ []) $ split ! $ move ! (1 ∷ []) $ split ! $ move ! (1 ∷ []) $ split ! $ move ! (1 ∷ []) $ split ! $ move ! (1 ∷ []) $ split ! $ move ! (1 ∷ []) $ drop ! $ nothing ! $ move ! (1 ∷ 0 ∷ []) $ fjoin ! $ move ! (1 ∷ 0 ∷ []) $ fjoin ! $ move ! (1 ∷ 0 ∷ []) $ fjoin ! $ move ! (1 ∷ 0 ∷ []) $ fjoin ! $ move ! (1 ∷ 0 ∷ []) $ fjoin ! $ move ! (1 ∷ 0 ∷ []) $ fjoin ! $ move ! (1 ∷ 0 ∷ []) $
+        steps 𝓣 known-begins known-advance known-turn known-ends l₀ l₁ l₂ l₃ l₄ l₅ l₆ l₇ l₈ l₉ l₁₀ l₁₁ l₁₂ l₁₃ l₁₄ l₁₅ l₁₆ l₁₇ l₁₈ l₁₉ l₂₀ l₂₁ l₂₂ l₂₃ l₂₄ l₂₅ l₂₆ l₂₇))))))))))))))))))))))))))))
 
-module _ {M : Type 1} (𝓤 : URA M) (H : Heap 𝓤) (A : Atoms 𝓤) (W : Given 𝓤 H A) (at-mem : Memory → SProp 𝓤) (run : Routine → Fun 𝓤) (𝓣 : Tables 𝓤 H) (known-advance : Triple 𝓤 (𝓣 .C #advance) (advance-con 𝓤 H A at-mem run)) (known-turn : Triple 𝓤 (𝓣 .C #turn) (turn-con 𝓤 H A at-mem run)) (known-onward : Triple 𝓤 (𝓣 .C #onward) (onward-con 𝓤 H A at-mem run)) (known-ends : Triple 𝓤 (𝓣 .C #ends) (ends-con 𝓤 H A at-mem run)) where
+module _ {M : Type 1} (𝓤 : URA M) (H : Heap 𝓤) (A : Atoms 𝓤) (W : Given 𝓤 H A) (at-mem : Memory → SProp 𝓤) (run : Routine → Fun 𝓤) (𝓣 : Tables 𝓤 H) (known-begins : Triple 𝓤 (𝓣 .C #begins) (begins-con 𝓤 H A at-mem run)) (known-advance : Triple 𝓤 (𝓣 .C #advance) (advance-con 𝓤 H A at-mem run)) (known-turn : Triple 𝓤 (𝓣 .C #turn) (turn-con 𝓤 H A at-mem run)) (known-ends : Triple 𝓤 (𝓣 .C #ends) (ends-con 𝓤 H A at-mem run)) where
   walks : Walks 𝓤 H A f.ended stayed (WpFn 𝓤 H (𝓣 .C) (𝓣 .Λ) code.function) (f.clauses 𝓤 H A at-mem run)
   walks =
       walked 𝓤 H A f.ended stayed (f.clauses 𝓤 H A at-mem run) (WpFn 𝓤 H (𝓣 .C) (𝓣 .Λ) code.function) (λ κs. (slice-vals, (ptr-vals, (slice-vals, (slice-vals, (ptr-vals, (slice-vals, (machine-vals, (uint-vals w64, tt)))))))))
       (λ κs. (mut-slice-tells (named 0) (κs .0) R, (mut-tells (named 1) (κs .1 .0) (Array u64 1000), (mut-slice-tells (named 2) (κs .1 .1 .0) u8, (mut-slice-tells (named 3) (κs .1 .1 .1 .0) u8, (mut-tells (named 4) (κs .1 .1 .1 .1 .0) (Array u32 1024), (mut-slice-tells (named 5) (κs .1 .1 .1 .1 .1 .0) u8, (machine-tells, (uint-tells w64, tt)))))))))
       (λ κs qs bounds a g are. via 𝓤 _ (fst∗ 𝓤 _ (emp 𝓤))
       (walk 𝓤 H A W at-mem run (κs .0) (κs .1 .0) (κs .1 .1 .0) (κs .1 .1 .1 .0) (κs .1 .1 .1 .1 .0) (κs .1 .1 .1 .1 .1 .0) (qs .0) (qs .1 .0) (qs .1 .1 .0) (qs .1 .1 .1 .0) (qs .1 .1 .1 .1 .0) (qs .1 .1 .1 .1 .1 .0) (a .0 .ptr .0) (a .0 .ptr .1) (a .1 .0 .ptr .0) (a .1 .0 .ptr .1) (a .1 .1 .0 .ptr .0) (a .1 .1 .0 .ptr .1) (a .1 .1 .1 .0 .ptr .0) (a .1 .1 .1 .0 .ptr .1) (a .1 .1 .1 .1 .0 .ptr .0) (a .1 .1 .1 .1 .0 .ptr .1) (a .1 .1 .1 .1 .1 .0 .ptr .0) (a .1 .1 .1 .1 .1 .0 .ptr .1) (a .0 .name) (a .1 .0 .name) (a .1 .1 .0 .name) (a .1 .1 .1 .0 .name) (a .1 .1 .1 .1 .0 .name) (a .1 .1 .1 .1 .1 .0 .name) (a .0 .now) (a .1 .0 .now) (a .1 .1 .0 .now) (a .1 .1 .1 .0 .now) (a .1 .1 .1 .1 .0 .now) (a .1 .1 .1 .1 .1 .0 .now) (a .1 .1 .1 .1 .1 .1 .0) (a .1 .1 .1 .1 .1 .1 .1 .0)
-      (are .0 .0 .1) (are .1 .1 .0 .0 .1) (are .1 .1 .1 .0 .0 .1) (are .1 .1 .1 .1 .1 .0 .0 .1) (are .1 .1 .1 .1 .1 .1 .0) (are .1 .1 .1 .1 .1 .1 .1 .0 .1) 𝓣 known-advance known-turn known-onward known-ends))
+      (are .0 .0 .1) (are .1 .1 .0 .0 .1) (are .1 .1 .1 .0 .0 .1) (are .1 .1 .1 .1 .1 .0 .0 .1) (are .1 .1 .1 .1 .1 .1 .0) (are .1 .1 .1 .1 .1 .1 .1 .0 .1) 𝓣 known-begins known-advance known-turn known-ends))
 
   meets : Meets 𝓤 H A f.signature (WpFn 𝓤 H (𝓣 .C) (𝓣 .Λ) code.function) (f.spec 𝓤 H A at-mem run)
   meets =
@@ -334,7 +324,7 @@ drive-spec 𝓤 H 𝓜 𝓖 𝓡 =
     entered 𝓤 H (tripleOf 𝓤 H (𝓖 .A) f.signature (f.spec 𝓤 H (𝓖 .A) (𝓜 .mem) (𝓡 .run)))
     (tables 𝓤 H 𝓜 𝓡 code.env .C) (tables 𝓤 H 𝓜 𝓡 code.env .Λ) #this code.function (code.unfolded 𝓤 H 𝓜 𝓡)
     (meets 𝓤 H (𝓖 .A) (givenOf 𝓤 H 𝓜 𝓖) (𝓜 .mem) (𝓡 .run) (tablesOf 𝓤 H 𝓜 (tables 𝓤 H 𝓜 𝓡 code.env))
+    (cited 𝓤 H (begins-con 𝓤 H (𝓖 .A) (𝓜 .mem) (𝓡 .run)) 𝓜 𝓡 code.env #begins begins-def.routine code.calls-turns·begun (begins-thm.met 𝓤 H 𝓜 𝓖 𝓡))
     (cited 𝓤 H (advance-con 𝓤 H (𝓖 .A) (𝓜 .mem) (𝓡 .run)) 𝓜 𝓡 code.env #advance advance-def.routine code.calls-advance·advance (advance-thm.met 𝓤 H 𝓜 𝓖 𝓡))
     (cited 𝓤 H (turn-con 𝓤 H (𝓖 .A) (𝓜 .mem) (𝓡 .run)) 𝓜 𝓡 code.env #turn turn-def.routine code.calls-runs·turn (turn-thm.met 𝓤 H 𝓜 𝓖 𝓡))
-    (cited 𝓤 H (onward-con 𝓤 H (𝓖 .A) (𝓜 .mem) (𝓡 .run)) 𝓜 𝓡 code.env #onward onward-def.routine code.calls-advance·onward (onward-thm.met 𝓤 H 𝓜 𝓖 𝓡))
     (cited 𝓤 H (ends-con 𝓤 H (𝓖 .A) (𝓜 .mem) (𝓡 .run)) 𝓜 𝓡 code.env #ends ends-def.routine code.calls-turns·ran (ends-thm.met 𝓤 H 𝓜 𝓖 𝓡)))

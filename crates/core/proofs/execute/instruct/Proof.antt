@@ -1,67 +1,127 @@
 -- `core::execute::instruct` meets its contract.
-use Prim.Native.Nat.{_<_}
-use mathlib.Core.Path.{_≡_, sym, _∙_}
+use Prim.Native.Nat.{_+_, _<_, _≤_}
+use mathlib.Core.Path.{sym, ap, _∙_}
 use native.Mathlib.Omega.{arith}
-use lib.ListN.{getD}
+use lib.ListN.{length}
+use Rattle.core.proofs.Reach.{instruct-plain, instruct-equality, instruct-byte, instruct-number, instruct-cut, instruct-other}
+use Rattle.core.specs.Execute.{kept}
+use Rattle.opcodes.specs.Registers.{OnStack, on-memory}
+use Rattle.opcodes.specs.declared.Did.{Did}
 use borrow.Author.Needs.{needs}
-use Rattle.bytecode.proofs.OperandRule.{by-table}
-use Rattle.bytecode.specs.Operands.{extent}
-use Rattle.bytecode.specs.declared.Extent.the-variants.{Next, Cut}
 use Rattle.core.proofs.execute.instruct.Statement.{statement}
-use Rattle.core.specs.Execute.{instruct, by-extent}
 use Rattle.core.proofs.execute.instruct.Tie as tie
 
 shared-slice-read-op : tie.Need-shared-slice-read-op
 shared-slice-read-op c = search needs
 
-extent-requires : tie.Need-extent-requires
-extent-requires c κs = search needs
+is-plain-requires : tie.Need-is-plain-requires
+is-plain-requires c κs = search needs
 
-enum-known-next : tie.Need-enum-known-next
-enum-known-next c = search needs
+add-plain : tie.Need-add-plain
+add-plain c = search needs
 
-execute-requires : tie.Need-execute-requires
-execute-requires c κs = search needs
+plain-requires : tie.Need-plain-requires
+plain-requires c κs = search needs
 
-enum-told : tie.Need-enum-told
-enum-told c = search needs
+returns : tie.Need-returns
+returns c =
+    let given = c .before .before .before .before .before .before .before .args in
+    ap (λ (after : OnStack). kept after (given .memory .now)) (c .plain .ensures) ∙ instruct-plain (given .stack .now) (given .memory .now) (given .code .now) (given .registers) (given .count) (c .before .before .before .before .before .before .before .pre) (sym (c .before .before .before .is-plain .ensures) ∙ c .before .before .if1 .taken)
 
-cut-requires : tie.Need-cut-requires
-cut-requires c κs = search needs
+is-equality-requires : tie.Need-is-equality-requires
+is-equality-requires c κs = search needs
+
+add-op-eq : tie.Need-add-op-eq
+add-op-eq c = search needs
+
+op-eq-requires : tie.Need-op-eq-requires
+op-eq-requires c κs = search needs
 
 same-length : tie.Need-same-length
 same-length c = search needs
 
-returns : tie.Need-returns
-unfolding instruct by-extent
-returns c =
-    let start = c .before .before .before .before .before .before .before .before .before .before .before .before in
-    let place = start .args .registers .place in
-    let byte : getD (start .args .code .now) place 0 < 256 = omega (arith, c .before .before .before .before .before .before .before .before .before .shared-slice-known2 .given place) in
-    let reach : extent (start .args .code .now) place ≡ Next (c .before .before .before .before .before .before .next .given .0 .0) =
-    sym (by-table (start .args .sizes .now) (start .args .code .now) place (start .pre .1) byte) ∙ sym (c .before .before .before .before .before .before .before .before .extent .ensures) ∙ c .before .before .before .before .before .before .next .given .1 in
-    simp (← c .before .before .execute .ensures, reach)
-
 returns-2 : tie.Need-returns-2
-unfolding instruct by-extent
 returns-2 c =
-    let start = c .before .before .before .before .before .before .before .before in
-    let place = start .args .registers .place in
-    let byte : getD (start .args .code .now) place 0 < 256 = omega (arith, c .before .before .before .before .before .shared-slice-known2 .given place) in
-    let reach : extent (start .args .code .now) place ≡ Cut =
-    sym (by-table (start .args .sizes .now) (start .args .code .now) place (start .pre .1) byte) ∙ sym (c .before .before .before .before .extent .ensures) ∙ c .before .before .enum-told .given .1 in
-    simp (← c .cut .ensures, reach)
+    let given = c .before .before .before .before .before .before .before .before .before .before .args in
+    ap (λ (after : OnStack). kept after (given .memory .now)) (c .op-eq .ensures) ∙ instruct-equality (given .stack .now) (given .memory .now) (given .code .now) (given .registers) (given .count) (c .before .before .before .before .before .before .before .before .before .before .pre) (sym (c .before .before .before .before .is-equality .ensures) ∙ c .before .before .before .if2 .taken)
+
+pushes-byte-requires : tie.Need-pushes-byte-requires
+pushes-byte-requires c κs = search needs
+
+add-push-u8 : tie.Need-add-push-u8
+add-push-u8 c = search needs
+
+push-u8-requires : tie.Need-push-u8-requires
+push-u8-requires c κs = search needs
+
+returns-3 : tie.Need-returns-3
+returns-3 c =
+    let given = c .before .before .before .before .before .before .before .before .before .before .before .args in
+    ap (λ (after : OnStack). kept after (given .memory .now)) (c .push-u8 .ensures) ∙ instruct-byte (given .stack .now) (given .memory .now) (given .code .now) (given .registers) (given .count) (sym (c .before .before .before .pushes-byte .ensures) ∙ c .before .before .if3 .taken)
+
+takes-number-requires : tie.Need-takes-number-requires
+takes-number-requires c κs = search needs
+
+sub-if5 : tie.Need-sub-if5
+sub-if5 c = search needs
+
+cut-requires : tie.Need-cut-requires
+cut-requires c κs = search needs
+
+returns-4 : tie.Need-returns-4
+returns-4 c =
+    let given = c .before .before .before .before .before .before .before .before .before .before .before .before .before .before .args in
+    let outside : length (given .code .now) < given .registers .place + 5 = omega (arith, c .before .before .before .before .before .before .before .before .before .before .before .before .before .before .pre, c .before .before .if5 .taken) in
+    ap (λ (did : Did). on-memory did (given .stack .now) (given .memory .now)) (c .cut .ensures) ∙ instruct-cut (given .stack .now) (given .memory .now) (given .code .now) (given .registers) (given .count) outside (sym (c .before .before .before .before .takes-number .ensures) ∙ c .before .before .before .if4 .taken)
+
+add-numbered : tie.Need-add-numbered
+add-numbered c = search needs
+
+numbered-requires : tie.Need-numbered-requires
+numbered-requires c κs = search needs
+
+returns-5 : tie.Need-returns-5
+returns-5 c =
+    let given = c .before .before .before .before .before .before .before .before .before .before .before .before .before .before .args in
+    let inside : given .registers .place + 5 ≤ length (given .code .now) = omega (arith, c .before .before .before .before .before .before .before .before .before .before .before .before .before .before .pre, c .before .before .if5 .left) in
+    ap (λ (after : OnStack). kept after (given .memory .now)) (c .numbered .ensures) ∙ instruct-number (given .stack .now) (given .memory .now) (given .code .now) (given .registers) (given .count) inside (sym (c .before .before .before .before .takes-number .ensures) ∙ c .before .before .before .if4 .taken)
+
+by-table-requires : tie.Need-by-table-requires
+by-table-requires c κs = search needs
+
+same-length-2 : tie.Need-same-length-2
+same-length-2 c = search needs
+
+returns-6 : tie.Need-returns-6
+returns-6 c =
+    let given = c .before .before .before .before .before .before .before .before .before .before .before .before .before .before .before .before .args in
+    c .before .before .by-table .ensures ∙ instruct-other (given .stack .now) (given .memory .now) (given .code .now) (given .registers) (given .count) (sym (c .before .before .before .before .before .before .before .before .before .before .before .before .is-plain .ensures) ∙ c .before .before .before .before .before .before .before .before .before .before .before .if1 .left) (sym (c .before .before .before .before .before .before .before .before .before .before .is-equality .ensures) ∙ c .before .before .before .before .before .before .before .before .before .if2 .left) (sym (c .before .before .before .before .before .before .before .before .pushes-byte .ensures) ∙ c .before .before .before .before .before .before .before .if3 .left) (sym (c .before .before .before .before .before .before .takes-number .ensures) ∙ c .before .before .before .before .before .if4 .left)
 
 pub instruct-spec : {M : Type 1} → statement M
 instruct-spec =
     tie.close
     (tie.spec
     shared-slice-read-op
-    extent-requires
-    enum-known-next
-    execute-requires
-    enum-told
-    cut-requires
-    same-length
+    is-plain-requires
+    add-plain
+    plain-requires
     returns
-    returns-2)
+    is-equality-requires
+    add-op-eq
+    op-eq-requires
+    same-length
+    returns-2
+    pushes-byte-requires
+    add-push-u8
+    push-u8-requires
+    returns-3
+    takes-number-requires
+    sub-if5
+    cut-requires
+    returns-4
+    add-numbered
+    numbered-requires
+    returns-5
+    by-table-requires
+    same-length-2
+    returns-6)

@@ -10,16 +10,12 @@ use Rattle.opcodes.specs.declared.Did.{Did}
 use Rattle.core.proofs.steps.steps.Tie as tie
 
 abbrev Inv-loop : tie.InvT-loop
-Inv-loop stack₀ memory₀ code count fuel sizes at₀ left₀ stack memory at left =
+Inv-loop stack₀ memory₀ code count fuel at₀ left₀ stack memory at left =
     (length memory ≡ length memory₀) × (steps left stack memory code at count ≡ steps fuel stack₀ memory₀ code at₀ count)
 
 abbrev μ-loop : tie.MeasureT-loop
-μ-loop stack₀ memory₀ code count fuel sizes at₀ left₀ stack memory at left =
+μ-loop stack₀ memory₀ code count fuel at₀ left₀ stack memory at left =
     left
-
-operand-sizes-requires : tie.Need-operand-sizes-requires Inv-loop μ-loop
-operand-sizes-requires c κs =
-    search needs
 
 loop-holds : tie.Need-loop-holds Inv-loop μ-loop
 loop-holds c =
@@ -51,7 +47,7 @@ returns-2 c =
 
 instruct-requires : tie.Need-instruct-requires Inv-loop μ-loop
 instruct-requires c κs =
-    (c .before .before .before .before .before .before .before .if1 .taken, c .before .before .before .before .before .before .before .before .before .before .operand-sizes .ensures)
+    c .before .before .before .before .before .before .if1 .taken
 
 enum-known-next : tie.Need-enum-known-next Inv-loop μ-loop
 enum-known-next c =
@@ -69,8 +65,8 @@ loop-again : tie.Need-loop-again Inv-loop μ-loop
 loop-again c =
     let made = c .before .before .before .before .before .instruct in
     let did = ap (λ (d : Did). on-memory d (made .last .0) (made .last .1 .0)) (sym (c .before .next .given .1)) ∙ made .ensures in (
-      made .kept .1 .0 ∙ c .before .before .before .before .before .before .before .before .before .before .before .before .before .before .before .loop .inv .0,
-      finished _ _ _ _ _ _ _ _ _ _ (c .before .before .before .before .before .before .before .before .before .before .before .before .if2 .left) refl (c .before .before .before .before .before .before .before .before .before .before .before .before .before .if1 .taken) (sym (c .before .before .before .before .before .before .before .before .before .before .is-outer .ensures) ∙ c .before .before .before .before .before .before .before .before .before .if3 .left) did ∙ c .before .before .before .before .before .before .before .before .before .before .before .before .before .before .before .loop .inv .1,
+      made .kept .1 .0 ∙ c .before .before .before .before .before .before .before .before .before .before .before .before .before .before .loop .inv .0,
+      finished _ _ _ _ _ _ _ _ _ _ (c .before .before .before .before .before .before .before .before .before .before .before .if2 .left) refl (c .before .before .before .before .before .before .before .before .before .before .before .before .if1 .taken) (sym (c .before .before .before .before .before .before .before .before .before .is-outer .ensures) ∙ c .before .before .before .before .before .before .before .before .if3 .left) did ∙ c .before .before .before .before .before .before .before .before .before .before .before .before .before .before .loop .inv .1,
     )
 
 enum-known-refusal : tie.Need-enum-known-refusal Inv-loop μ-loop
@@ -79,13 +75,13 @@ enum-known-refusal c =
 
 same-length-3 : tie.Need-same-length-3 Inv-loop μ-loop
 same-length-3 c =
-    c .before .before .before .before .before .instruct .kept .1 .0 ∙ c .before .before .before .before .before .before .before .before .before .before .before .before .before .before .before .loop .inv .0
+    c .before .before .before .before .before .instruct .kept .1 .0 ∙ c .before .before .before .before .before .before .before .before .before .before .before .before .before .before .loop .inv .0
 
 returns-3 : tie.Need-returns-3 Inv-loop μ-loop
 returns-3 c =
     let made = c .before .before .before .before .before .instruct in
     let did = ap (λ (d : Did). on-memory d (made .last .0) (made .last .1 .0)) (sym (c .before .refusal .given .1)) ∙ made .ensures in
-    refused _ _ _ _ _ _ _ _ _ (c .before .before .before .before .before .before .before .before .before .before .before .before .if2 .left) (c .before .before .before .before .before .before .before .before .before .before .before .before .before .if1 .taken) (sym (c .before .before .before .before .before .before .before .before .before .before .is-outer .ensures) ∙ c .before .before .before .before .before .before .before .before .before .if3 .left) did ∙ c .before .before .before .before .before .before .before .before .before .before .before .before .before .before .before .loop .inv .1
+    refused _ _ _ _ _ _ _ _ _ (c .before .before .before .before .before .before .before .before .before .before .before .if2 .left) (c .before .before .before .before .before .before .before .before .before .before .before .before .if1 .taken) (sym (c .before .before .before .before .before .before .before .before .before .is-outer .ensures) ∙ c .before .before .before .before .before .before .before .before .if3 .left) did ∙ c .before .before .before .before .before .before .before .before .before .before .before .before .before .before .loop .inv .1
 
 same-length-4 : tie.Need-same-length-4 Inv-loop μ-loop
 same-length-4 c =
@@ -101,7 +97,6 @@ steps-spec =
     (tie.spec
     Inv-loop
     μ-loop
-    operand-sizes-requires
     loop-holds
     same-length
     returns

@@ -1,0 +1,223 @@
+-- The instruction at the place by what stands behind its opcode is the one by the table of operand sizes.
+use Prim.Native.Nat.{ℕ, _+_, _<_, _≤_}
+use mathlib.Core.Bool.{Bool, true, false, _||_}
+use mathlib.Core.List.{List, [], _∷_}
+use mathlib.Core.Path.{_≡_, refl, sym, ap, subst, _∙_}
+use native.Mathlib.Decide.{decLe}
+use native.Mathlib.Omega.{arith}
+use lib.Dec.{eqb}
+use lib.ListN.{getD, length}
+use borrow.Author.Tests.{eqb-true, le-leb, lt-leb}
+use Rattle.errors.specs.declared.Refusal.the-variants.{UnexpectedEOB}
+use Rattle.bytecode.specs.Opcodes.{PUSH-U32, PUSH-STATE, PUSH-CALLDATA, PUSH-TASK-FIELD, PUSH-MAX-STATES, S-LEN, DO, LOOP, LOOP-INDEX, DROP, DUP, SWAP, EQ, NEQ, LT, GT, JUMP-IF-FALSE, M-STI, MULI, MUL, operand-size}
+use Rattle.bytecode.specs.Operands.{operand, data-size, behind, extent}
+use Rattle.bytecode.specs.declared.Extent.{Extent}
+use Rattle.bytecode.specs.declared.Extent.the-variants as extents
+use Rattle.opcodes.specs.Registers.{on-memory}
+use Rattle.opcodes.specs.Equality.{op-eq}
+use Rattle.opcodes.specs.declared.Registers.{Registers}
+use Rattle.opcodes.specs.declared.Did.{Did}
+use Rattle.opcodes.specs.declared.Did.the-variants.{Refused}
+use Rattle.core.specs.Cut.{cut}
+use Rattle.core.specs.Operated.{with-operand, push-u8}
+use Rattle.core.specs.Execute.{kept, plain, operated, is-equality, execute, by-extent, instruct}
+use Rattle.core.specs.Kinds.{among, plain-opcodes, is-plain, byte-opcodes, pushes-byte, number-opcodes, takes-number, numbered, stored, cut-stored, stored-by, by-table}
+
+-- ---- opcodes among some
+
+-- what holds of each of some opcodes
+data Each (P : ℕ → Type 0) : List ℕ → Type 0 where
+  none : Each P []
+  also : {one : ℕ} {others : List ℕ} → P one → Each P others → Each P (one ∷ others)
+
+-- holds of an opcode among them
+at-first : (P : ℕ → Type 0) (op one : ℕ) (others tested : Bool) → eqb op one ≡ tested → P one → (others ≡ true → P op) → (tested || others) ≡ true → P op
+at-first P op one others true same here there e = subst P (sym (eqb-true op one same)) here
+at-first P op one others false same here there e = there e
+
+at-one : (P : ℕ → Type 0) (op : ℕ) {ones : List ℕ} → Each P ones → among op ones ≡ true → P op
+at-one P op none e = absurd (let z : _≡_ {A = ℕ} 0 1 = cc in omega arith)
+at-one P op (also {one} {others} here there) e = at-first P op one (among op others) (eqb op one) refl here (λ t. at-one P op there t) e
+
+-- an opcode that is not among some differs from each of them
+differs : (op one : ℕ) (ones : List ℕ) → among op ones ≡ false → among one ones ≡ true → eqb op one ≡ false
+differs op one ones out inside = by (eqb op one) refl
+  where
+    by : (b : Bool) → eqb op one ≡ b → b ≡ false
+    by true same =
+        let e : among op ones ≡ true = subst (λ (o : ℕ). among o ones ≡ true) (sym (eqb-true op one same)) inside in
+        absurd (let z : _≡_ {A = ℕ} 0 1 = cc in omega arith)
+    by false same = refl
+
+-- ---- how far an instruction reaches
+
+-- EQ and NEQ, as the others
+or-none : (b : Bool) → (b || false) ≡ b
+or-none true = refl
+or-none false = refl
+
+equality-among : (op : ℕ) → is-equality op ≡ true → among op (EQ ∷ NEQ ∷ []) ≡ true
+unfolding is-equality
+equality-among op e = ap (λ (b : Bool). eqb op EQ || b) (or-none (eqb op NEQ)) ∙ e
+
+-- so many bytes of operands, and none behind them
+record Operands (size op : ℕ) : Type 0 where
+  operands : operand-size op ≡ size
+  no-calldata : eqb op PUSH-CALLDATA ≡ false
+  no-payload : eqb op M-STI ≡ false
+
+fixed : {size op : ℕ} → operand-size op ≡ size → eqb op PUSH-CALLDATA ≡ false → eqb op M-STI ≡ false → Operands size op
+fixed operands no-calldata no-payload = record { operands = operands; no-calldata = no-calldata; no-payload = no-payload }
+
+plain-operands : (op : ℕ) → is-plain op ≡ true → Operands 0 op
+unfolding is-plain operand-size
+plain-operands op e = at-one (Operands 0) op (also (fixed refl refl refl) (also (fixed refl refl refl) (also (fixed refl refl refl) (also (fixed refl refl refl) (also (fixed refl refl refl) (also (fixed refl refl refl) (also (fixed refl refl refl) (also (fixed refl refl refl) (also (fixed refl refl refl) (also (fixed refl refl refl) none)))))))))) e
+
+equality-operands : (op : ℕ) → is-equality op ≡ true → Operands 0 op
+unfolding is-equality operand-size
+equality-operands op e = at-one (Operands 0) op (also (fixed refl refl refl) (also (fixed refl refl refl) none)) (equality-among op e)
+
+byte-operands : (op : ℕ) → pushes-byte op ≡ true → Operands 1 op
+unfolding pushes-byte operand-size
+byte-operands op e = at-one (Operands 1) op (also (fixed refl refl refl) (also (fixed refl refl refl) (also (fixed refl refl refl) none))) e
+
+number-operands : (op : ℕ) → takes-number op ≡ true → Operands 4 op
+unfolding takes-number operand-size
+number-operands op e = at-one (Operands 4) op (also (fixed refl refl refl) (also (fixed refl refl refl) (also (fixed refl refl refl) none))) e
+
+module _ (code : List ℕ) (place size : ℕ) (known : Operands size (getD code place 0)) where
+  no-data : data-size code place ≡ 0
+  unfolding data-size
+  no-data = simp (known .no-calldata, known .no-payload)
+
+  behind-is : behind code place ≡ place + (size + 1)
+  unfolding behind
+  behind-is = omega (arith, known .operands, no-data)
+
+  -- to the next one
+  whole : place + (size + 1) ≤ length code → extent code place ≡ extents.Next (place + (size + 1))
+  unfolding extent
+  whole inside = simp (behind-is, le-leb (place + (size + 1)) (length code) inside)
+
+  -- or past the end
+  past : length code < place + (size + 1) → extent code place ≡ extents.Cut
+  unfolding extent
+  past outside = simp (behind-is, lt-leb (place + (size + 1)) (length code) outside)
+
+-- ---- what it does
+
+module _ (stack memory code : List ℕ) (registers : Registers) (next op count : ℕ) where
+  executed-plain : is-plain op ≡ true → execute stack memory code registers next op count ≡ kept (plain stack registers next op count) memory
+  unfolding is-plain execute is-equality operated
+  executed-plain e =
+      at-one (λ (o : ℕ). execute stack memory code registers next o count ≡ kept (plain stack registers next o count) memory) op
+      (also refl (also refl (also refl (also refl (also refl (also refl (also refl (also refl (also refl (also refl none)))))))))) e
+
+  executed-equality : is-equality op ≡ true → execute stack memory code registers next op count ≡ kept (op-eq stack memory registers next (eqb op EQ)) memory
+  unfolding execute
+  executed-equality e = simp (e)
+
+  executed-byte : pushes-byte op ≡ true → execute stack memory code registers next op count ≡ kept (push-u8 stack code registers next) memory
+  unfolding pushes-byte execute is-equality operated
+  executed-byte e =
+      at-one (λ (o : ℕ). execute stack memory code registers next o count ≡ kept (push-u8 stack code registers next) memory) op
+      (also refl (also refl (also refl none))) e
+
+  cut-byte : pushes-byte op ≡ true → cut stack registers op ≡ Refused UnexpectedEOB
+  unfolding pushes-byte cut
+  cut-byte e = at-one (λ (o : ℕ). cut stack registers o ≡ Refused UnexpectedEOB) op (also refl (also refl (also refl none))) e
+
+  executed-number : takes-number op ≡ true → execute stack memory code registers next op count ≡ kept (numbered stack code registers next op) memory
+  unfolding takes-number execute is-equality operated numbered
+  executed-number e =
+      at-one (λ (o : ℕ). execute stack memory code registers next o count ≡ kept (numbered stack code registers next o) memory) op
+      (also refl (also refl (also refl none))) e
+
+  module _ (no-plain : is-plain op ≡ false) (no-equality : is-equality op ≡ false) (no-byte : pushes-byte op ≡ false) (no-number : takes-number op ≡ false) where
+    neither-plain : (one : ℕ) → among one plain-opcodes ≡ true → eqb op one ≡ false
+    unfolding is-plain
+    neither-plain one inside = differs op one plain-opcodes no-plain inside
+
+    neither-byte : (one : ℕ) → among one byte-opcodes ≡ true → eqb op one ≡ false
+    unfolding pushes-byte
+    neither-byte one inside = differs op one byte-opcodes no-byte inside
+
+    neither-number : (one : ℕ) → among one number-opcodes ≡ true → eqb op one ≡ false
+    unfolding takes-number
+    neither-number one inside = differs op one number-opcodes no-number inside
+
+    executed-other : execute stack memory code registers next op count ≡ stored stack memory code registers next op
+    unfolding execute operated plain stored
+    executed-other =
+        simp (no-equality, neither-number PUSH-U32 refl, neither-byte PUSH-STATE refl, neither-byte PUSH-TASK-FIELD refl, neither-byte PUSH-MAX-STATES refl, neither-number MULI refl, neither-number JUMP-IF-FALSE refl, neither-plain MUL refl, neither-plain LT refl, neither-plain GT refl, neither-plain DUP refl, neither-plain SWAP refl, neither-plain DROP refl, neither-plain DO refl, neither-plain LOOP refl, neither-plain LOOP-INDEX refl, neither-plain S-LEN refl)
+
+    cut-other : cut stack registers op ≡ cut-stored stack registers op
+    unfolding cut cut-stored
+    cut-other = simp (neither-number MULI refl, neither-number JUMP-IF-FALSE refl)
+
+-- ---- the instruction at the place
+
+module _ (stack memory code : List ℕ) (registers : Registers) (count : ℕ) where
+  abbrev op-at : ℕ
+  op-at = getD code (registers .place) 0
+
+  module _ (inside : registers .place < length code) where
+    -- over the stack alone
+    pub instruct-plain : is-plain op-at ≡ true → kept (plain stack registers (registers .place + 1) op-at count) memory ≡ instruct stack memory code registers count
+    unfolding instruct by-extent
+    instruct-plain e =
+        let reach : extent code (registers .place) ≡ extents.Next (registers .place + 1) = whole code (registers .place) 0 (plain-operands op-at e) (omega arith) in
+        simp (reach, executed-plain stack memory code registers (registers .place + 1) op-at count e)
+
+    -- EQ and NEQ
+    pub instruct-equality : is-equality op-at ≡ true → kept (op-eq stack memory registers (registers .place + 1) (eqb op-at EQ)) memory ≡ instruct stack memory code registers count
+    unfolding instruct by-extent
+    instruct-equality e =
+        let reach : extent code (registers .place) ≡ extents.Next (registers .place + 1) = whole code (registers .place) 0 (equality-operands op-at e) (omega arith) in
+        simp (reach, executed-equality stack memory code registers (registers .place + 1) op-at count e)
+
+  -- a byte is pushed
+  byte-whole : registers .place + 2 ≤ length code → pushes-byte op-at ≡ true → kept (push-u8 stack code registers (registers .place + 2)) memory ≡ instruct stack memory code registers count
+  unfolding instruct by-extent
+  byte-whole inside e =
+      let reach : extent code (registers .place) ≡ extents.Next (registers .place + 2) = whole code (registers .place) 1 (byte-operands op-at e) inside in
+      simp (reach, executed-byte stack memory code registers (registers .place + 2) op-at count e)
+
+  byte-cut : length code < registers .place + 2 → pushes-byte op-at ≡ true → kept (push-u8 stack code registers (registers .place + 2)) memory ≡ instruct stack memory code registers count
+  unfolding instruct by-extent push-u8 operand with-operand
+  byte-cut outside e =
+      let reach : extent code (registers .place) ≡ extents.Cut = past code (registers .place) 1 (byte-operands op-at e) outside in
+      simp (reach, cut-byte stack memory code registers (registers .place + 2) op-at count e, lt-leb (registers .place + 1 + 1) (length code) (omega arith))
+
+  pub instruct-byte : pushes-byte op-at ≡ true → kept (push-u8 stack code registers (registers .place + 2)) memory ≡ instruct stack memory code registers count
+  instruct-byte e = by (decLe (registers .place + 2) (length code))
+    where
+      by : Dec (registers .place + 2 ≤ length code) → kept (push-u8 stack code registers (registers .place + 2)) memory ≡ instruct stack memory code registers count
+      by (yes inside) = byte-whole inside e
+      by (no outside) = byte-cut (omega arith) e
+
+  -- a number is taken
+  pub instruct-number : registers .place + 5 ≤ length code → takes-number op-at ≡ true → kept (numbered stack code registers (registers .place + 5) op-at) memory ≡ instruct stack memory code registers count
+  unfolding instruct by-extent
+  instruct-number inside e =
+      let reach : extent code (registers .place) ≡ extents.Next (registers .place + 5) = whole code (registers .place) 4 (number-operands op-at e) inside in
+      simp (reach, executed-number stack memory code registers (registers .place + 5) op-at count e)
+
+  pub instruct-cut : length code < registers .place + 5 → takes-number op-at ≡ true → on-memory (cut stack registers op-at) stack memory ≡ instruct stack memory code registers count
+  unfolding instruct by-extent
+  instruct-cut outside e =
+      let reach : extent code (registers .place) ≡ extents.Cut = past code (registers .place) 4 (number-operands op-at e) outside in
+      simp (reach)
+
+  -- any other, by the table
+  other-by : (reach : Extent) → is-plain op-at ≡ false → is-equality op-at ≡ false → pushes-byte op-at ≡ false → takes-number op-at ≡ false
+      → stored-by stack memory code registers op-at reach ≡ by-extent stack memory code registers op-at count reach
+  unfolding by-extent stored-by
+  other-by (extents.Next next) no-plain no-equality no-byte no-number = sym (executed-other stack memory code registers next op-at count no-plain no-equality no-byte no-number)
+  other-by extents.Cut no-plain no-equality no-byte no-number =
+      ap (λ (did : Did). on-memory did stack memory) (sym (cut-other stack memory code registers 0 op-at count no-plain no-equality no-byte no-number))
+
+  pub instruct-other : is-plain op-at ≡ false → is-equality op-at ≡ false → pushes-byte op-at ≡ false → takes-number op-at ≡ false
+      → by-table stack memory code registers op-at ≡ instruct stack memory code registers count
+  unfolding instruct by-table
+  instruct-other = other-by (extent code (registers .place))

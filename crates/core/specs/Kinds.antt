@@ -1,0 +1,68 @@
+-- Instructions by what stands behind their opcode: nothing, a byte, a number of four bytes, or what the table of operand sizes says.
+use Prim.Native.Nat.{ℕ}
+use mathlib.Core.Bool.{Bool, false, cond, _||_}
+use mathlib.Core.List.{List, [], _∷_}
+use lib.Dec.{eqb}
+use Rattle.errors.specs.declared.Refusal.the-variants.{UnexpectedEOB}
+use Rattle.bytecode.specs.Opcodes.{PUSH-U32, PUSH-STATE, PUSH-TASK-FIELD, PUSH-MAX-STATES, S-LEN, DO, LOOP, LOOP-INDEX, DROP, DUP, SWAP, LT, GT, JUMP-IF-FALSE, M-STI, M-ST, M-MUTA, MULI, MUL}
+use Rattle.bytecode.specs.Operands.{extent}
+use Rattle.bytecode.specs.declared.Extent.{Extent}
+use Rattle.bytecode.specs.declared.Extent.the-variants as extents
+use Rattle.opcodes.specs.Registers.{OnStack, on-stack, OnMemory, on-memory, moved}
+use Rattle.opcodes.specs.Store.{op-m-muta}
+use Rattle.core.specs.Operated.{push-u32, muli, jump-if-false, m-st, m-sti}
+use Rattle.core.specs.Cut.{cut-m-st}
+use Rattle.core.specs.Execute.{changed}
+use Rattle.opcodes.specs.declared.Registers.{Registers}
+use Rattle.opcodes.specs.declared.Did.{Did}
+use Rattle.opcodes.specs.declared.Did.the-variants.{Next, Refused}
+
+-- an opcode that is one of some
+abbrev pub among : ℕ → List ℕ → Bool
+among op [] = false
+among op (one ∷ others) = eqb op one || among op others
+
+-- nothing behind it, and over the stack alone
+abbrev pub plain-opcodes : List ℕ
+plain-opcodes = MUL ∷ LT ∷ GT ∷ DUP ∷ SWAP ∷ DROP ∷ DO ∷ LOOP ∷ LOOP-INDEX ∷ S-LEN ∷ []
+
+unfoldable pub is-plain : ℕ → Bool
+is-plain op = among op plain-opcodes
+
+-- a byte behind it, which it pushes
+abbrev pub byte-opcodes : List ℕ
+byte-opcodes = PUSH-STATE ∷ PUSH-TASK-FIELD ∷ PUSH-MAX-STATES ∷ []
+
+unfoldable pub pushes-byte : ℕ → Bool
+pushes-byte op = among op byte-opcodes
+
+-- a number of four bytes behind it
+abbrev pub number-opcodes : List ℕ
+number-opcodes = PUSH-U32 ∷ MULI ∷ JUMP-IF-FALSE ∷ []
+
+unfoldable pub takes-number : ℕ → Bool
+takes-number op = among op number-opcodes
+
+unfoldable pub numbered : List ℕ → List ℕ → Registers → ℕ → ℕ → OnStack
+numbered stack code registers next op =
+    cond (eqb op PUSH-U32) (push-u32 stack code registers next)
+    (cond (eqb op MULI) (muli stack code registers next) (on-stack (jump-if-false stack code registers next) stack))
+
+-- any other: over memory, or it does nothing
+unfoldable pub stored : List ℕ → List ℕ → List ℕ → Registers → ℕ → ℕ → OnMemory
+stored stack memory code registers next op =
+    cond (eqb op M-STI) (m-sti stack memory code registers next)
+    (cond (eqb op M-ST) (m-st stack memory code registers next)
+    (cond (eqb op M-MUTA) (changed stack (op-m-muta stack memory registers next))
+    (on-memory (Next (moved registers next (registers .height))) stack memory)))
+
+-- such a one that the code's end cuts
+unfoldable pub cut-stored : List ℕ → Registers → ℕ → Did
+cut-stored stack registers op = cond (eqb op M-ST) (cut-m-st stack registers) (Refused UnexpectedEOB)
+
+unfoldable pub stored-by : List ℕ → List ℕ → List ℕ → Registers → ℕ → Extent → OnMemory
+stored-by stack memory code registers op (extents.Next next) = stored stack memory code registers next op
+stored-by stack memory code registers op extents.Cut = on-memory (cut-stored stack registers op) stack memory
+
+unfoldable pub by-table : List ℕ → List ℕ → List ℕ → Registers → ℕ → OnMemory
+by-table stack memory code registers op = stored-by stack memory code registers op (extent code (registers .place))
