@@ -16,6 +16,11 @@ fn save_room() -> [u8; 1048576] {
     [0u8; 1048576]
 }
 
+// The one call: a start with 1,000,000 units of fuel.
+fn only_call() -> [u8; 9] {
+    [0u8, 64u8, 66u8, 15u8, 0u8, 0u8, 0u8, 0u8, 0u8]
+}
+
 fn main() {
     let mut program = io::large_buffer();
     let length = io::read_full(STDIN_FILENO, &mut program);
@@ -25,6 +30,7 @@ fn main() {
     let mut ends = ends_room();
     let mut save = save_room();
     let mut image = [0u8; 0];
+    let mut calls = only_call();
     shows::own(
         &mut stack,
         &mut memory,
@@ -33,5 +39,9 @@ fn main() {
         &mut save,
         &mut image,
         &mut program[..length],
+        &mut calls,
+        0,
+        1,
+        false,
     );
 }

@@ -1,2 +1,3 @@
 pub mod Silent
 pub mod Owned
+pub mod Values

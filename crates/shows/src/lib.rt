@@ -1,198 +1,123 @@
-// A program that is run fresh, and its listing on standard output; the lines are put into the save buffer, which the run no longer needs.
-use calls::Outcome;
+// The calls of a host on a machine over a blank table, one after the other, and their lines on standard output.
+mod asked;
+mod lines;
+
+use crate::asked::count_of;
+use crate::asked::fuel_at;
+use crate::asked::machine_after;
+use crate::asked::machine_of;
+use crate::asked::ran;
+use crate::asked::saved;
+use crate::asked::verb_at;
+use crate::lines::show_answer;
+use crate::lines::show_count;
+use crate::lines::show_creation;
+use crate::lines::show_machine;
+use crate::lines::show_task;
 use core::Machine;
-use core::Phase;
-use inlinevec::Frame;
-use inlinevec::Frames;
-use inlinevec::Loop;
-use inlinevec::Loops;
-use libc::STDOUT_FILENO;
-use listing::Counted;
 use listing::Head;
-use pools::InstructionsRef;
 use storage::Task;
-use text::LineResult;
-use vm::CreateResult;
-use vm::Report;
 
-// Writes a line.
-fn emit(out: &mut [u8], line: LineResult) {
-    match line {
-        LineResult::Line(length) => {
-            io::write_all(STDOUT_FILENO, slices::part(out, 0, length));
-        }
-        LineResult::NoLine(_) => {}
-    }
-}
-
-// How a run ended.
-fn head_of(creation: CreateResult, report: Report) -> Head {
-    let outcome = report.outcome;
-    match creation {
-        CreateResult::NotCreated(refusal) => Head::Refused(refusal),
-        CreateResult::Created(_) => match outcome {
-            Outcome::Done => Head::Done(report.finished),
-            Outcome::Paused => Head::Paused(report.finished),
-            Outcome::Refused(refusal) => Head::Refused(refusal),
-        },
-    }
-}
-
-// How many values are listed: those of a run that is done.
-fn height_of(creation: CreateResult, report: Report) -> usize {
-    match head_of(creation, report) {
-        Head::Done(_) => report.machine.height,
-        Head::Paused(_) => 0,
-        Head::Refused(_) => 0,
-        Head::Saved(_) => 0,
-    }
-}
-
-// The value at a position.
-fn show_value<'a>(
-    memory: &'a [u8],
-    pool: &'a [u8],
-    ends: &[u32; 1024],
-    out: &mut [u8],
-    entries: usize,
-    word: u64,
-) {
-    let kind = unbox::unbox_value(memory, ends, entries, word);
-    let line = value_line::value_line(out, memory, pool, ends, kind);
-    emit(out, line);
-}
-
-// The values, bottom first.
-fn show_values<'a>(
-    stack: &[u64],
-    memory: &'a [u8],
-    pool: &'a [u8],
-    ends: &[u32; 1024],
-    out: &mut [u8],
-    entries: usize,
-    height: usize,
-) {
-    let mut position = 0;
-    while position < stack.len() {
-        if height <= position {
-            return;
-        }
-        show_value(memory, pool, ends, out, entries, stack[position]);
-        position = position + 1;
-    }
-}
-
-// The first line, and the values.
-fn show_run(
-    stack: &mut [u64; 1000],
-    memory: &mut [u8],
-    pool: &mut [u8],
-    ends: &mut [u32; 1024],
-    out: &mut [u8],
-    creation: CreateResult,
-    report: Report,
-) {
-    let head = listing::head_line(out, head_of(creation, report));
-    emit(out, head);
-    let height = height_of(creation, report);
-    let count = listing::count_line(out, Counted::Values, height);
-    emit(out, count);
-    let used = slices::part(memory, 0, report.machine.memory);
-    show_values(stack, used, pool, ends, out, report.machine.entries, height);
-}
-
-// How many tasks follow.
-fn show_count(out: &mut [u8], count: usize) {
-    let line = listing::count_line(out, Counted::Tasks, count);
-    emit(out, line);
-}
-
-// A task; nothing for a slot that is not living.
-fn show_task(out: &mut [u8], task: Task) {
-    let line = task_line::task_line(out, task);
-    emit(out, line);
+// What a call came to: the machine after it, and how it ended.
+pub struct Answered {
+    pub machine: Machine,
+    pub head: Head,
 }
 
 // The tasks, by id.
-fn show_tasks(table: &mut [Task], out: &mut [u8]) {
+fn show_tasks(table: &mut [Task]) {
     let count = slots::living(table);
-    show_count(out, count);
+    show_count(count);
     let mut slot = 0;
     while slot < table.len() {
         let task = table::get(table, slot);
-        show_task(out, task);
+        show_task(task);
         slot = slot + 1;
     }
 }
 
-// A machine that does not start.
-fn stopped() -> Machine {
-    let none = Loop {
-        place: 0,
-        index: 0,
-        limit: 0,
-    };
-    let main = Frame {
-        entry: InstructionsRef(0),
-        place: 0,
-    };
-    let loops = Loops {
-        count: 0,
-        outer: none,
-        inner: none,
-    };
-    let frames = Frames {
-        count: 1,
-        main,
-        task: main,
-    };
-    Machine {
-        phase: Phase::Stopped,
-        height: 0,
-        loops,
-        frames,
-        memory: 0,
-        pool: 0,
-        entries: 0,
-        next_id: 0,
-        count: 0,
-        saved: 0,
-    }
-}
-
-// The machine that is started: one that is stopped, if none was created.
-fn machine_of(creation: CreateResult) -> Machine {
-    match creation {
-        CreateResult::Created(machine) => machine,
-        CreateResult::NotCreated(_) => stopped(),
-    }
-}
-
-// The fuel that a run is given.
-fn fuel_of_a_run() -> u64 {
-    1000000
-}
-
-// Creates a machine over an empty image, starts it, and lists what came of it.
-fn perform(
+// One call, by its verb: 0 starts, 1 goes on, any other saves.
+fn act(
     table: &mut [Task],
     stack: &mut [u64; 1000],
     memory: &mut [u8],
     pool: &mut [u8],
     ends: &mut [u32; 1024],
     save: &mut [u8],
-    image: &mut [u8],
-    program: &mut [u8],
-) {
-    let creation = creating::create(table, pool, ends, image, program);
-    let begun = machine_of(creation);
-    let fuel = fuel_of_a_run();
-    let report = calling::start(table, stack, memory, pool, ends, save, begun, fuel);
-    show_run(stack, memory, pool, ends, save, creation, report);
-    show_tasks(table, save);
+    machine: Machine,
+    verb: u8,
+    fuel: u64,
+) -> Answered {
+    if verb == 0 {
+        let started = calling::start(table, stack, memory, pool, ends, save, machine, fuel);
+        return ran(started);
+    }
+    if verb == 1 {
+        let continued = calling::go_on(table, stack, memory, pool, ends, save, machine, fuel);
+        return ran(continued);
+    }
+    let kept = saving::save(table, stack, memory, pool, ends, save, machine);
+    saved(kept)
 }
 
-// Performs a program over a blank table.
+// The call of a number, and its lines: the listing, and where everything is shown the call before it and the machine behind it.
+fn turn(
+    table: &mut [Task],
+    stack: &mut [u64; 1000],
+    memory: &mut [u8],
+    pool: &mut [u8],
+    ends: &mut [u32; 1024],
+    save: &mut [u8],
+    calls: &mut [u8],
+    machine: Machine,
+    from: usize,
+    number: usize,
+    everything: bool,
+) -> Machine {
+    let verb = verb_at(calls, from, number);
+    let fuel = fuel_at(calls, from, number);
+    let answered = act(table, stack, memory, pool, ends, save, machine, verb, fuel);
+    show_answer(stack, memory, pool, ends, answered, verb, fuel, everything);
+    show_tasks(table);
+    show_machine(memory, save, answered, everything);
+    machine_after(answered)
+}
+
+// So many calls, one after the other.
+fn play(
+    table: &mut [Task],
+    stack: &mut [u64; 1000],
+    memory: &mut [u8],
+    pool: &mut [u8],
+    ends: &mut [u32; 1024],
+    save: &mut [u8],
+    calls: &mut [u8],
+    begun: Machine,
+    from: usize,
+    count: usize,
+    everything: bool,
+) {
+    let mut machine = begun;
+    let mut number = 0;
+    while number < count {
+        machine = turn(
+            table,
+            stack,
+            memory,
+            pool,
+            ends,
+            save,
+            calls,
+            machine,
+            from,
+            number,
+            everything,
+        );
+        number = number + 1;
+    }
+}
+
+// Creates a machine over a blank table, and performs the calls that stand from a place on.
 pub fn own(
     stack: &mut [u64; 1000],
     memory: &mut [u8],
@@ -201,8 +126,28 @@ pub fn own(
     save: &mut [u8],
     image: &mut [u8],
     program: &mut [u8],
+    calls: &mut [u8],
+    from: usize,
+    count: usize,
+    everything: bool,
 ) {
     let blank = storage::task_types::blank();
     let mut table = [blank; 256];
-    perform(&mut table, stack, memory, pool, ends, save, image, program);
+    let creation = creating::create(&mut table, pool, ends, image, program);
+    show_creation(creation);
+    let begun = machine_of(creation);
+    let allowed = count_of(creation, count);
+    play(
+        &mut table,
+        stack,
+        memory,
+        pool,
+        ends,
+        save,
+        calls,
+        begun,
+        from,
+        allowed,
+        everything,
+    );
 }

@@ -1,16 +1,16 @@
--- `shows::show_values` meets its contract.
+-- `shows::lines::show_values` meets its contract.
 use Prim.Native.Nat.{_-_, _≤_}
 use mathlib.Core.Path.{_≡_}
 use lib.ListN.{length}
 use borrow.Author.Needs.{needs}
-use Rattle.shows.proofs.show_values.Statement.{statement}
-use Rattle.shows.proofs.show_values.Tie as tie
+use Rattle.shows.proofs.lines.show_values.Statement.{statement}
+use Rattle.shows.proofs.lines.show_values.Tie as tie
 
 abbrev Inv-loop : tie.InvT-loop
-Inv-loop stack memory pool ends out₀ entries height position₀ out position = (position ≤ length stack) × (length out ≡ length out₀)
+Inv-loop stack memory pool ends room₀ entries height position₀ room position = (position ≤ length stack) × (length room ≡ length room₀)
 
 abbrev μ-loop : tie.MeasureT-loop
-μ-loop stack memory pool ends out₀ entries height position₀ out position = length stack - position
+μ-loop stack memory pool ends room₀ entries height position₀ room position = length stack - position
 
 loop-holds : tie.Need-loop-holds Inv-loop μ-loop
 loop-holds c = search needs

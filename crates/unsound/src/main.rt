@@ -1,0 +1,336 @@
+// Starts machines whose record, table or pool was forged, one to a part of 26, and prints what each start answers; the first is honest.
+use calls::Outcome;
+use core::Machine;
+use core::Phase;
+use inlinevec::Frame;
+use inlinevec::Frames;
+use inlinevec::Loop;
+use inlinevec::Loops;
+use libc::STDOUT_FILENO;
+use pools::InstructionsRef;
+use storage::Task;
+use storage::TaskId;
+use vm::CreateResult;
+use vm::Report;
+
+// Room for the stack.
+fn stack_room() -> [u64; 1000] {
+    [0u64; 1000]
+}
+
+// Room for the ends of the pool's entries.
+fn ends_room() -> [u32; 1024] {
+    [0u32; 1024]
+}
+
+// The program: one value.
+fn program() -> [u8; 1] {
+    [13u8]
+}
+
+// Document 01's case I1: one task, "Ab", without instructions.
+fn one_task() -> [u8; 30] {
+    [
+        8u8,
+        0u8,
+        0u8,
+        0u8,
+        1u8,
+        0u8,
+        1u8,
+        0u8,
+        0u8,
+        0u8,
+        1u8,
+        0u8,
+        0u8,
+        0u8,
+        10u8,
+        0u8,
+        0u8,
+        0u8,
+        2u8,
+        0u8,
+        0u8,
+        0u8,
+        0u8,
+        0u8,
+        3u8,
+        0u8,
+        2u8,
+        0u8,
+        65u8,
+        98u8,
+    ]
+}
+
+// A machine that does not start.
+fn stopped() -> Machine {
+    let none = Loop {
+        place: 0,
+        index: 0,
+        limit: 0,
+    };
+    let main = Frame {
+        entry: InstructionsRef(0),
+        place: 0,
+    };
+    let loops = Loops {
+        count: 0,
+        outer: none,
+        inner: none,
+    };
+    let frames = Frames {
+        count: 1,
+        main,
+        task: main,
+    };
+    Machine {
+        phase: Phase::Stopped,
+        height: 0,
+        loops,
+        frames,
+        memory: 0,
+        pool: 0,
+        entries: 0,
+        next_id: 0,
+        count: 0,
+        saved: 0,
+    }
+}
+
+// The machine that was created.
+fn machine_of(creation: CreateResult) -> Machine {
+    match creation {
+        CreateResult::Created(machine) => machine,
+        CreateResult::NotCreated(_) => stopped(),
+    }
+}
+
+// Lengths above their capacity or their buffer: values, loops, memory, the pool, its entries, the saved image.
+fn forged_lengths(honest: Machine, number: usize) -> Machine {
+    let mut machine = honest;
+    if number == 1 {
+        machine.height = 1001;
+    }
+    if number == 2 {
+        machine.loops.count = 3;
+    }
+    if number == 3 {
+        machine.memory = 65537;
+    }
+    if number == 4 {
+        machine.pool = 65537;
+    }
+    if number == 5 {
+        machine.entries = 1025;
+    }
+    if number == 6 {
+        machine.saved = 4097;
+    }
+    machine
+}
+
+// A next id and an S_LEN count above 256, and a count above the next id.
+fn forged_counts(honest: Machine, number: usize) -> Machine {
+    let mut machine = honest;
+    if number == 7 {
+        machine.next_id = 257;
+    }
+    if number == 8 {
+        machine.next_id = 257;
+        machine.count = 257;
+    }
+    if number == 9 {
+        machine.count = 2;
+    }
+    machine
+}
+
+// No frame, more frames than two, and frames that name no entry; and more bytes in the pool than its last entry ends at.
+fn forged_frames(honest: Machine, number: usize) -> Machine {
+    let mut machine = honest;
+    let mut frames = honest.frames;
+    let nowhere = Frame {
+        entry: InstructionsRef(2),
+        place: 0,
+    };
+    if number == 10 {
+        frames.count = 0;
+    }
+    if number == 11 {
+        frames.count = 3;
+    }
+    if number == 12 {
+        frames.main = nowhere;
+    }
+    if number == 13 {
+        frames.count = 2;
+        frames.task = nowhere;
+    }
+    if number == 14 {
+        machine.pool = 2;
+    }
+    machine.frames = frames;
+    machine
+}
+
+// The record of a number.
+fn forged_machine(honest: Machine, number: usize) -> Machine {
+    forged_frames(
+        forged_counts(forged_lengths(honest, number), number),
+        number,
+    )
+}
+
+// The slot that is forged: one past the count, for a living task that no count allows.
+fn forged_slot(number: usize) -> usize {
+    if number == 17 {
+        return 1;
+    }
+    0
+}
+
+// A living slot whose id is not its place, is not below the count, or whose title or state breaks its limits.
+fn forged_task(held: Task, number: usize) -> Task {
+    let mut task = held;
+    let second = TaskId(1);
+    if number == 16 {
+        task.id = second;
+    }
+    if number == 17 {
+        task.living = true;
+        task.id = second;
+        task.state.len = 1;
+    }
+    if number == 18 {
+        task.title_len = 129;
+    }
+    if number == 19 {
+        task.state.state = 3;
+    }
+    task
+}
+
+// An end that falls.
+fn forge_end(ends: &mut [u32; 1024], number: usize) {
+    if number == 15 {
+        ends[0] = 2;
+    }
+}
+
+// The fuel that a start is given.
+fn fuel_of_a_start() -> u64 {
+    9
+}
+
+fn say(text: &[u8]) {
+    io::write_all(STDOUT_FILENO, text);
+}
+
+fn say_number(number: u64) {
+    say(b" ");
+    io::print_decimal(STDOUT_FILENO, number);
+}
+
+// What a start answers.
+fn show(number: usize, report: Report) {
+    let outcome = report.outcome;
+    say(b"forged");
+    say_number(number as u64);
+    match outcome {
+        Outcome::Done => {
+            say(b": done");
+            say_number(report.finished);
+        }
+        Outcome::Paused => {
+            say(b": paused");
+            say_number(report.finished);
+        }
+        Outcome::Refused(refusal) => {
+            say(b": refused");
+            say_number(errors::number_of(refusal) as u64);
+        }
+    }
+    say(b"\n");
+}
+
+// Creates a machine over one task, forges it, and starts it.
+fn attempt(
+    table: &mut [Task],
+    stack: &mut [u64; 1000],
+    memory: &mut [u8],
+    pool: &mut [u8],
+    ends: &mut [u32; 1024],
+    save: &mut [u8],
+    image: &mut [u8],
+    program: &mut [u8],
+    number: usize,
+) {
+    let creation = creating::create(table, pool, ends, image, program);
+    let honest = machine_of(creation);
+    let forged = forged_machine(honest, number);
+    let slot = forged_slot(number);
+    let held = table::get(table, slot);
+    let task = forged_task(held, number);
+    table::put(table, slot, task);
+    forge_end(ends, number);
+    let fuel = fuel_of_a_start();
+    let report = calling::start(table, stack, memory, pool, ends, save, forged, fuel);
+    show(number, report);
+}
+
+// The same over a blank table.
+fn own(
+    stack: &mut [u64; 1000],
+    memory: &mut [u8],
+    pool: &mut [u8],
+    ends: &mut [u32; 1024],
+    save: &mut [u8],
+    image: &mut [u8],
+    program: &mut [u8],
+    number: usize,
+) {
+    let blank = storage::task_types::blank();
+    let mut table = [blank; 256];
+    attempt(
+        &mut table,
+        stack,
+        memory,
+        pool,
+        ends,
+        save,
+        image,
+        program,
+        number,
+    );
+}
+
+// One forgery, over buffers of its own.
+fn forge(number: usize) {
+    let mut stack = stack_room();
+    let mut memory = io::large_buffer();
+    let mut pool = io::large_buffer();
+    let mut ends = ends_room();
+    let mut save = io::buffer();
+    let mut image = one_task();
+    let mut program = program();
+    own(
+        &mut stack,
+        &mut memory,
+        &mut pool,
+        &mut ends,
+        &mut save,
+        &mut image,
+        &mut program,
+        number,
+    );
+}
+
+fn main() {
+    let mut number = 0;
+    while number < 20 {
+        forge(number);
+        number = number + 1;
+    }
+}
