@@ -1,0 +1,346 @@
+//! Calls the library on good, damaged and huge inputs, alone and from several threads with 2 MB stacks.
+
+use rafenuma::{Outcome, Refusal, Run, admit, run, test_image};
+
+const C1: &[u8] = &[0x01, 0, 0, 0, 0, 0x01, 0, 0, 0, 5, 0x0e, 0x01, 0, 0, 0, 0x63, 0x0f];
+const I1: &[u8] = &[
+    8, 0, 0, 0, 1, 0, 1, 0, 0, 0, 1, 0, 0, 0, 10, 0, 0, 0, 2, 0, 0, 0, 0, 0, 3, 0, 2, 0, 0x41, 0x62,
+];
+const NO_TASKS: &[u8] = &[8, 0, 0, 0, 1, 0, 0, 0, 0, 0, 0, 0, 0, 0];
+
+/// What a run left, in buffers that held 0xAA before.
+struct After {
+    run: Run,
+    memory: Vec<u8>,
+    new_image: Vec<u8>,
+    listing: Vec<u8>,
+}
+
+impl After {
+    fn text(&self) -> String {
+        String::from_utf8_lossy(&self.listing[..self.run.listing.unwrap()]).into_owned()
+    }
+    fn image(&self) -> &[u8] {
+        &self.new_image[..self.run.new_image]
+    }
+}
+
+/// Runs, and sees that the image and the program stay and that nothing is written past what was said to be written.
+fn go_with(image: &[u8], program: &[u8], fuel: u64, memory: usize, new_image: usize, listing: usize) -> After {
+    let (mut tasks, mut code) = (image.to_vec(), program.to_vec());
+    let mut after = After {
+        run: Run { outcome: Outcome::Done, finished: 0, refusal: None, listing: Ok(0), new_image: 0 },
+        memory: vec![0xAA; memory],
+        new_image: vec![0xAA; new_image],
+        listing: vec![0xAA; listing],
+    };
+    after.run = run(&mut after.memory, &mut tasks, &mut code, &mut after.new_image, &mut after.listing, fuel);
+    assert_eq!(tasks, image, "the image stays");
+    assert_eq!(code, program, "the program stays");
+    let written = after.run.listing.unwrap_or(0);
+    assert!(after.listing[written..].iter().all(|&byte| byte == 0xAA), "the listing's other bytes stay");
+    after
+}
+
+fn go(image: &[u8], program: &[u8]) -> After {
+    go_with(image, program, 1_000_000, 65_536, 1_048_576, 1 << 20)
+}
+
+fn refused(number: u8, first: u64, second: u64) -> Option<Refusal> {
+    Some(Refusal { number, details: [first, second] })
+}
+
+/// A task record of the image.
+fn record(id: u32, title: &[u8], instructions: &[u8]) -> Vec<u8> {
+    let mut bytes = (8 + title.len() as u32 + instructions.len() as u32).to_le_bytes().to_vec();
+    bytes.extend([2, 0]);
+    bytes.extend(id.to_le_bytes());
+    bytes.extend([3, 1]);
+    bytes.extend((title.len() as u16).to_le_bytes());
+    bytes.extend(title);
+    bytes.extend(instructions);
+    bytes
+}
+
+fn image_of(next_id: u32, records: &[Vec<u8>]) -> Vec<u8> {
+    let mut bytes = vec![8, 0, 0, 0, 1, 0];
+    bytes.extend(next_id.to_le_bytes());
+    bytes.extend((records.len() as u32).to_le_bytes());
+    records.iter().for_each(|record| bytes.extend(record));
+    bytes
+}
+
+/// Numbers that look random and are the same each time.
+struct Dice(u64);
+
+impl Dice {
+    fn roll(&mut self, below: u64) -> u64 {
+        self.0 = self.0.wrapping_mul(6364136223846793005).wrapping_add(1442695040888963407);
+        (self.0 >> 33) % below
+    }
+}
+
+#[test]
+fn case_c1() {
+    let after = go(&[], C1);
+    assert_eq!(after.text(), "done 5\nvalues 1\nu32 99\ntasks 0\n");
+    assert_eq!((after.run.outcome, after.run.finished, after.run.refusal), (Outcome::Done, 5, None));
+    assert_eq!(after.image(), NO_TASKS, "a zero-length image is saved as a lone header of zeros");
+}
+
+#[test]
+fn case_i1() {
+    let after = go(I1, &[0x0d]);
+    assert_eq!(after.text(), "done 1\nvalues 1\nu32 1\ntasks 1\ntask 0 0 Ab\n");
+    assert_eq!(after.image(), I1, "saving after loading gives the same bytes");
+    assert_eq!(test_image(after.image()), Ok(()));
+}
+
+#[test]
+fn a_task_is_created_and_found_again() {
+    let create = [
+        0x1b, 0, 3, 4, 1, b'S', b'u', b'm', 0x01, 0, 0, 0, 2, 0x04, 0, 1, 0x0d, 0x07,
+    ];
+    let first = go(I1, &create);
+    assert_eq!(first.text(), "done 4\nvalues 0\ntasks 2\ntask 0 0 Ab\ntask 1 0 Sum\n");
+    let again = go(first.image(), &[0x01, 0, 0, 0, 1, 0x11]);
+    assert_eq!(again.text(), "done 3\nvalues 1\nu32 2\ntasks 2\ntask 0 0 Ab\ntask 1 0 Sum\n", "its instructions ran");
+}
+
+#[test]
+fn a_refused_creation_leaves_all() {
+    let long = vec![0; 65_536];
+    for (image, program, line, refusal) in [
+        (I1, &[][..], "refused 1", refused(1, 0, 0)),
+        (I1, &long[..], "refused 28", refused(28, 0, 0)),
+        (&I1[..29], C1, "refused 25 14", refused(25, 14, 0)),
+    ] {
+        let after = go(image, program);
+        assert_eq!(after.text(), format!("{line}\nvalues 0\ntasks 0\n"));
+        assert_eq!((after.run.outcome, after.run.finished, after.run.refusal), (Outcome::Refused, 0, refusal));
+        assert_eq!(after.run.new_image, 0);
+        assert!(after.memory.iter().chain(&after.new_image).all(|&byte| byte == 0xAA));
+    }
+}
+
+#[test]
+fn a_refused_run_keeps_its_finished_save() {
+    let after = go(I1, &[0x0b, 0x14]);
+    assert_eq!(after.text(), "refused 3\nvalues 0\ntasks 1\ntask 0 0 Ab\n");
+    assert_eq!((after.run.outcome, after.run.finished, after.run.refusal), (Outcome::Refused, 1, refused(3, 0, 0)));
+    assert_eq!(after.image(), I1, "S_SAVE wrote it");
+    let none = go(I1, &[0x14]);
+    assert_eq!(none.run.new_image, 0, "a refused run is not saved by the host");
+    assert!(none.new_image.iter().all(|&byte| byte == 0xAA));
+}
+
+#[test]
+fn details_are_told() {
+    let after = go(&[], &[0x1b, 0, 6, 6, 0, 0x01, 0, 0, 0, 1, 0x01, 0, 0, 0, 9, 0x1d]);
+    assert_eq!(after.run.refusal, refused(14, 4, 6));
+    assert_eq!(after.text(), "refused 14 4 6\nvalues 0\ntasks 0\n");
+}
+
+#[test]
+fn a_paused_run_is_saved() {
+    for fuel in 0..5 {
+        let after = go_with(I1, C1, fuel, 65_536, 1_048_576, 4_096);
+        assert_eq!((after.run.outcome, after.run.finished), (Outcome::Paused, fuel));
+        assert_eq!(after.text(), format!("paused {fuel}\nvalues 0\ntasks 1\ntask 0 0 Ab\n"));
+        assert_eq!(after.image(), I1);
+    }
+}
+
+#[test]
+fn a_listing_without_room_is_measured() {
+    let whole = go(I1, C1).text();
+    for length in 0..whole.len() {
+        let after = go_with(I1, C1, 1_000_000, 65_536, 1_048_576, length);
+        assert_eq!(after.run.listing, Err(whole.len()));
+        assert_eq!((after.run.outcome, after.run.refusal), (Outcome::Done, None), "the run is done all the same");
+        assert_eq!(after.image(), I1, "and saved");
+    }
+    assert_eq!(go_with(I1, C1, 1_000_000, 65_536, 1_048_576, whole.len()).text(), whole);
+}
+
+#[test]
+fn a_save_without_room_is_refused() {
+    for length in 0..I1.len() {
+        let after = go_with(I1, C1, 1_000_000, 65_536, length, 4_096);
+        assert_eq!((after.run.outcome, after.run.refusal, after.run.new_image), (Outcome::Done, refused(24, 0, 0), 0));
+        assert!(after.new_image.iter().all(|&byte| byte == 0xAA));
+        assert_eq!(after.text(), "done 5\nvalues 1\nu32 99\ntasks 1\ntask 0 0 Ab\n");
+    }
+}
+
+#[test]
+fn memory_without_room_is_refused() {
+    let after = go_with(&[], &[0x1b, 0, 9, 4, 0], 10, 8, 64, 64);
+    assert_eq!(after.run.refusal, refused(23, 0, 0));
+    assert!(after.memory.iter().all(|&byte| byte == 0xAA));
+}
+
+#[test]
+fn damaged_images() {
+    let good = image_of(9, &[record(0, b"Ab", &[0x0d]), record(4, "Grüße".as_bytes(), &[]), record(8, b"", &[1, 2, 3])]);
+    assert_eq!(test_image(&good), Ok(()));
+    assert_eq!(go(&good, &[0x0c]).image(), good);
+    let mut damaged = 0;
+    let mut try_one = |image: &[u8]| {
+        let after = go(image, &[0x0c]);
+        match test_image(image) {
+            Ok(()) if image.is_empty() => assert_eq!(after.image(), NO_TASKS),
+            Ok(()) => assert_eq!(after.image(), image),
+            Err(place) => {
+                assert_eq!(after.run.refusal, refused(25, place, 0));
+                assert!(after.new_image.iter().all(|&byte| byte == 0xAA));
+                damaged += 1;
+            }
+        }
+    };
+    (0..good.len()).for_each(|length| try_one(&good[..length]));
+    for place in 0..good.len() {
+        for change in [1, 0x80, 0xFF] {
+            let mut image = good.clone();
+            image[place] ^= change;
+            try_one(&image);
+        }
+    }
+    assert!(damaged > good.len(), "most of them are damaged");
+}
+
+#[test]
+fn the_largest_table() {
+    let records: Vec<Vec<u8>> = (0..256).map(|id| record(id, &[b'x'; 128], &[0; 200])).collect();
+    let image = image_of(256, &records);
+    let after = go(&image, &[0x0d]);
+    assert_eq!(after.image(), image);
+    assert_eq!(after.text().lines().count(), 4 + 256);
+    let full = go(&image, &[0x1b, 0, 0, 4, 0, 0x01, 0, 0, 0, 1, 0x04, 0, 0, 0x07]);
+    assert_eq!(full.run.refusal, refused(20, 0, 0));
+}
+
+#[test]
+fn a_huge_listing() {
+    let mut program = vec![0x1b, 0xff, 0xff, 4, 0];
+    program.extend([0x14; 999]);
+    let after = go_with(&[], &program, 10_000, 1 << 26, 1 << 24, 1 << 27);
+    assert_eq!(after.run.listing, Ok("done 1000\nvalues 1000\n".len() + 1000 * (5 + 65_535 + 1) + "tasks 0\n".len()));
+    let short = go_with(&[], &program, 10_000, 65_536, 64, 1 << 20);
+    assert_eq!(short.run.listing, Err(after.run.listing.unwrap()));
+    let mut numbers = vec![0x1b, 0xff, 0xf0, 6, 1];
+    numbers.extend([0xff; 65_520]);
+    let vector = go_with(&[], &numbers, 10, 65_536, 64, 1 << 20);
+    assert_eq!(vector.text(), format!("done 1\nvalues 1\nvec{}\ntasks 0\n", " 4294967295".repeat(16_380)));
+    numbers[2] = 0xf4;
+    let cut = go_with(&[], &numbers, 10, 65_536, 64, 1 << 20);
+    assert_eq!(cut.run.refusal, refused(2, 0, 0), "the payload runs past the code");
+}
+
+#[test]
+fn the_longest_program() {
+    let program = vec![0x0c; 65_535];
+    let after = go(&[], &program);
+    assert_eq!(after.text(), "done 65535\nvalues 0\ntasks 0\n");
+    assert_eq!(admit(&program), Ok(vec![]));
+}
+
+#[test]
+fn admission() {
+    assert_eq!(admit(C1), Err((27, 16)));
+    assert_eq!(admit(&[]), Err((1, 0)));
+    assert_eq!(admit(&vec![0; 65_536]), Err((28, 0)));
+    assert_eq!(admit(&[0x01, 0, 0, 0, 1, 0x1b, 0, 1, 4, 1, b'a', 0x04, 0, 0]), Ok(b"NSC".to_vec()));
+    let most: Vec<u8> = [0x0d].repeat(1000);
+    assert_eq!(admit(&most), Ok(vec![b'N'; 1000]));
+    assert_eq!(admit(&[0x0d].repeat(1001)), Err((27, 1000)));
+}
+
+/// A program of real opcodes and of any bytes.
+fn some_program(dice: &mut Dice) -> Vec<u8> {
+    let mut program = Vec::new();
+    for _ in 0..dice.roll(40) + 1 {
+        match dice.roll(12) {
+            0..=3 => program.extend([0x01, 0, 0, 0, dice.roll(6) as u8]),
+            4 => program.extend([0x1b, 0, 4, [4, 6][dice.roll(2) as usize], 1, b'a', b'b', b'c', b'd']),
+            5 => program.extend([0x04, 0, 2, 0x0d, 0x12]),
+            6 => program.extend([0x1b, 0, 2, 4, 1, b'H', b'i', 0x01, 0, 0, 0, 3, 0x04, 0, 1, 0x0d, 0x07]),
+            _ => program.push(dice.roll(0x20) as u8),
+        }
+    }
+    program
+}
+
+#[test]
+fn as_runone_lists() {
+    let runone = std::env::var("RUNONE").expect("RUNONE names the program runone");
+    let mut dice = Dice(1);
+    for _ in 0..400 {
+        let program = some_program(&mut dice);
+        let mut child = std::process::Command::new(&runone)
+            .stdin(std::process::Stdio::piped())
+            .stdout(std::process::Stdio::piped())
+            .spawn()
+            .unwrap();
+        std::io::Write::write_all(&mut child.stdin.take().unwrap(), &program).unwrap();
+        let said = child.wait_with_output().unwrap().stdout;
+        let after = go(&[], &program);
+        assert_eq!(&after.listing[..after.run.listing.unwrap()], said, "{program:02x?}");
+    }
+}
+
+#[test]
+fn admitted_programs_keep_their_promise() {
+    let mut dice = Dice(7);
+    let mut seen = 0;
+    for _ in 0..20_000 {
+        let program = some_program(&mut dice);
+        if admit(&program).is_ok() {
+            seen += 1;
+            let after = go_with(I1, &program, 1_000, 4_096, 4_096, 8_192);
+            let number = after.run.refusal.map_or(0, |refusal| refusal.number);
+            assert!(!matches!(number, 2..=6 | 10), "{number} on {program:02x?}");
+        }
+    }
+    assert!(seen > 100, "{seen} were admitted");
+}
+
+#[test]
+fn any_bytes() {
+    let mut dice = Dice(3);
+    for _ in 0..20_000 {
+        let program: Vec<u8> = (0..dice.roll(60)).map(|_| dice.roll(256) as u8).collect();
+        let image: Vec<u8> = (0..dice.roll(40)).map(|_| dice.roll(4) as u8).collect();
+        let after = go_with(&image, &program, dice.roll(200), dice.roll(64) as usize, dice.roll(64) as usize, dice.roll(256) as usize);
+        assert!(after.run.finished <= 200);
+        let _ = admit(&program);
+    }
+}
+
+#[test]
+fn several_threads_with_2_mb_stacks() {
+    let threads: Vec<_> = (0..8)
+        .map(|number| {
+            std::thread::Builder::new()
+                .stack_size(2 << 20)
+                .spawn(move || {
+                    let records: Vec<Vec<u8>> = (0..=number).map(|id| record(id, b"task", &[0x0d])).collect();
+                    let image = image_of(number + 1, &records);
+                    let mut dice = Dice(number as u64);
+                    for _ in 0..50 {
+                        let after = go_with(&image, C1, 1_000_000, 65_536, 65_536, 65_536);
+                        assert_eq!(after.image(), image);
+                        assert!(after.text().starts_with(&format!("done 5\nvalues 1\nu32 99\ntasks {}\n", number + 1)));
+                        assert_eq!(admit(C1), Err((27, 16)));
+                        assert_eq!(test_image(&image), Ok(()));
+                        let program = some_program(&mut dice);
+                        let one = go_with(&image, &program, 1_000, 4_096, 65_536, 65_536);
+                        let two = go_with(&image, &program, 1_000, 4_096, 65_536, 65_536);
+                        assert_eq!((one.run, one.memory, one.new_image, one.listing), (two.run, two.memory, two.new_image, two.listing));
+                    }
+                })
+                .unwrap()
+        })
+        .collect();
+    threads.into_iter().for_each(|thread| thread.join().unwrap());
+}
