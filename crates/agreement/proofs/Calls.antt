@@ -24,6 +24,7 @@ use Rattle.calls.specs.declared.Outcome.the-variants as outcome
 use Rattle.runs.specs.World.{World, place}
 use Rattle.runs.specs.Run.{End, run}
 use Rattle.vm.specs.Calls.{may-start, may-continue, fresh, allowed, ended, report, Reported, at-end, with-machine, is-sound, call-with, call, start, go-on}
+use Rattle.vm.specs.declared.Verb.the-variants.{Start}
 use Rattle.vm.specs.Reads.{is-done, readable, value-at, value-read}
 use Rattle.unbox.specs.Unbox as unbox
 use Rattle.soundness.specs.Sound.{Sound}
@@ -170,7 +171,7 @@ begun w = with-machine w (fresh (w .machine))
 
 begun-sound : (w : World) → Sound w → Sound (begun w)
 unfolding allowed
-begun-sound w s = allowed-sound w true true s
+begun-sound w s = allowed-sound w true Start s
 
 start-is : (fuel : ℕ) (w : World) → Ready w → start fuel w ≡ at-end fuel (run fuel (begun w))
 unfolding call call-with allowed

@@ -1,6 +1,6 @@
 // Start and continue: what they begin with, the run, and what they make of its end.
 ghost use mathlib.Core.Path.{_≡_};
-ghost use Rattle.vm.specs.Calls.{may-start, may-continue, fresh, allowed, phased, ended, spent, report, not-allowed, reported, call, start, go-on};
+ghost use Rattle.vm.specs.Calls.{may-start, may-continue, fresh, beginning, allowed, phased, ended, spent, report, not-allowed, reported, call};
 ghost use Rattle.runs.specs.World.{world};
 use calls::Outcome;
 use calls::Ran;
@@ -11,6 +11,7 @@ use sound::sound;
 use storage::Task;
 use vm::Allowed;
 use vm::Report;
+use vm::Verb;
 
 // Whether a run may start: on a new machine, or after one that is done.
 fn may_start(phase: Phase) -> bool
@@ -46,22 +47,29 @@ fn fresh(machine: Machine) -> Machine
     started
 }
 
-// What a call begins with, where the record is sound and its phase allows it.
-fn allowed(machine: Machine, sound: bool, starts: bool) -> Allowed
-    ensures { λ r. ⌜ r ≡ allowed machine sound starts ⌝ }
+// What a call begins with, where its phase allows it.
+fn beginning(machine: Machine, verb: Verb) -> Allowed
+    ensures { λ r. ⌜ r ≡ beginning verb machine ⌝ }
 {
     let phase = machine.phase;
-    if sound {
-        if starts {
-            return Allowed {
-                allowed: may_start(phase),
-                machine: fresh(machine),
-            };
-        }
-        return Allowed {
+    match verb {
+        Verb::Start => Allowed {
+            allowed: may_start(phase),
+            machine: fresh(machine),
+        },
+        Verb::Continue => Allowed {
             allowed: may_continue(phase),
             machine,
-        };
+        },
+    }
+}
+
+// The same where the record is sound; else no call is allowed.
+fn allowed(machine: Machine, sound: bool, verb: Verb) -> Allowed
+    ensures { λ r. ⌜ r ≡ allowed machine sound verb ⌝ }
+{
+    if sound {
+        return beginning(machine, verb);
     }
     Allowed {
         allowed: false,
@@ -133,8 +141,8 @@ fn not_allowed(machine: Machine) -> Report
     }
 }
 
-// A run that starts, or goes on, where it is allowed.
-fn call(
+// A run that starts, or goes on where it paused, if that is allowed.
+pub fn call(
     table: &mut [Task],
     stack: &mut [u64; 1000],
     memory: &mut [u8],
@@ -142,48 +150,16 @@ fn call(
     ends: &mut [u32; 1024],
     save: &mut [u8],
     machine: Machine,
+    verb: Verb,
     fuel: u64,
-    starts: bool,
 ) -> Report
-    ensures { λ r. ⌜ reported r (now (table .exit)) (now (stack .exit)) (now (memory .exit)) (now (pool .exit)) (now (ends .exit)) (now (save .exit)) ≡ call starts fuel (world machine (now (table .entry)) (now (stack .entry)) (now (memory .entry)) (now (pool .entry)) (now (ends .entry)) (now (save .entry))) ⌝ }
+    ensures { λ r. ⌜ reported r (now (table .exit)) (now (stack .exit)) (now (memory .exit)) (now (pool .exit)) (now (ends .exit)) (now (save .exit)) ≡ call verb fuel (world machine (now (table .entry)) (now (stack .entry)) (now (memory .entry)) (now (pool .entry)) (now (ends .entry)) (now (save .entry))) ⌝ }
 {
     let good = sound(table, memory, pool, ends, save, machine);
-    let begun = allowed(machine, good, starts);
+    let begun = allowed(machine, good, verb);
     if begun.allowed {
         let ran = runs::drive(table, stack, memory, pool, ends, save, begun.machine, fuel);
         return report(fuel, ran);
     }
     not_allowed(machine)
-}
-
-// Starts a run.
-pub fn start(
-    table: &mut [Task],
-    stack: &mut [u64; 1000],
-    memory: &mut [u8],
-    pool: &mut [u8],
-    ends: &mut [u32; 1024],
-    save: &mut [u8],
-    machine: Machine,
-    fuel: u64,
-) -> Report
-    ensures { λ r. ⌜ reported r (now (table .exit)) (now (stack .exit)) (now (memory .exit)) (now (pool .exit)) (now (ends .exit)) (now (save .exit)) ≡ start fuel (world machine (now (table .entry)) (now (stack .entry)) (now (memory .entry)) (now (pool .entry)) (now (ends .entry)) (now (save .entry))) ⌝ }
-{
-    call(table, stack, memory, pool, ends, save, machine, fuel, true)
-}
-
-// Goes on with a paused run.
-pub fn go_on(
-    table: &mut [Task],
-    stack: &mut [u64; 1000],
-    memory: &mut [u8],
-    pool: &mut [u8],
-    ends: &mut [u32; 1024],
-    save: &mut [u8],
-    machine: Machine,
-    fuel: u64,
-) -> Report
-    ensures { λ r. ⌜ reported r (now (table .exit)) (now (stack .exit)) (now (memory .exit)) (now (pool .exit)) (now (ends .exit)) (now (save .exit)) ≡ go-on fuel (world machine (now (table .entry)) (now (stack .entry)) (now (memory .entry)) (now (pool .entry)) (now (ends .entry)) (now (save .entry))) ⌝ }
-{
-    call(table, stack, memory, pool, ends, save, machine, fuel, false)
 }

@@ -19,6 +19,7 @@ use Rattle.vm.specs.declared.CreateResult.{CreateResult}
 use Rattle.vm.specs.declared.CreateResult.the-variants.{NotCreated}
 use Rattle.vm.specs.declared.Allowed.{Allowed}
 use Rattle.vm.specs.Sound.{sound-record, sound-world}
+use Rattle.vm.specs.declared.Verb.the-variants.{Start}
 use Rattle.vm.specs.Calls.{may-start, allowed, not-allowed, Reported, reports, is-sound, call-with, call, start}
 use Rattle.vm.specs.Creation.{PreparedIn, prepare-fit, prepare, Made, create-as, create}
 use Rattle.vm.specs.Reads.{saved-to, not-saved, host-save}
@@ -74,7 +75,7 @@ module _ (fuel : ℕ) (stack memory pool ends save image program lines : List �
 
 -- ---- a machine that does not start, and one that no save takes
 
-not-begun : (sound : Bool) → allowed stopped sound true .allowed ≡ false
+not-begun : (sound : Bool) → allowed stopped sound Start .allowed ≡ false
 unfolding allowed may-start
 not-begun true = refl
 not-begun false = refl
@@ -87,7 +88,7 @@ stays-stopped : (fuel : ℕ) (table : List Task) (stack memory pool ends save : 
     → start fuel (world stopped table stack memory pool ends save) ≡ reports (not-allowed stopped) (world stopped table stack memory pool ends save)
 unfolding call
 stays-stopped fuel table stack memory pool ends save =
-    not-called fuel (world stopped table stack memory pool ends save) (allowed stopped (is-sound (world stopped table stack memory pool ends save)) true)
+    not-called fuel (world stopped table stack memory pool ends save) (allowed stopped (is-sound (world stopped table stack memory pool ends save)) Start)
     (not-begun (is-sound (world stopped table stack memory pool ends save)))
 
 too-many : (slots count : ℕ) (test : Bool) → eqb slots 256 ≡ test → sound-counts slots 257 count ≡ false

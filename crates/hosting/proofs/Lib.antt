@@ -1,4 +1,3 @@
 pub mod Values
-pub mod Owned
 pub mod Behind
 pub mod Performing

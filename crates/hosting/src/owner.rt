@@ -7,6 +7,7 @@ use crate::outcomes::machine_of;
 use crate::outcomes::performed;
 use crate::outcomes::to_save;
 use storage::Task;
+use vm::Verb;
 
 // Creates a machine over an image's tasks, starts it, saves it where the run was not refused, and lists its tasks.
 fn perform(
@@ -25,7 +26,17 @@ fn perform(
 {
     let creation = creating::create(table, pool, ends, image, program);
     let begun = machine_of(creation);
-    let report = calling::start(table, stack, memory, pool, ends, save, begun, fuel);
+    let report = calling::call(
+        table,
+        stack,
+        memory,
+        pool,
+        ends,
+        save,
+        begun,
+        Verb::Start,
+        fuel,
+    );
     let saving = to_save(report);
     let saved = saving::save(table, stack, memory, pool, ends, save, saving);
     let told = put_tasks(table, lines);

@@ -13,6 +13,8 @@ use Rattle.calls.specs.declared.Outcome.the-variants.{Done, Paused, Refused}
 use Rattle.runs.specs.World.{World, world}
 use Rattle.runs.specs.Run.{End, end-at, run}
 use Rattle.vm.specs.Calls.{may-continue, allowed, phased, ended, report, not-allowed, Reported, reports, at-end, with-machine, is-sound, call-with, call, start, go-on}
+use Rattle.vm.specs.declared.Verb.{Verb}
+use Rattle.vm.specs.declared.Verb.the-variants.{Start, Continue}
 use Rattle.vm.specs.declared.Allowed.{Allowed}
 use Rattle.soundness.specs.Sound.{Sound}
 use Rattle.soundness.specs.After.{world-after}
@@ -66,31 +68,31 @@ continued a b v =
 -- a continue on a paused machine that is sound
 go-on-is : (b : ℕ) (v : World) → is-sound (rephased phase.Paused v) ≡ true → go-on b (rephased phase.Paused v) ≡ at-end b (run b (rephased phase.Paused v))
 unfolding call call-with allowed may-continue
-go-on-is b v test = ap (λ (t : Bool). call-with b (rephased phase.Paused v) (allowed (phased (v .machine) phase.Paused) t false)) test
+go-on-is b v test = ap (λ (t : Bool). call-with b (rephased phase.Paused v) (allowed (phased (v .machine) phase.Paused) t Continue)) test
 
 -- what a paused run leaves is that machine
 left-paused : (a : ℕ) (v : World) → world-after (at-end a (end-at v 0 Paused)) ≡ rephased phase.Paused v
 unfolding report ended
 left-paused a v = refl
 
-module _ (starts : Bool) (w : World) where
+module _ (verb : Verb) (w : World) where
   abbrev allows : Allowed
-  allows = allowed (w .machine) (is-sound w) starts
+  allows = allowed (w .machine) (is-sound w) verb
 
   -- the world that the call's run begins with
   abbrev begins : World
   begins = with-machine w (allows .machine)
 
-  allowed-is : (n : ℕ) → allows .allowed ≡ true → call starts n w ≡ at-end n (run n begins)
+  allowed-is : (n : ℕ) → allows .allowed ≡ true → call verb n w ≡ at-end n (run n begins)
   unfolding call call-with
   allowed-is n yes-it-is = simp yes-it-is
 
-  refused-is : (n : ℕ) → allows .allowed ≡ false → call starts n w ≡ reports (not-allowed (w .machine)) w
+  refused-is : (n : ℕ) → allows .allowed ≡ false → call verb n w ≡ reports (not-allowed (w .machine)) w
   unfolding call call-with
   refused-is n no-it-is-not = simp no-it-is-not
 
   -- a call that pauses was allowed
-  was-allowed : (n : ℕ) (b : Bool) → allows .allowed ≡ b → call starts n w .report .outcome ≡ Paused → allows .allowed ≡ true
+  was-allowed : (n : ℕ) (b : Bool) → allows .allowed ≡ b → call verb n w .report .outcome ≡ Paused → allows .allowed ≡ true
   unfolding outcome-number
   was-allowed n true e paused = e
   was-allowed n false e paused =
@@ -100,7 +102,7 @@ module _ (starts : Bool) (w : World) where
   unfolding report
   run-outcome n = refl
 
-  module _ (sound : Sound w) (a b : ℕ) (paused : call starts a w .report .outcome ≡ Paused) where
+  module _ (sound : Sound w) (a b : ℕ) (paused : call verb a w .report .outcome ≡ Paused) where
     allowance : allows .allowed ≡ true
     allowance = was-allowed a (allows .allowed) refl paused
 
@@ -113,32 +115,32 @@ module _ (starts : Bool) (w : World) where
         paused-end a begins (run a begins) (finished a begins)
         (sym (run-outcome a) ∙ ap (λ (r : Reported). r .report .outcome) (sym (allowed-is a allowance)) ∙ paused)
 
-    first-is : call starts a w ≡ at-end a (end-at there 0 Paused)
+    first-is : call verb a w ≡ at-end a (end-at there 0 Paused)
     first-is = allowed-is a allowance ∙ ap (at-end a) run-pauses
 
-    left-is : world-after (call starts a w) ≡ rephased phase.Paused there
+    left-is : world-after (call verb a w) ≡ rephased phase.Paused there
     left-is = ap world-after first-is ∙ left-paused a there
 
     still-sound : is-sound (rephased phase.Paused there) ≡ true
-    still-sound = subst (λ (v : World). is-sound v ≡ true) left-is (call-sound starts a w sound .tested)
+    still-sound = subst (λ (v : World). is-sound v ≡ true) left-is (call-sound verb a w sound .tested)
 
-    second-is : go-on b (world-after (call starts a w)) ≡ at-end b (end-as phase.Paused (run b there))
+    second-is : go-on b (world-after (call verb a w)) ≡ at-end b (end-as phase.Paused (run b there))
     second-is = ap (go-on b) left-is ∙ go-on-is b there still-sound ∙ ap (at-end b) (run-phase phase.Paused b there)
 
-    whole-is : call starts (a + b) w ≡ at-end (a + b) (run b there)
+    whole-is : call verb (a + b) w ≡ at-end (a + b) (run b there)
     whole-is = allowed-is (a + b) allowance ∙ ap (at-end (a + b)) (fuel a b begins there run-pauses)
 
     -- a call with fuel a that pauses, and a continue with fuel b after it, are one call with fuel a + b
-    pub fuel-of-calls : Together (call starts a w) (go-on b (world-after (call starts a w))) (call starts (a + b) w)
+    pub fuel-of-calls : Together (call verb a w) (go-on b (world-after (call verb a w))) (call verb (a + b) w)
     fuel-of-calls =
-        subst (λ (r : Reported). Together r (go-on b (world-after (call starts a w))) (call starts (a + b) w)) (sym first-is)
-        (subst (λ (r : Reported). Together (at-end a (end-at there 0 Paused)) r (call starts (a + b) w)) (sym second-is)
+        subst (λ (r : Reported). Together r (go-on b (world-after (call verb a w))) (call verb (a + b) w)) (sym first-is)
+        (subst (λ (r : Reported). Together (at-end a (end-at there 0 Paused)) r (call verb (a + b) w)) (sym second-is)
         (subst (λ (r : Reported). Together (at-end a (end-at there 0 Paused)) (at-end b (end-as phase.Paused (run b there))) r) (sym whole-is) (continued a b there)))
 
 -- a start that pauses, then a continue
 pub start-then-go-on : (a b : ℕ) (w : World) → Sound w → start a w .report .outcome ≡ Paused → Together (start a w) (go-on b (world-after (start a w))) (start (a + b) w)
-start-then-go-on a b w sound paused = fuel-of-calls true w sound a b paused
+start-then-go-on a b w sound paused = fuel-of-calls Start w sound a b paused
 
 -- a continue that pauses, then another
 pub go-on-then-go-on : (a b : ℕ) (w : World) → Sound w → go-on a w .report .outcome ≡ Paused → Together (go-on a w) (go-on b (world-after (go-on a w))) (go-on (a + b) w)
-go-on-then-go-on a b w sound paused = fuel-of-calls false w sound a b paused
+go-on-then-go-on a b w sound paused = fuel-of-calls Continue w sound a b paused

@@ -16,6 +16,7 @@ use Rattle.refusals.proofs.Either.{either}
 use Rattle.vm.specs.Calls.{spent, allowed, with-machine, is-sound, call-with, call}
 use Rattle.vm.specs.Reads.{SavedTo, host-save}
 use Rattle.vm.specs.Creation.{create}
+use Rattle.vm.specs.declared.Verb.{Verb}
 use Rattle.vm.specs.declared.Allowed.{Allowed}
 use Rattle.vm.specs.declared.CreateResult.the-variants.{Created}
 use Rattle.soundness.specs.Sound.{Sound}
@@ -88,14 +89,14 @@ living-after-run fuel w sound = living (way-of fuel w .instructions) w (run fuel
 -- ---- calls
 
 -- those of a call's run; a call that is not allowed runs nothing
-abbrev pub allowance : Bool → World → Allowed
-allowance starts w = allowed (w .machine) (is-sound w) starts
+abbrev pub allowance : Verb → World → Allowed
+allowance verb w = allowed (w .machine) (is-sound w) verb
 
-unfoldable pub call-creates : Bool → ℕ → World → ℕ
-call-creates starts fuel w = cond (allowance starts w .allowed) (run-creates fuel (with-machine w (allowance starts w .machine))) 0
+unfoldable pub call-creates : Verb → ℕ → World → ℕ
+call-creates verb fuel w = cond (allowance verb w .allowed) (run-creates fuel (with-machine w (allowance verb w .machine))) 0
 
-unfoldable pub call-deletes : Bool → ℕ → World → ℕ
-call-deletes starts fuel w = cond (allowance starts w .allowed) (run-deletes fuel (with-machine w (allowance starts w .machine))) 0
+unfoldable pub call-deletes : Verb → ℕ → World → ℕ
+call-deletes verb fuel w = cond (allowance verb w .allowed) (run-deletes fuel (with-machine w (allowance verb w .machine))) 0
 
 with-living : (b : Bool) (fuel : ℕ) (w : World) (a : Allowed) → a .allowed ≡ b → Sound w → Sound (with-machine w (a .machine))
     → living-of (call-with fuel w a .table) + cond (a .allowed) (run-deletes fuel (with-machine w (a .machine))) 0 ≡ living-of (w .table) + cond (a .allowed) (run-creates fuel (with-machine w (a .machine))) 0
@@ -104,24 +105,24 @@ with-living true fuel w a e sound begins = simp e (living-after-run fuel (with-m
 with-living false fuel w a e sound begins = simp e
 
 -- the same of a start or a continue
-pub living-after-call : (starts : Bool) (fuel : ℕ) (w : World) → Sound w
-    → living-of (call starts fuel w .table) + call-deletes starts fuel w ≡ living-of (w .table) + call-creates starts fuel w
+pub living-after-call : (verb : Verb) (fuel : ℕ) (w : World) → Sound w
+    → living-of (call verb fuel w .table) + call-deletes verb fuel w ≡ living-of (w .table) + call-creates verb fuel w
 unfolding call call-creates call-deletes
-living-after-call starts fuel w sound = with-living (allowance starts w .allowed) fuel w (allowance starts w) refl sound (allowed-sound w (is-sound w) starts sound)
+living-after-call verb fuel w sound = with-living (allowance verb w .allowed) fuel w (allowance verb w) refl sound (allowed-sound w (is-sound w) verb sound)
 
 -- ---- from creation on
 
 -- what a host does with a machine, with the finished T_CREATEs and T_DELETEs so far: starts and continues, and saves between them
 pub data History (first : World) : ℕ → ℕ → World → Type 0 where
   new : History first 0 0 first
-  called : (created deleted : ℕ) (w : World) (starts : Bool) (fuel : ℕ) → History first created deleted w
-      → History first (created + call-creates starts fuel w) (deleted + call-deletes starts fuel w) (world-after (call starts fuel w))
+  called : (created deleted : ℕ) (w : World) (verb : Verb) (fuel : ℕ) → History first created deleted w
+      → History first (created + call-creates verb fuel w) (deleted + call-deletes verb fuel w) (world-after (call verb fuel w))
   saved : (created deleted : ℕ) (w : World) → History first created deleted w → History first created deleted (world-saved (host-save w))
 
 -- a machine stays sound
 pub history-sound : (first w : World) (created deleted : ℕ) → Sound first → History first created deleted w → Sound w
 history-sound first _ _ _ sound new = sound
-history-sound first _ _ _ sound (called c d w starts fuel before) = call-sound starts fuel w (history-sound first w c d sound before)
+history-sound first _ _ _ sound (called c d w verb fuel before) = call-sound verb fuel w (history-sound first w c d sound before)
 history-sound first _ _ _ sound (saved c d w before) = save-sound w (history-sound first w c d sound before)
 
 saved-table : (w : World) → host-save w .table ≡ w .table
@@ -131,9 +132,9 @@ saved-table w = either (λ (r : SavedTo). r .table ≡ w .table) (is-sound w) _ 
 -- the living tasks after all this, and those deleted, are the living ones at first, and those created
 pub history-living : (first w : World) (created deleted : ℕ) → Sound first → History first created deleted w → living-of (w .table) + deleted ≡ living-of (first .table) + created
 history-living first _ _ _ sound new = refl
-history-living first _ _ _ sound (called c d w starts fuel before) =
+history-living first _ _ _ sound (called c d w verb fuel before) =
     let s = history-sound first w c d sound before in
-    let one = living-after-call starts fuel w s in
+    let one = living-after-call verb fuel w s in
     let rest = history-living first w c d sound before in
     omega (arith, one, rest)
 history-living first _ _ _ sound (saved c d w before) =

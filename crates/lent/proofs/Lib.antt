@@ -3,4 +3,5 @@ pub mod Lent
 pub mod Landed
 pub mod Opened
 pub mod Rest
+pub mod Shut
 pub mod Slots

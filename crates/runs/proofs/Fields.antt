@@ -19,6 +19,7 @@ use types.Part.{Part, whole, sub, look-in}
 use lib.Dec.{T as Holds}
 use denote.Laws.{Is}
 use denote.Struct.Laws as struct
+use Rattle.lent.proofs.Shut.{Shut}
 use Rattle.storage.proofs.Records.{R, vals as task-vals, val as task-val}
 use Rattle.core.specs.declared.Machine.{Machine}
 use Rattle.core.proofs.Machine as machine
@@ -33,48 +34,53 @@ use Rattle.calls.specs.declared.Gone.{Gone}
 use Rattle.calls.proofs.Gone as gone
 use Rattle.calls.proofs.Gone.Laws as gone-laws
 use Rattle.calls.proofs.Went as went
-use Rattle.runs.proofs.Values.{machine-val, machine-vals, change-val, change-vals, change-ty, went-val, went-vals, acted-val, acted-vals, acted-ty, gone-val, gone-vals, gone-ty}
+use Rattle.runs.proofs.Values.{machine-shut, machine-vals, change-shut, change-vals, went-shut, went-vals, acted-shut, acted-vals, gone-shut, gone-vals}
+open Shut machine-shut using (val as machine-val)
+open Shut change-shut using (val as change-val, ty as change-ty)
+open Shut went-shut using (val as went-val)
+open Shut acted-shut using (val as acted-val, ty as acted-ty)
+open Shut gone-shut using (val as gone-val, ty as gone-ty)
 
 -- ---- their fields
 
 -- of a machine
 pub entries-fit : (m : Machine) → Is machine.the-row m (machine-vals m) → m .entries < 2 ^ 64
-unfolding machine-val
+unfolding machine-shut
 entries-fit m is = struct.owed machine.the-type machine-laws.the-laws m (machine-vals m) is .1 .1 .1 .1 .1 .1 .0 .1
 
 pub next-id-fits : (m : Machine) → Is machine.the-row m (machine-vals m) → m .«next_id» < 2 ^ 32
-unfolding machine-val
+unfolding machine-shut
 next-id-fits m is = struct.owed machine.the-type machine-laws.the-laws m (machine-vals m) is .1 .1 .1 .1 .1 .1 .1 .0 .1
 
 -- of a change
 pub state-fits : (c : Change) → Is change.the-row c (change-vals c) → c .state < 2 ^ 32
-unfolding change-val
+unfolding change-shut
 state-fits c is = struct.owed change.the-type change-laws.the-laws c (change-vals c) is .1 .1 .0 .1
 
 pub task-is : (c : Change) → Is change.the-row c (change-vals c) → Is R (c .task) (task-vals (c .task))
-unfolding change-val
+unfolding change-shut
 task-is c is = struct.owed change.the-type change-laws.the-laws c (change-vals c) is .1 .1 .1 .0
 
 -- of an answer
 pub went-is : (a : Acted) → Is acted.the-row a (acted-vals a) → Is went.the-row (a .went) (went-vals (a .went))
-unfolding acted-val went-val
+unfolding acted-shut went-shut
 went-is a is = struct.owed acted.the-type acted-laws.the-laws a (acted-vals a) is .0
 
 pub change-is : (a : Acted) → Is acted.the-row a (acted-vals a) → Is change.the-row (a .change) (change-vals (a .change))
-unfolding acted-val change-val
+unfolding acted-shut change-shut
 change-is a is = struct.owed acted.the-type acted-laws.the-laws a (acted-vals a) is .1 .0
 
 -- of a machine on its way
 pub machine-is : (g : Gone) → Is gone.the-row g (gone-vals g) → Is machine.the-row (g .machine) (machine-vals (g .machine))
-unfolding gone-val machine-val
+unfolding gone-shut machine-shut
 machine-is g is = struct.owed gone.the-type gone-laws.the-laws g (gone-vals g) is .0
 
 pub left-fits : (g : Gone) → Is gone.the-row g (gone-vals g) → g .left < 2 ^ 64
-unfolding gone-val
+unfolding gone-shut
 left-fits g is = struct.owed gone.the-type gone-laws.the-laws g (gone-vals g) is .1 .0 .1
 
 pub slot-fits : (g : Gone) → Is gone.the-row g (gone-vals g) → g .slot < 2 ^ 64
-unfolding gone-val
+unfolding gone-shut
 slot-fits g is = struct.owed gone.the-type gone-laws.the-laws g (gone-vals g) is .1 .1 .1 .1 .0 .1
 
 -- ---- an operand that reads one
@@ -97,58 +103,58 @@ module _ {M : Type 1} {𝓤 : URA M} {H : Heap 𝓤} {A : Atoms 𝓤} {K : Type 
 
   -- of a machine on its way
   pub take-machine : K → (i n : ℕ) (g : Gone) {l : ℕ} → spotOf 𝓤 H E i ≡ (gone-ty, l, 0) → nth 𝓤 H A n Γ ≡ ‵ (fat fullShare gone-ty l 0 (gone-val g)) → Opd K W Γ E (copy (place i (field 0 ∷ []))) (machine-val (g .machine))
-  unfolding gone-val gone-ty machine-val
+  unfolding gone-shut machine-shut
   take-machine t i n g at holds = taken t 0 i n refl at holds
 
   pub take-left : K → (i n : ℕ) (g : Gone) {l : ℕ} → spotOf 𝓤 H E i ≡ (gone-ty, l, 0) → nth 𝓤 H A n Γ ≡ ‵ (fat fullShare gone-ty l 0 (gone-val g)) → Opd K W Γ E (copy (place i (field 1 ∷ []))) (vint w64 (g .left))
-  unfolding gone-val gone-ty
+  unfolding gone-shut
   take-left t i n g at holds = taken t 1 i n refl at holds
 
   pub take-running : K → (i n : ℕ) (g : Gone) {l : ℕ} → spotOf 𝓤 H E i ≡ (gone-ty, l, 0) → nth 𝓤 H A n Γ ≡ ‵ (fat fullShare gone-ty l 0 (gone-val g)) → Opd K W Γ E (copy (place i (field 2 ∷ []))) (vbool (g .running))
-  unfolding gone-val gone-ty
+  unfolding gone-shut
   take-running t i n g at holds = taken t 2 i n refl at holds
 
   pub take-saves : K → (i n : ℕ) (g : Gone) {l : ℕ} → spotOf 𝓤 H E i ≡ (gone-ty, l, 0) → nth 𝓤 H A n Γ ≡ ‵ (fat fullShare gone-ty l 0 (gone-val g)) → Opd K W Γ E (copy (place i (field 3 ∷ []))) (vbool (g .saves))
-  unfolding gone-val gone-ty
+  unfolding gone-shut
   take-saves t i n g at holds = taken t 3 i n refl at holds
 
   pub take-slot : K → (i n : ℕ) (g : Gone) {l : ℕ} → spotOf 𝓤 H E i ≡ (gone-ty, l, 0) → nth 𝓤 H A n Γ ≡ ‵ (fat fullShare gone-ty l 0 (gone-val g)) → Opd K W Γ E (copy (place i (field 4 ∷ []))) (vint w64 (g .slot))
-  unfolding gone-val gone-ty
+  unfolding gone-shut
   take-slot t i n g at holds = taken t 4 i n refl at holds
 
   -- of the machine in it
   pub take-entries : K → (i n : ℕ) (g : Gone) {l : ℕ} → spotOf 𝓤 H E i ≡ (gone-ty, l, 0) → nth 𝓤 H A n Γ ≡ ‵ (fat fullShare gone-ty l 0 (gone-val g)) → Opd K W Γ E (copy (place i (field 0 ∷ field 6 ∷ []))) (vint w64 (g .machine .entries))
-  unfolding gone-val gone-ty
+  unfolding gone-shut
   take-entries t i n g at holds = taken-in t 0 6 i n refl refl refl at holds
 
   pub take-next-id : K → (i n : ℕ) (g : Gone) {l : ℕ} → spotOf 𝓤 H E i ≡ (gone-ty, l, 0) → nth 𝓤 H A n Γ ≡ ‵ (fat fullShare gone-ty l 0 (gone-val g)) → Opd K W Γ E (copy (place i (field 0 ∷ field 7 ∷ []))) (vint w32 (g .machine .«next_id»))
-  unfolding gone-val gone-ty
+  unfolding gone-shut
   take-next-id t i n g at holds = taken-in t 0 7 i n refl refl refl at holds
 
   -- of an answer
   pub take-went : K → (i n : ℕ) (a : Acted) {l : ℕ} → spotOf 𝓤 H E i ≡ (acted-ty, l, 0) → nth 𝓤 H A n Γ ≡ ‵ (fat fullShare acted-ty l 0 (acted-val a)) → Opd K W Γ E (copy (place i (field 0 ∷ []))) (went-val (a .went))
-  unfolding acted-val acted-ty went-val
+  unfolding acted-shut went-shut
   take-went t i n a at holds = taken t 0 i n refl at holds
 
   pub take-change : K → (i n : ℕ) (a : Acted) {l : ℕ} → spotOf 𝓤 H E i ≡ (acted-ty, l, 0) → nth 𝓤 H A n Γ ≡ ‵ (fat fullShare acted-ty l 0 (acted-val a)) → Opd K W Γ E (copy (place i (field 1 ∷ []))) (change-val (a .change))
-  unfolding acted-val acted-ty change-val
+  unfolding acted-shut change-shut
   take-change t i n a at holds = taken t 1 i n refl at holds
 
   -- of a change
   pub take-puts : K → (i n : ℕ) (c : Change) {l : ℕ} → spotOf 𝓤 H E i ≡ (change-ty, l, 0) → nth 𝓤 H A n Γ ≡ ‵ (fat fullShare change-ty l 0 (change-val c)) → Opd K W Γ E (copy (place i (field 0 ∷ []))) (vbool (c .puts))
-  unfolding change-val change-ty
+  unfolding change-shut
   take-puts t i n c at holds = taken t 0 i n refl at holds
 
   pub take-states : K → (i n : ℕ) (c : Change) {l : ℕ} → spotOf 𝓤 H E i ≡ (change-ty, l, 0) → nth 𝓤 H A n Γ ≡ ‵ (fat fullShare change-ty l 0 (change-val c)) → Opd K W Γ E (copy (place i (field 1 ∷ []))) (vbool (c .states))
-  unfolding change-val change-ty
+  unfolding change-shut
   take-states t i n c at holds = taken t 1 i n refl at holds
 
   pub take-state : K → (i n : ℕ) (c : Change) {l : ℕ} → spotOf 𝓤 H E i ≡ (change-ty, l, 0) → nth 𝓤 H A n Γ ≡ ‵ (fat fullShare change-ty l 0 (change-val c)) → Opd K W Γ E (copy (place i (field 2 ∷ []))) (vint w32 (c .state))
-  unfolding change-val change-ty
+  unfolding change-shut
   take-state t i n c at holds = taken t 2 i n refl at holds
 
   pub take-task : K → (i n : ℕ) (c : Change) {l : ℕ} → spotOf 𝓤 H E i ≡ (change-ty, l, 0) → nth 𝓤 H A n Γ ≡ ‵ (fat fullShare change-ty l 0 (change-val c)) → Opd K W Γ E (copy (place i (field 3 ∷ []))) (task-val (c .task))
-  unfolding change-val change-ty
+  unfolding change-shut
   take-task t i n c at holds = taken t 3 i n refl at holds
 
 -- ---- a test's outcome

@@ -23,6 +23,8 @@ use Rattle.runs.specs.Run.{End, end-at}
 use Rattle.runs.proofs.Settled.{current-changed}
 use Rattle.vm.specs.Calls.{may-start, may-continue, fresh, allowing, allowed, ended, report, Reported, reports, not-allowed, with-machine, is-sound, call-with, call}
 use Rattle.vm.specs.Calls as calls
+use Rattle.vm.specs.declared.Verb.{Verb}
+use Rattle.vm.specs.declared.Verb.the-variants.{Start, Continue}
 use Rattle.vm.specs.Reads.{host-saved, SavedTo, saved-to, host-save}
 use Rattle.labels.specs.declared.Kind.{Kind}
 use Rattle.labels.specs.Labels.{Label, zeroth, Labelled}
@@ -142,18 +144,18 @@ module _ (program : List ℕ) (kinds : List Kind) (labelled : Labelled program k
   call-allowed fuel w false machine ready stands = keeps-all w ready
 
   -- which of them begins, by the phase
-  call-by : (fuel : ℕ) (w : World) (sound starting : Bool) → Ready w → Keeps (call-with fuel w (allowed (w .machine) sound starting))
+  call-by : (fuel : ℕ) (w : World) (sound : Bool) (verb : Verb) → Ready w → Keeps (call-with fuel w (allowed (w .machine) sound verb))
   unfolding allowed
-  call-by fuel w false starting ready = call-allowed fuel w false (w .machine) ready (λ t. absurd (false≢true t))
-  call-by fuel w true true (rests c r) = call-allowed fuel w (may-start (w .machine .phase)) (fresh (w .machine)) (rests c r) (λ t. starts-over w r)
-  call-by fuel w true true (on-its-way s stands) = call-allowed fuel w (may-start (w .machine .phase)) (fresh (w .machine)) (on-its-way s stands) (λ t. absurd (false≢true (sym s ∙ t)))
-  call-by fuel w true false (rests c r) = call-allowed fuel w (may-continue (w .machine .phase)) (w .machine) (rests c r) (λ t. absurd (false≢true (sym c ∙ t)))
-  call-by fuel w true false (on-its-way s stands) = call-allowed fuel w (may-continue (w .machine .phase)) (w .machine) (on-its-way s stands) (λ t. stands)
+  call-by fuel w false verb ready = call-allowed fuel w false (w .machine) ready (λ t. absurd (false≢true t))
+  call-by fuel w true Start (rests c r) = call-allowed fuel w (may-start (w .machine .phase)) (fresh (w .machine)) (rests c r) (λ t. starts-over w r)
+  call-by fuel w true Start (on-its-way s stands) = call-allowed fuel w (may-start (w .machine .phase)) (fresh (w .machine)) (on-its-way s stands) (λ t. absurd (false≢true (sym s ∙ t)))
+  call-by fuel w true Continue (rests c r) = call-allowed fuel w (may-continue (w .machine .phase)) (w .machine) (rests c r) (λ t. absurd (false≢true (sym c ∙ t)))
+  call-by fuel w true Continue (on-its-way s stands) = call-allowed fuel w (may-continue (w .machine .phase)) (w .machine) (on-its-way s stands) (λ t. stands)
 
   -- start or continue, allowed or not
-  pub call-keeps : (w : World) (starting : Bool) (fuel : ℕ) → Ready w → Keeps (call starting fuel w)
+  pub call-keeps : (w : World) (verb : Verb) (fuel : ℕ) → Ready w → Keeps (call verb fuel w)
   unfolding call
-  call-keeps w starting fuel ready = call-by fuel w (is-sound w) starting ready
+  call-keeps w verb fuel ready = call-by fuel w (is-sound w) verb ready
 
   -- ---- what an allowed call is refused with
 
@@ -169,18 +171,18 @@ module _ (program : List ℕ) (kinds : List Kind) (labelled : Labelled program k
   only-allowed fuel w true machine refusal t stands q = only-run fuel refusal (run-good program kinds labelled fuel (with-machine w machine) stands) q
   only-allowed fuel w false machine refusal t stands q = absurd (false≢true t)
 
-  only-by : (fuel : ℕ) (w : World) (sound starting : Bool) (refusal : Refusal) → sound ≡ true → allows starting (w .machine .phase) ≡ true → Ready w
-      → call-with fuel w (allowed (w .machine) sound starting) .report .outcome ≡ Refused refusal → May refusal
+  only-by : (fuel : ℕ) (w : World) (sound : Bool) (verb : Verb) (refusal : Refusal) → sound ≡ true → allows verb (w .machine .phase) ≡ true → Ready w
+      → call-with fuel w (allowed (w .machine) sound verb) .report .outcome ≡ Refused refusal → May refusal
   unfolding allowed
-  only-by fuel w false starting refusal s t ready q = absurd (false≢true s)
-  only-by fuel w true true refusal s t (rests c r) q = only-allowed fuel w (may-start (w .machine .phase)) (fresh (w .machine)) refusal t (starts-over w r) q
-  only-by fuel w true true refusal s t (on-its-way f stands) q = absurd (false≢true (sym f ∙ t))
-  only-by fuel w true false refusal s t (rests c r) q = absurd (false≢true (sym c ∙ t))
-  only-by fuel w true false refusal s t (on-its-way f stands) q = only-allowed fuel w (may-continue (w .machine .phase)) (w .machine) refusal t stands q
+  only-by fuel w false verb refusal s t ready q = absurd (false≢true s)
+  only-by fuel w true Start refusal s t (rests c r) q = only-allowed fuel w (may-start (w .machine .phase)) (fresh (w .machine)) refusal t (starts-over w r) q
+  only-by fuel w true Start refusal s t (on-its-way f stands) q = absurd (false≢true (sym f ∙ t))
+  only-by fuel w true Continue refusal s t (rests c r) q = absurd (false≢true (sym c ∙ t))
+  only-by fuel w true Continue refusal s t (on-its-way f stands) q = only-allowed fuel w (may-continue (w .machine .phase)) (w .machine) refusal t stands q
 
-  pub call-only : (w : World) (starting : Bool) (fuel : ℕ) (refusal : Refusal) → is-sound w ≡ true → allows starting (w .machine .phase) ≡ true → Ready w → call starting fuel w .report .outcome ≡ Refused refusal → May refusal
+  pub call-only : (w : World) (verb : Verb) (fuel : ℕ) (refusal : Refusal) → is-sound w ≡ true → allows verb (w .machine .phase) ≡ true → Ready w → call verb fuel w .report .outcome ≡ Refused refusal → May refusal
   unfolding call
-  call-only w starting fuel refusal sound t ready q = only-by fuel w (is-sound w) starting refusal sound t ready q
+  call-only w verb fuel refusal sound t ready q = only-by fuel w (is-sound w) verb refusal sound t ready q
 
   -- ---- the save by the host
 

@@ -1,7 +1,7 @@
 -- A machine from its creation on, and what is promised of each call to it if its program is admitted.
 use Prim.Native.Nat.{ℕ}
 use mathlib.Core.Path.{_≡_}
-use mathlib.Core.Bool.{Bool, false, cond, _&&_, _||_}
+use mathlib.Core.Bool.{Bool, false, _&&_, _||_}
 use mathlib.Core.List.{List, reverse}
 use lib.Dec.{eqb, leb}
 use lib.ListN.{length}
@@ -15,6 +15,8 @@ use Rattle.runs.specs.World.{World, world}
 use Rattle.vm.specs.Calls.{may-start, may-continue, Reported, call}
 use Rattle.vm.specs.Reads.{host-save}
 use Rattle.vm.specs.Creation.{Made, create}
+use Rattle.vm.specs.declared.Verb.{Verb}
+use Rattle.vm.specs.declared.Verb.the-variants.{Start, Continue}
 use Rattle.vm.specs.declared.CreateResult.the-variants.{Created}
 use Rattle.soundness.specs.After.{world-after, world-saved}
 use Rattle.labels.specs.declared.Kind.{Kind}
@@ -30,7 +32,7 @@ pub data Lives (program : List ℕ) : World → Type 0 where
   is-created : (table : List Task) (pool ends image : List ℕ) (machine : Machine) (stack memory save : List ℕ) → length ends ≡ 1024 → length stack ≡ 1000
       → create table pool ends image program .answer ≡ Created machine
       → Lives program (new-world machine (create table pool ends image program) stack memory save)
-  is-called : (w : World) (starts : Bool) (fuel : ℕ) → Lives program w → Lives program (world-after (call starts fuel w))
+  is-called : (w : World) (verb : Verb) (fuel : ℕ) → Lives program w → Lives program (world-after (call verb fuel w))
   is-saved : (w : World) → Lives program w → Lives program (world-saved (host-save w))
 
 -- refusals for cut-off code, stack, type and field number
@@ -42,8 +44,9 @@ abbrev pub may-come : ℕ → Bool
 may-come number = (leb 7 number && leb number 9) || ((leb 11 number && leb number 15) || (leb 20 number && leb number 24))
 
 -- whether a phase allows a start, or a continue
-abbrev pub allows : Bool → Phase → Bool
-allows starts phase = cond starts (may-start phase) (may-continue phase)
+abbrev pub allows : Verb → Phase → Bool
+allows Start phase = may-start phase
+allows Continue phase = may-continue phase
 
 -- a call is never refused for what admission rules out, and if it ends done, its values have the listed kinds, bottom first, and there are no more
 pub record Safe (kinds : List Kind) (r : Reported) : Type 0 where

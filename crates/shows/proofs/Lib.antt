@@ -1,3 +1,1 @@
-pub mod Silent
-pub mod Owned
-pub mod Values
+pub mod Performing

@@ -1,31 +1,29 @@
-// The calls of a host on a machine over a blank table, one after the other, and their lines on standard output.
-mod asked;
-mod lines;
-
-use crate::asked::count_of;
-use crate::asked::fuel_at;
-use crate::asked::machine_after;
-use crate::asked::machine_of;
-use crate::asked::ran;
-use crate::asked::saved;
-use crate::asked::verb_at;
-use crate::lines::show_answer;
-use crate::lines::show_count;
-use crate::lines::show_creation;
-use crate::lines::show_machine;
-use crate::lines::show_task;
+// The calls of a host on a machine over a blank table, one after the other, and their lines on standard output. What is printed is no part of a contract.
+ghost use mathlib.Core.Path.{_≡_};
+ghost use Rattle.storage.specs.Tasks.{after};
+ghost use Rattle.runs.specs.World.{world};
+ghost use Rattle.shows.specs.Shows.{acted, performed, after-call, after-calls, lent, own};
+use asked::Answered;
+use asked::count_of;
+use asked::fuel_at;
+use asked::machine_after;
+use asked::machine_of;
+use asked::ran;
+use asked::saved;
+use asked::verb_at;
+use asked::verb_of;
 use core::Machine;
-use listing::Head;
+use printing::show_answer;
+use printing::show_count;
+use printing::show_creation;
+use printing::show_machine;
+use printing::show_task;
 use storage::Task;
 
-// What a call came to: the machine after it, and how it ended.
-pub struct Answered {
-    pub machine: Machine,
-    pub head: Head,
-}
-
 // The tasks, by id.
-fn show_tasks(table: &mut [Task]) {
+fn show_tasks(table: &mut [Task])
+    ensures { λ _. ⌜ now (table .exit) ≡ now (table .entry) ⌝ }
+{
     let count = slots::living(table);
     show_count(count);
     let mut slot = 0;
@@ -36,7 +34,7 @@ fn show_tasks(table: &mut [Task]) {
     }
 }
 
-// One call, by its verb: 0 starts, 1 goes on, any other saves.
+// One call, by its verb: 0 starts, 1 continues, any other saves.
 fn act(
     table: &mut [Task],
     stack: &mut [u64; 1000],
@@ -47,14 +45,13 @@ fn act(
     machine: Machine,
     verb: u8,
     fuel: u64,
-) -> Answered {
-    if verb == 0 {
-        let started = calling::start(table, stack, memory, pool, ends, save, machine, fuel);
-        return ran(started);
-    }
-    if verb == 1 {
-        let continued = calling::go_on(table, stack, memory, pool, ends, save, machine, fuel);
-        return ran(continued);
+) -> Answered
+    ensures { λ r. ⌜ acted r (now (table .exit)) (now (stack .exit)) (now (memory .exit)) (now (pool .exit)) (now (ends .exit)) (now (save .exit)) ≡ performed verb fuel (world machine (now (table .entry)) (now (stack .entry)) (now (memory .entry)) (now (pool .entry)) (now (ends .entry)) (now (save .entry))) ⌝ }
+{
+    if verb < 2 {
+        let asked = verb_of(verb);
+        let report = calling::call(table, stack, memory, pool, ends, save, machine, asked, fuel);
+        return ran(report);
     }
     let kept = saving::save(table, stack, memory, pool, ends, save, machine);
     saved(kept)
@@ -73,7 +70,9 @@ fn turn(
     from: usize,
     number: usize,
     everything: bool,
-) -> Machine {
+) -> Machine
+    ensures { λ r. ⌜ after (world r (now (table .exit)) (now (stack .exit)) (now (memory .exit)) (now (pool .exit)) (now (ends .exit)) (now (save .exit))) (now (calls .exit)) ≡ after (after-call (now (calls .entry)) from number (world machine (now (table .entry)) (now (stack .entry)) (now (memory .entry)) (now (pool .entry)) (now (ends .entry)) (now (save .entry)))) (now (calls .entry)) ⌝ }
+{
     let verb = verb_at(calls, from, number);
     let fuel = fuel_at(calls, from, number);
     let answered = act(table, stack, memory, pool, ends, save, machine, verb, fuel);
@@ -83,7 +82,7 @@ fn turn(
     machine_after(answered)
 }
 
-// So many calls, one after the other.
+// The first so many calls, one after the other, and the machine after them.
 fn play(
     table: &mut [Task],
     stack: &mut [u64; 1000],
@@ -96,7 +95,9 @@ fn play(
     from: usize,
     count: usize,
     everything: bool,
-) {
+) -> Machine
+    ensures { λ r. ⌜ after (world r (now (table .exit)) (now (stack .exit)) (now (memory .exit)) (now (pool .exit)) (now (ends .exit)) (now (save .exit))) (now (calls .exit)) ≡ after (after-calls (now (calls .entry)) from count (world begun (now (table .entry)) (now (stack .entry)) (now (memory .entry)) (now (pool .entry)) (now (ends .entry)) (now (save .entry)))) (now (calls .entry)) ⌝ }
+{
     let mut machine = begun;
     let mut number = 0;
     while number < count {
@@ -115,6 +116,7 @@ fn play(
         );
         number = number + 1;
     }
+    machine
 }
 
 // Creates a machine over a blank table, and performs the calls that stand from a place on.
@@ -130,7 +132,9 @@ pub fn own(
     from: usize,
     count: usize,
     everything: bool,
-) {
+)
+    ensures { λ _. ⌜ lent (now (stack .exit)) (now (memory .exit)) (now (pool .exit)) (now (ends .exit)) (now (save .exit)) (now (image .exit)) (now (program .exit)) (now (calls .exit)) ≡ own from count (now (stack .entry)) (now (memory .entry)) (now (pool .entry)) (now (ends .entry)) (now (save .entry)) (now (image .entry)) (now (program .entry)) (now (calls .entry)) ⌝ }
+{
     let blank = storage::task_types::blank();
     let mut table = [blank; 256];
     let creation = creating::create(&mut table, pool, ends, image, program);

@@ -1,6 +1,6 @@
 -- Start, continue and a save by the host leave a sound world sound.
 use Prim.Native.Nat.{ℕ}
-use mathlib.Core.Bool.{Bool, true, false}
+use mathlib.Core.Bool.{Bool}
 use mathlib.Core.List.{List}
 use mathlib.Core.Path.{sym, subst}
 use native.Mathlib.Omega.{arith}
@@ -17,6 +17,8 @@ use Rattle.runs.specs.World.{World, world}
 use Rattle.runs.specs.Run.{run}
 use Rattle.vm.specs.Calls.{fresh, allowed, phased, ended, report, with-machine, is-sound, call-with, call, start, go-on, Reported}
 use Rattle.vm.specs.Reads.{host-saved, SavedTo, host-save-as, host-save}
+use Rattle.vm.specs.declared.Verb.{Verb}
+use Rattle.vm.specs.declared.Verb.the-variants.{Start, Continue}
 use Rattle.vm.specs.declared.Allowed.{Allowed}
 use Rattle.soundness.specs.Sound.{Sound}
 use Rattle.soundness.specs.After.{world-after, world-saved}
@@ -52,11 +54,11 @@ ended-sound w outcome.Paused s = sound (with-machine w (ended (w .machine) outco
 ended-sound w (outcome.Refused refusal) s = sound (with-machine w (ended (w .machine) (outcome.Refused refusal))) (phased-sound Stopped (machined w s)) (tabled w s)
 
 -- the machine that a call begins with
-pub allowed-sound : (w : World) (test starts : Bool) → Sound w → Sound (with-machine w (allowed (w .machine) test starts .machine))
+pub allowed-sound : (w : World) (test : Bool) (verb : Verb) → Sound w → Sound (with-machine w (allowed (w .machine) test verb .machine))
 unfolding allowed
-allowed-sound w test starts s =
-    either (λ (a : Allowed). Sound (with-machine w (a .machine))) test _ _
-    (λ _. either (λ (a : Allowed). Sound (with-machine w (a .machine))) starts _ _ (λ _. sound (with-machine w (fresh (w .machine))) (fresh-sound (machined w s)) (tabled w s)) (λ _. s)) (λ _. s)
+allowed-sound w test Start s =
+    either (λ (a : Allowed). Sound (with-machine w (a .machine))) test _ _ (λ _. sound (with-machine w (fresh (w .machine))) (fresh-sound (machined w s)) (tabled w s)) (λ _. s)
+allowed-sound w test Continue s = either (λ (a : Allowed). Sound (with-machine w (a .machine))) test _ _ (λ _. s) (λ _. s)
 
 with-sound : (fuel : ℕ) (w : World) (a : Allowed) → Sound w → Sound (with-machine w (a .machine)) → Sound (world-after (call-with fuel w a))
 unfolding call-with report
@@ -65,17 +67,17 @@ with-sound fuel w a s begins =
     (λ _. ended-sound (run fuel (with-machine w (a .machine)) .world) (run fuel (with-machine w (a .machine)) .outcome) (run-sound fuel (with-machine w (a .machine)) begins)) (λ _. s)
 
 -- a call leaves a sound world sound
-pub call-sound : (starts : Bool) (fuel : ℕ) (w : World) → Sound w → Sound (world-after (call starts fuel w))
+pub call-sound : (verb : Verb) (fuel : ℕ) (w : World) → Sound w → Sound (world-after (call verb fuel w))
 unfolding call
-call-sound starts fuel w s = with-sound fuel w (allowed (w .machine) (is-sound w) starts) s (allowed-sound w (is-sound w) starts s)
+call-sound verb fuel w s = with-sound fuel w (allowed (w .machine) (is-sound w) verb) s (allowed-sound w (is-sound w) verb s)
 
 -- a start leaves a sound world sound
 pub start-sound : (fuel : ℕ) (w : World) → Sound w → Sound (world-after (start fuel w))
-start-sound fuel w s = call-sound true fuel w s
+start-sound fuel w s = call-sound Start fuel w s
 
 -- and so does a continue
 pub go-on-sound : (fuel : ℕ) (w : World) → Sound w → Sound (world-after (go-on fuel w))
-go-on-sound fuel w s = call-sound false fuel w s
+go-on-sound fuel w s = call-sound Continue fuel w s
 
 -- ---- the save by the host
 

@@ -12,6 +12,7 @@ use storage::Task;
 use storage::TaskId;
 use vm::CreateResult;
 use vm::Report;
+use vm::Verb;
 
 // Room for the stack.
 fn stack_room() -> [u64; 1000] {
@@ -276,7 +277,17 @@ fn attempt(
     table::put(table, slot, task);
     forge_end(ends, number);
     let fuel = fuel_of_a_start();
-    let report = calling::start(table, stack, memory, pool, ends, save, forged, fuel);
+    let report = calling::call(
+        table,
+        stack,
+        memory,
+        pool,
+        ends,
+        save,
+        forged,
+        Verb::Start,
+        fuel,
+    );
     show(number, report);
 }
 

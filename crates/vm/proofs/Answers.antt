@@ -24,6 +24,7 @@ use Rattle.vm.specs.Reads.{read-to, value-at, value-read, task-at, task-
 use Rattle.vm.specs.Reads as reads
 use Rattle.vm.specs.Creation.{prepared, prepare, made, created, loaded, create-as, create}
 use Rattle.vm.specs.declared.Allowed.{Allowed}
+use Rattle.vm.specs.declared.Verb.{Verb}
 use Rattle.vm.specs.declared.Report.{Report}
 use Rattle.vm.specs.declared.Prepared.{Prepared}
 use Rattle.vm.specs.declared.CreateResult.{CreateResult}
@@ -67,26 +68,26 @@ module _ (table : List Task) (pool ends image program : List ℕ) {ready : Prepa
 module _ (machine : Machine) (table : List Task) (stack memory pool ends save : List ℕ) {good : Bool} {table′ : List Task} {memory′ pool′ ends′ save′ : List ℕ}
     (e : tested good table′ memory′ pool′ ends′ save′ ≡ tested (sound-world table memory pool ends save machine) table memory pool ends save) where
   -- a call
-  calls : (starts : Bool) (fuel : ℕ) → call-with fuel (world machine table′ stack memory′ pool′ ends′ save′) (allowed machine good starts) ≡ call starts fuel (world machine table stack memory pool ends save)
+  calls : (verb : Verb) (fuel : ℕ) → call-with fuel (world machine table′ stack memory′ pool′ ends′ save′) (allowed machine good verb) ≡ call verb fuel (world machine table stack memory pool ends save)
   unfolding call
-  calls starts fuel = ap (λ (t : Tested). call-with fuel (world machine (t .table) stack (t .memory) (t .pool) (t .ends) (t .save)) (allowed machine (t .answer) starts)) e
+  calls verb fuel = ap (λ (t : Tested). call-with fuel (world machine (t .table) stack (t .memory) (t .pool) (t .ends) (t .save)) (allowed machine (t .answer) verb)) e
 
   -- one that is allowed
-  pub calls-run : (starts : Bool) (fuel : ℕ) {a : Allowed} {ran : Ran} {r : Report} {table″ : List Task} {stack″ memory″ pool″ ends″ save″ : List ℕ} → a ≡ allowed machine good starts → a .allowed ≡ true
+  pub calls-run : (verb : Verb) (fuel : ℕ) {a : Allowed} {ran : Ran} {r : Report} {table″ : List Task} {stack″ memory″ pool″ ends″ save″ : List ℕ} → a ≡ allowed machine good verb → a .allowed ≡ true
       → ran-to ran table″ stack″ memory″ pool″ ends″ save″ ≡ run fuel (world (a .machine) table′ stack memory′ pool′ ends′ save′) → r ≡ report fuel ran
-      → reported r table″ stack″ memory″ pool″ ends″ save″ ≡ call starts fuel (world machine table stack memory pool ends save)
+      → reported r table″ stack″ memory″ pool″ ends″ save″ ≡ call verb fuel (world machine table stack memory pool ends save)
   unfolding call-with
-  calls-run starts fuel {a} {ran} {r} {table″} {stack″} {memory″} {pool″} {ends″} {save″} begun may went reports =
+  calls-run verb fuel {a} {ran} {r} {table″} {stack″} {memory″} {pool″} {ends″} {save″} begun may went reports =
       ap (λ (x : Report). reported x table″ stack″ memory″ pool″ ends″ save″) reports ∙ ap (at-end fuel) went
-      ∙ sym (simp (may)) ∙ ap (call-with fuel (world machine table′ stack memory′ pool′ ends′ save′)) begun ∙ calls starts fuel
+      ∙ sym (simp (may)) ∙ ap (call-with fuel (world machine table′ stack memory′ pool′ ends′ save′)) begun ∙ calls verb fuel
 
   -- one that is not
-  pub calls-none : (starts : Bool) (fuel : ℕ) {a : Allowed} {r : Report} → a ≡ allowed machine good starts → a .allowed ≡ false → r ≡ not-allowed machine
-      → reported r table′ stack memory′ pool′ ends′ save′ ≡ call starts fuel (world machine table stack memory pool ends save)
+  pub calls-none : (verb : Verb) (fuel : ℕ) {a : Allowed} {r : Report} → a ≡ allowed machine good verb → a .allowed ≡ false → r ≡ not-allowed machine
+      → reported r table′ stack memory′ pool′ ends′ save′ ≡ call verb fuel (world machine table stack memory pool ends save)
   unfolding call-with
-  calls-none starts fuel begun may reports =
+  calls-none verb fuel begun may reports =
       ap (λ (x : Report). reported x table′ stack memory′ pool′ ends′ save′) reports
-      ∙ sym (simp (may)) ∙ ap (call-with fuel (world machine table′ stack memory′ pool′ ends′ save′)) begun ∙ calls starts fuel
+      ∙ sym (simp (may)) ∙ ap (call-with fuel (world machine table′ stack memory′ pool′ ends′ save′)) begun ∙ calls verb fuel
 
   -- the read of a value
   pub reads-value : (position : ℕ) {r : Return} {stack″ memory″ ends″ : List ℕ} → reads.beside r stack″ memory″ ends″ ≡ reads.beside (value-at stack memory′ ends′ machine good position) stack memory′ ends′

@@ -14,6 +14,8 @@ use Rattle.calls.specs.declared.Outcome.the-variants as outcome
 use Rattle.runs.specs.World.{World, world}
 use Rattle.runs.specs.Run.{End, run}
 use Rattle.vm.specs.Sound.{sound-world}
+use Rattle.vm.specs.declared.Verb.{Verb}
+use Rattle.vm.specs.declared.Verb.the-variants.{Start, Continue}
 use Rattle.vm.specs.declared.Report.{Report}
 use Rattle.vm.specs.declared.Allowed.{Allowed}
 
@@ -50,10 +52,14 @@ fresh machine = record {
 abbrev pub allowing : Bool → Machine → Allowed
 allowing allowed machine = record { allowed = allowed; machine = machine }
 
-unfoldable pub allowed : Machine → Bool → Bool → Allowed
-allowed machine sound starts =
-    cond sound (cond starts (allowing (may-start (machine .phase)) (fresh machine)) (allowing (may-continue (machine .phase)) machine))
-    (allowing false machine)
+-- by its verb and the phase
+abbrev pub beginning : Verb → Machine → Allowed
+beginning Start machine = allowing (may-start (machine .phase)) (fresh machine)
+beginning Continue machine = allowing (may-continue (machine .phase)) machine
+
+-- where the record is sound
+unfoldable pub allowed : Machine → Bool → Verb → Allowed
+allowed machine sound verb = cond sound (beginning verb machine) (allowing false machine)
 
 -- a machine in a phase
 abbrev pub phased : Machine → Phase → Machine
@@ -121,12 +127,12 @@ is-sound w = sound-world (w .table) (w .memory) (w .pool) (w .ends) (w .save) (w
 unfoldable pub call-with : ℕ → World → Allowed → Reported
 call-with fuel w a = cond (a .allowed) (at-end fuel (run fuel (with-machine w (a .machine)))) (reports (not-allowed (w .machine)) w)
 
-unfoldable pub call : Bool → ℕ → World → Reported
-call starts fuel w = call-with fuel w (allowed (w .machine) (is-sound w) starts)
+unfoldable pub call : Verb → ℕ → World → Reported
+call verb fuel w = call-with fuel w (allowed (w .machine) (is-sound w) verb)
 
 -- start and continue
 abbrev pub start : ℕ → World → Reported
-start fuel w = call true fuel w
+start fuel w = call Start fuel w
 
 abbrev pub go-on : ℕ → World → Reported
-go-on fuel w = call false fuel w
+go-on fuel w = call Continue fuel w

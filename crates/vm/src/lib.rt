@@ -11,6 +11,12 @@ pub enum CreateResult {
     NotCreated(Refusal),
 }
 
+// What a host asks of a run: to start, or to continue where it paused.
+pub enum Verb {
+    Start,
+    Continue,
+}
+
 // What start and continue answer: the machine, the instructions that were finished, and how the run ended.
 pub struct Report {
     pub machine: Machine,

@@ -38,6 +38,7 @@ use denote.Triple.Table.{entered, cited}
 use denote.Triple.Walked.{says, Stays, stay-slice, stay-ref, stay-none, walkOf, goes-slice, goes-ref, goes-none, Walks, ends-at, walked, walk-meets}
 use Rattle.lent.proofs.Lent.{Thing, part, whole as whole-of, have, tokens, lent}
 use Rattle.lent.proofs.Landed.{landed-by}
+use Rattle.lent.proofs.Shut.{Shut}
 use Rattle.storage.specs.declared.Task.{Task}
 use Rattle.storage.specs.Tasks.{after}
 use Rattle.storage.proofs.Records.{R, table-ty}
@@ -46,13 +47,15 @@ use Rattle.core.proofs.Machine as machine
 use Rattle.calls.proofs.Ran as ran
 use Rattle.runs.specs.World.{world}
 use Rattle.runs.specs.Run.{ran-to, run as run-of}
-use Rattle.runs.proofs.Values.{machine-val, machine-vals, machine-ty, machine-tells, machine-makes, machine-typed, ran-val, ran-vals, ran-ty, ran-tells, ran-makes, ran-typed}
+use Rattle.runs.proofs.Values.{machine-shut, machine-vals, ran-shut, ran-vals}
 use Rattle.runs.proofs.Fields.{is-true, is-false}
+use Rattle.vm.specs.declared.Verb.{Verb}
 use Rattle.vm.specs.declared.Report.{Report}
 use Rattle.vm.specs.declared.Allowed.{Allowed}
+use Rattle.vm.proofs.Verb as verb-row
 use Rattle.vm.proofs.Report as report
 use Rattle.vm.proofs.Allowed as allowed
-use Rattle.vm.proofs.Values.{report-val, report-vals, report-ty, report-tells, report-makes, report-typed, allowed-val, allowed-vals, allowed-ty, allowed-tells, allowed-typed}
+use Rattle.vm.proofs.Values.{report-shut, report-vals, allowed-shut, allowed-vals, verb-shut, verb-vals}
 use Rattle.vm.specs.Sound.{tested, sound-world}
 use Rattle.vm.specs.Calls.{allowed as allowed-of, report as report-of, not-allowed, reported, call as call-of}
 use Rattle.vm.proofs.Fields.{begun-is, take-allowed, take-begun}
@@ -82,9 +85,14 @@ use Rattle.calling.proofs.call as f
 use Rattle.calling.proofs.call.Statement as stated
 use Rattle.calling.proofs.call.Code as code
 use Rattle.calling.proofs.call.Code.Mir as mir
+open Shut machine-shut using (val as machine-val, ty as machine-ty, tells as machine-tells, makes as machine-makes, typed as machine-typed)
+open Shut ran-shut using (val as ran-val, ty as ran-ty, tells as ran-tells, makes as ran-makes, typed as ran-typed)
+open Shut report-shut using (val as report-val, ty as report-ty, tells as report-tells, makes as report-makes, typed as report-typed)
+open Shut allowed-shut using (val as allowed-val, ty as allowed-ty, tells as allowed-tells, typed as allowed-typed)
+open Shut verb-shut using (val as verb-val, ty as verb-ty, tells as verb-tells, makes as verb-makes, typed as verb-typed)
 
 abbrev stayed : Stays (f.ended .signature .params) (f.ended .kept)
-stayed = (stay-slice (0 ∷ []) tt (plain (λ _. R)), (stay-ref (1 ∷ []) tt (plain (λ _. Array u64 1000)), (stay-slice (2 ∷ []) tt (plain (λ _. u8)), (stay-slice (3 ∷ []) tt (plain (λ _. u8)), (stay-ref (4 ∷ []) tt (plain (λ _. Array u32 1024)), (stay-slice (5 ∷ []) tt (plain (λ _. u8)), (stay-none (λ _. machine.the-row) yes, (stay-none (λ _. u64) yes, (stay-none (λ _. bool) yes, tt)))))))))
+stayed = (stay-slice (0 ∷ []) tt (plain (λ _. R)), (stay-ref (1 ∷ []) tt (plain (λ _. Array u64 1000)), (stay-slice (2 ∷ []) tt (plain (λ _. u8)), (stay-slice (3 ∷ []) tt (plain (λ _. u8)), (stay-ref (4 ∷ []) tt (plain (λ _. Array u32 1024)), (stay-slice (5 ∷ []) tt (plain (λ _. u8)), (stay-none (λ _. machine.the-row) yes, (stay-none (λ _. verb-row.the-row) yes, (stay-none (λ _. u64) yes, tt)))))))))
 
 -- the contracts that the walk cites
 module _ {M : Type 1} (𝓤 : URA M) (H : Heap 𝓤) (A : Atoms 𝓤) (at-mem : Memory → SProp 𝓤) (run : Routine → Fun 𝓤) where
@@ -104,7 +112,7 @@ module _ {M : Type 1} (𝓤 : URA M) (H : Heap 𝓤) (A : Atoms 𝓤) (at-mem : 
   refuses-con = tripleOf 𝓤 H A refuses.signature (refuses.spec 𝓤 H A at-mem run)
 
 module _ {M : Type 1} (𝓤 : URA M) (H : Heap 𝓤) (A : Atoms 𝓤) (W : Given 𝓤 H A) (at-mem : Memory → SProp 𝓤) (run : Routine → Fun 𝓤) (κ₀ κ₁ κ₂ κ₃ κ₄ κ₅ : Lft) (q₀ q₁ q₂ q₃ q₄ q₅ : Share) (b₀ o₀ b₁ o₁ b₂ o₂ b₃ o₃ b₄ o₄ b₅ o₅ : ℕ) (γ₀ γ₁ γ₂ γ₃ γ₄ γ₅ : GName)
-    (x₀ : List Task) (x₁ : List ℕ) (x₂ : List ℕ) (x₃ : List ℕ) (x₄ : List ℕ) (x₅ : List ℕ) (m : Machine) (fuel : ℕ) (starts : Bool) where
+    (x₀ : List Task) (x₁ : List ℕ) (x₂ : List ℕ) (x₃ : List ℕ) (x₄ : List ℕ) (x₅ : List ℕ) (m : Machine) (verb : Verb) (fuel : ℕ) where
   abbrev n₀ : ℕ
   n₀ = length x₀
 
@@ -124,10 +132,10 @@ module _ {M : Type 1} (𝓤 : URA M) (H : Heap 𝓤) (A : Atoms 𝓤) (W : Given
   qs₀ = (q₀, (q₁, (q₂, (q₃, (q₄, (q₅, tt))))))
 
   abbrev x : Args f.signature κs₀
-  x = (record { ptr = (b₀, o₀); name = γ₀; now = x₀ }, (record { ptr = (b₁, o₁); name = γ₁; now = x₁ }, (record { ptr = (b₂, o₂); name = γ₂; now = x₂ }, (record { ptr = (b₃, o₃); name = γ₃; now = x₃ }, (record { ptr = (b₄, o₄); name = γ₄; now = x₄ }, (record { ptr = (b₅, o₅); name = γ₅; now = x₅ }, (m, (fuel, (starts, tt)))))))))
+  x = (record { ptr = (b₀, o₀); name = γ₀; now = x₀ }, (record { ptr = (b₁, o₁); name = γ₁; now = x₁ }, (record { ptr = (b₂, o₂); name = γ₂; now = x₂ }, (record { ptr = (b₃, o₃); name = γ₃; now = x₃ }, (record { ptr = (b₄, o₄); name = γ₄; now = x₄ }, (record { ptr = (b₅, o₅); name = γ₅; now = x₅ }, (m, (verb, (fuel, tt)))))))))
 
   abbrev at : Vals f.signature κs₀
-  at = (sliceVal (b₀, o₀) n₀ ∷ [], (vptr b₁ o₁ ∷ [], (sliceVal (b₂, o₂) n₂ ∷ [], (sliceVal (b₃, o₃) n₃ ∷ [], (vptr b₄ o₄ ∷ [], (sliceVal (b₅, o₅) n₅ ∷ [], (machine-val m ∷ [], (vint w64 fuel ∷ [], (vbool starts ∷ [], tt)))))))))
+  at = (sliceVal (b₀, o₀) n₀ ∷ [], (vptr b₁ o₁ ∷ [], (sliceVal (b₂, o₂) n₂ ∷ [], (sliceVal (b₃, o₃) n₃ ∷ [], (vptr b₄ o₄ ∷ [], (sliceVal (b₅, o₅) n₅ ∷ [], (machine-val m ∷ [], (verb-val verb ∷ [], (vint w64 fuel ∷ [], tt)))))))))
 
   abbrev Post : Val → SProp 𝓤
   Post = walkOf 𝓤 H A f.ended stayed (f.clauses 𝓤 H A at-mem run) .post ((κs₀, qs₀, tt, x, at), tt)
@@ -143,13 +151,13 @@ module _ {M : Type 1} (𝓤 : URA M) (H : Heap 𝓤) (A : Atoms 𝓤) (W : Given
   abbrev Has : List Task → List ℕ → List ℕ → List ℕ → List ℕ → List ℕ → List (Item 𝓤) → List (Item 𝓤)
   Has ts st me po en sv Γ = ‵ (have All (ts, (st, (me, (po, (en, (sv, tt))))))) ∷ ‵ (tokens All) ∷ Γ
 
-  module _ (g₀ : Room R n₀) (g₂ : Room u8 n₂) (g₃ : Room u8 n₃) (g₅ : Room u8 n₅) (m-is : Is machine.the-row m (machine-vals m)) (fuel-is : fuel < 2 ^ 64) where
-    exits : (r : Report) (ts : List Task) (st me po en sv : List ℕ) → Is report.the-row r (report-vals r) → length ts ≡ n₀ → length me ≡ n₂ → length po ≡ n₃ → length sv ≡ n₅ → reported r ts st me po en sv ≡ call-of starts fuel (world m x₀ x₁ x₂ x₃ x₄ x₅) → ent 𝓤 (⋆ 𝓤 H A (Has ts st me po en sv [])) (Post (report-val r))
+  module _ (g₀ : Room R n₀) (g₂ : Room u8 n₂) (g₃ : Room u8 n₃) (g₅ : Room u8 n₅) (m-is : Is machine.the-row m (machine-vals m)) (verb-is : Is verb-row.the-row verb (verb-vals verb)) (fuel-is : fuel < 2 ^ 64) where
+    exits : (r : Report) (ts : List Task) (st me po en sv : List ℕ) → Is report.the-row r (report-vals r) → length ts ≡ n₀ → length me ≡ n₂ → length po ≡ n₃ → length sv ≡ n₅ → reported r ts st me po en sv ≡ call-of verb fuel (world m x₀ x₁ x₂ x₃ x₄ x₅) → ent 𝓤 (⋆ 𝓤 H A (Has ts st me po en sv [])) (Post (report-val r))
     exits r ts st me po en sv is m₀ m₂ m₃ m₅ e =
         qed W (Has ts st me po en sv []) ∵
         suffices ! _ (ends-at 𝓤 H A f.ended stayed (f.clauses 𝓤 H A at-mem run) W ((κs₀, qs₀, tt, x, at), tt) (report-val r) r (ts, (st, (me, (po, (en, (sv, (tt, (tt, (tt, tt))))))))) (m₀, (tt, (m₂, (m₃, (tt, (m₅, (tt, (tt, (tt, tt)))))))))) $ says ! e $
         move ! (1 ∷ []) $ fsplit ! $ move ! (1 ∷ []) $ fsplit ! $ move ! (1 ∷ []) $ fsplit ! $ move ! (1 ∷ []) $ fsplit ! $ move ! (1 ∷ []) $ fsplit ! $ move ! (1 ∷ []) $ fsplit ! $ move ! (1 ∷ []) $ drop ! $ nothing ! $ move ! (1 ∷ 0 ∷ []) $ join ! $ move ! (1 ∷ 0 ∷ []) $ join ! $ move ! (1 ∷ 0 ∷ []) $ join ! $ move ! (1 ∷ 0 ∷ []) $ join ! $ move ! (1 ∷ 0 ∷ []) $ join ! $ move ! (1 ∷ 0 ∷ []) $ join ! $ frame ! $
-        fsplit ! $ move ! (1 ∷ []) $ fsplit ! $ move ! (1 ∷ []) $ fsplit ! $ move ! (1 ∷ []) $ fsplit ! $ move ! (1 ∷ []) $ fsplit ! $ move ! (1 ∷ []) $ fsplit ! $ move ! (1 ∷ []) $ drop ! $ nothing ! $ owned ! bool (Is bool) (bool-makes 𝓤 H A W) starts _ refl $ fjoin ! $ owned ! u64 (Is u64) (uint-makes 𝓤 H A W w64) fuel _ (refl, fuel-is) $ fjoin ! $ owned ! machine.the-row (Is machine.the-row) (machine-makes 𝓤 H A) m _ m-is $ fjoin ! $ move ! (1 ∷ 0 ∷ []) $ fjoin ! $ move ! (1 ∷ 0 ∷ []) $ fjoin ! $ move ! (1 ∷ 0 ∷ []) $ fjoin ! $ move ! (1 ∷ 0 ∷ []) $ fjoin ! $ move ! (1 ∷ 0 ∷ []) $ fjoin ! $ move ! (1 ∷ 0 ∷ []) $ fjoin ! $
+        fsplit ! $ move ! (1 ∷ []) $ fsplit ! $ move ! (1 ∷ []) $ fsplit ! $ move ! (1 ∷ []) $ fsplit ! $ move ! (1 ∷ []) $ fsplit ! $ move ! (1 ∷ []) $ fsplit ! $ move ! (1 ∷ []) $ drop ! $ nothing ! $ owned ! u64 (Is u64) (uint-makes 𝓤 H A W w64) fuel _ (refl, fuel-is) $ fjoin ! $ owned ! verb-row.the-row (Is verb-row.the-row) (verb-makes 𝓤 H A) verb _ verb-is $ fjoin ! $ owned ! machine.the-row (Is machine.the-row) (machine-makes 𝓤 H A) m _ m-is $ fjoin ! $ move ! (1 ∷ 0 ∷ []) $ fjoin ! $ move ! (1 ∷ 0 ∷ []) $ fjoin ! $ move ! (1 ∷ 0 ∷ []) $ fjoin ! $ move ! (1 ∷ 0 ∷ []) $ fjoin ! $ move ! (1 ∷ 0 ∷ []) $ fjoin ! $ move ! (1 ∷ 0 ∷ []) $ fjoin ! $
         owned ! report.the-row (Is report.the-row) (report-makes 𝓤 H A) r _ is $ move ! (1 ∷ 0 ∷ []) $ done !
 
     module _ (𝓣 : Tables 𝓤 H) (known-tests : Triple 𝓤 (𝓣 .C #tests) (tests-con 𝓤 H A at-mem run)) (known-allows : Triple 𝓤 (𝓣 .C #allows) (allows-con 𝓤 H A at-mem run)) (known-drives : Triple 𝓤 (𝓣 .C #drives) (drives-con 𝓤 H A at-mem run)) (known-reports : Triple 𝓤 (𝓣 .C #reports) (reports-con 𝓤 H A at-mem run)) (known-refuses : Triple 𝓤 (𝓣 .C #refuses) (refuses-con 𝓤 H A at-mem run)) (l₀ l₁ l₂ l₃ l₄ l₅ l₆ l₇ l₈ l₉ l₁₀ l₁₁ l₁₂ l₁₃ l₁₄ l₁₅ l₁₆ l₁₇ l₁₈ l₁₉ l₂₀ l₂₁ l₂₂ l₂₃ l₂₄ l₂₅ l₂₆ l₂₇ l₂₈ l₂₉ l₃₀ l₃₁ l₃₂ : ℕ) where
@@ -160,23 +168,23 @@ module _ {M : Type 1} (𝓤 : URA M) (H : Heap 𝓤) (A : Atoms 𝓤) (W : Given
       Λ = 𝓣 .Λ
 
       abbrev En : Env 𝓤 H
-      En = (report-ty, l₀) ∷ (sliceTy (tyRef (named 0) mut table-ty), l₁) ∷ (tyRef (named 1) mut (tyArray (tyInt w64) 1000), l₂) ∷ (sliceTy (tyRef (named 2) mut (tyInt w8)), l₃) ∷ (sliceTy (tyRef (named 3) mut (tyInt w8)), l₄) ∷ (tyRef (named 4) mut (tyArray (tyInt w32) 1024), l₅) ∷ (sliceTy (tyRef (named 5) mut (tyInt w8)), l₆) ∷ (machine-ty, l₇) ∷ (tyInt w64, l₈) ∷ (tyBool, l₉) ∷ (tyBool, l₁₀) ∷ (allowed-ty, l₁₁) ∷ (ran-ty, l₁₂) ∷ (tyRef erased mut table-ty, l₁₃) ∷ (sliceTy (tyRef erased mut table-ty), l₁₄) ∷ (tyRef erased mut (tyInt w8), l₁₅) ∷ (sliceTy (tyRef erased mut (tyInt w8)), l₁₆) ∷ (tyRef erased mut (tyInt w8), l₁₇) ∷ (sliceTy (tyRef erased mut (tyInt w8)), l₁₈) ∷ (tyRef erased mut (tyArray (tyInt w32) 1024), l₁₉) ∷ (tyRef erased mut (tyInt w8), l₂₀) ∷ (sliceTy (tyRef erased mut (tyInt w8)), l₂₁) ∷ (tyBool, l₂₂) ∷ (tyRef erased mut table-ty, l₂₃) ∷ (sliceTy (tyRef erased mut table-ty), l₂₄) ∷ (tyRef erased mut (tyArray (tyInt w64) 1000), l₂₅) ∷ (tyRef erased mut (tyInt w8), l₂₆) ∷ (sliceTy (tyRef erased mut (tyInt w8)), l₂₇) ∷ (tyRef erased mut (tyInt w8), l₂₈) ∷ (sliceTy (tyRef erased mut (tyInt w8)), l₂₉) ∷ (tyRef erased mut (tyArray (tyInt w32) 1024), l₃₀) ∷ (tyRef erased mut (tyInt w8), l₃₁) ∷ (sliceTy (tyRef erased mut (tyInt w8)), l₃₂) ∷ []
+      En = (report-ty, l₀) ∷ (sliceTy (tyRef (named 0) mut table-ty), l₁) ∷ (tyRef (named 1) mut (tyArray (tyInt w64) 1000), l₂) ∷ (sliceTy (tyRef (named 2) mut (tyInt w8)), l₃) ∷ (sliceTy (tyRef (named 3) mut (tyInt w8)), l₄) ∷ (tyRef (named 4) mut (tyArray (tyInt w32) 1024), l₅) ∷ (sliceTy (tyRef (named 5) mut (tyInt w8)), l₆) ∷ (machine-ty, l₇) ∷ (verb-ty, l₈) ∷ (tyInt w64, l₉) ∷ (tyBool, l₁₀) ∷ (allowed-ty, l₁₁) ∷ (ran-ty, l₁₂) ∷ (tyRef erased mut table-ty, l₁₃) ∷ (sliceTy (tyRef erased mut table-ty), l₁₄) ∷ (tyRef erased mut (tyInt w8), l₁₅) ∷ (sliceTy (tyRef erased mut (tyInt w8)), l₁₆) ∷ (tyRef erased mut (tyInt w8), l₁₇) ∷ (sliceTy (tyRef erased mut (tyInt w8)), l₁₈) ∷ (tyRef erased mut (tyArray (tyInt w32) 1024), l₁₉) ∷ (tyRef erased mut (tyInt w8), l₂₀) ∷ (sliceTy (tyRef erased mut (tyInt w8)), l₂₁) ∷ (tyBool, l₂₂) ∷ (tyRef erased mut table-ty, l₂₃) ∷ (sliceTy (tyRef erased mut table-ty), l₂₄) ∷ (tyRef erased mut (tyArray (tyInt w64) 1000), l₂₅) ∷ (tyRef erased mut (tyInt w8), l₂₆) ∷ (sliceTy (tyRef erased mut (tyInt w8)), l₂₇) ∷ (tyRef erased mut (tyInt w8), l₂₈) ∷ (sliceTy (tyRef erased mut (tyInt w8)), l₂₉) ∷ (tyRef erased mut (tyArray (tyInt w32) 1024), l₃₀) ∷ (tyRef erased mut (tyInt w8), l₃₁) ∷ (sliceTy (tyRef erased mut (tyInt w8)), l₃₂) ∷ []
 
       -- the locals, given up
       abbrev Bare : List (Item 𝓤)
-      Bare = ‵ (froom (sliceTy (tyRef erased mut (tyInt w8))) l₃₂ 0) ∷ ‵ (fdies (sliceTy (tyRef erased mut (tyInt w8))) l₃₂) ∷ ‵ (froom (tyRef erased mut (tyInt w8)) l₃₁ 0) ∷ ‵ (fdies (tyRef erased mut (tyInt w8)) l₃₁) ∷ ‵ (froom (tyRef erased mut (tyArray (tyInt w32) 1024)) l₃₀ 0) ∷ ‵ (fdies (tyRef erased mut (tyArray (tyInt w32) 1024)) l₃₀) ∷ ‵ (froom (sliceTy (tyRef erased mut (tyInt w8))) l₂₉ 0) ∷ ‵ (fdies (sliceTy (tyRef erased mut (tyInt w8))) l₂₉) ∷ ‵ (froom (tyRef erased mut (tyInt w8)) l₂₈ 0) ∷ ‵ (fdies (tyRef erased mut (tyInt w8)) l₂₈) ∷ ‵ (froom (sliceTy (tyRef erased mut (tyInt w8))) l₂₇ 0) ∷ ‵ (fdies (sliceTy (tyRef erased mut (tyInt w8))) l₂₇) ∷ ‵ (froom (tyRef erased mut (tyInt w8)) l₂₆ 0) ∷ ‵ (fdies (tyRef erased mut (tyInt w8)) l₂₆) ∷ ‵ (froom (tyRef erased mut (tyArray (tyInt w64) 1000)) l₂₅ 0) ∷ ‵ (fdies (tyRef erased mut (tyArray (tyInt w64) 1000)) l₂₅) ∷ ‵ (froom (sliceTy (tyRef erased mut table-ty)) l₂₄ 0) ∷ ‵ (fdies (sliceTy (tyRef erased mut table-ty)) l₂₄) ∷ ‵ (froom (tyRef erased mut table-ty) l₂₃ 0) ∷ ‵ (fdies (tyRef erased mut table-ty) l₂₃) ∷ ‵ (froom tyBool l₂₂ 0) ∷ ‵ (fdies tyBool l₂₂) ∷ ‵ (froom (sliceTy (tyRef erased mut (tyInt w8))) l₂₁ 0) ∷ ‵ (fdies (sliceTy (tyRef erased mut (tyInt w8))) l₂₁) ∷ ‵ (froom (tyRef erased mut (tyInt w8)) l₂₀ 0) ∷ ‵ (fdies (tyRef erased mut (tyInt w8)) l₂₀) ∷ ‵ (froom (tyRef erased mut (tyArray (tyInt w32) 1024)) l₁₉ 0) ∷ ‵ (fdies (tyRef erased mut (tyArray (tyInt w32) 1024)) l₁₉) ∷ ‵ (froom (sliceTy (tyRef erased mut (tyInt w8))) l₁₈ 0) ∷ ‵ (fdies (sliceTy (tyRef erased mut (tyInt w8))) l₁₈) ∷ ‵ (froom (tyRef erased mut (tyInt w8)) l₁₇ 0) ∷ ‵ (fdies (tyRef erased mut (tyInt w8)) l₁₇) ∷ ‵ (froom (sliceTy (tyRef erased mut (tyInt w8))) l₁₆ 0) ∷ ‵ (fdies (sliceTy (tyRef erased mut (tyInt w8))) l₁₆) ∷ ‵ (froom (tyRef erased mut (tyInt w8)) l₁₅ 0) ∷ ‵ (fdies (tyRef erased mut (tyInt w8)) l₁₅) ∷ ‵ (froom (sliceTy (tyRef erased mut table-ty)) l₁₄ 0) ∷ ‵ (fdies (sliceTy (tyRef erased mut table-ty)) l₁₄) ∷ ‵ (froom (tyRef erased mut table-ty) l₁₃ 0) ∷ ‵ (fdies (tyRef erased mut table-ty) l₁₃) ∷ ‵ (froom ran-ty l₁₂ 0) ∷ ‵ (fdies ran-ty l₁₂) ∷ ‵ (froom allowed-ty l₁₁ 0) ∷ ‵ (fdies allowed-ty l₁₁) ∷ ‵ (froom tyBool l₁₀ 0) ∷ ‵ (fdies tyBool l₁₀) ∷ ‵ (froom tyBool l₉ 0) ∷ ‵ (fdies tyBool l₉) ∷ ‵ (froom (tyInt w64) l₈ 0) ∷ ‵ (fdies (tyInt w64) l₈) ∷ ‵ (froom machine-ty l₇ 0) ∷ ‵ (fdies machine-ty l₇) ∷ ‵ (froom (sliceTy (tyRef (named 5) mut (tyInt w8))) l₆ 0) ∷ ‵ (fdies (sliceTy (tyRef (named 5) mut (tyInt w8))) l₆) ∷ ‵ (froom (tyRef (named 4) mut (tyArray (tyInt w32) 1024)) l₅ 0) ∷ ‵ (fdies (tyRef (named 4) mut (tyArray (tyInt w32) 1024)) l₅) ∷ ‵ (froom (sliceTy (tyRef (named 3) mut (tyInt w8))) l₄ 0) ∷ ‵ (fdies (sliceTy (tyRef (named 3) mut (tyInt w8))) l₄) ∷ ‵ (froom (sliceTy (tyRef (named 2) mut (tyInt w8))) l₃ 0) ∷ ‵ (fdies (sliceTy (tyRef (named 2) mut (tyInt w8))) l₃) ∷ ‵ (froom (tyRef (named 1) mut (tyArray (tyInt w64) 1000)) l₂ 0) ∷ ‵ (fdies (tyRef (named 1) mut (tyArray (tyInt w64) 1000)) l₂) ∷ ‵ (froom (sliceTy (tyRef (named 0) mut table-ty)) l₁ 0) ∷ ‵ (fdies (sliceTy (tyRef (named 0) mut table-ty)) l₁) ∷ ‵ (froom report-ty l₀ 0) ∷ ‵ (fdies report-ty l₀) ∷ []
+      Bare = ‵ (froom (sliceTy (tyRef erased mut (tyInt w8))) l₃₂ 0) ∷ ‵ (fdies (sliceTy (tyRef erased mut (tyInt w8))) l₃₂) ∷ ‵ (froom (tyRef erased mut (tyInt w8)) l₃₁ 0) ∷ ‵ (fdies (tyRef erased mut (tyInt w8)) l₃₁) ∷ ‵ (froom (tyRef erased mut (tyArray (tyInt w32) 1024)) l₃₀ 0) ∷ ‵ (fdies (tyRef erased mut (tyArray (tyInt w32) 1024)) l₃₀) ∷ ‵ (froom (sliceTy (tyRef erased mut (tyInt w8))) l₂₉ 0) ∷ ‵ (fdies (sliceTy (tyRef erased mut (tyInt w8))) l₂₉) ∷ ‵ (froom (tyRef erased mut (tyInt w8)) l₂₈ 0) ∷ ‵ (fdies (tyRef erased mut (tyInt w8)) l₂₈) ∷ ‵ (froom (sliceTy (tyRef erased mut (tyInt w8))) l₂₇ 0) ∷ ‵ (fdies (sliceTy (tyRef erased mut (tyInt w8))) l₂₇) ∷ ‵ (froom (tyRef erased mut (tyInt w8)) l₂₆ 0) ∷ ‵ (fdies (tyRef erased mut (tyInt w8)) l₂₆) ∷ ‵ (froom (tyRef erased mut (tyArray (tyInt w64) 1000)) l₂₅ 0) ∷ ‵ (fdies (tyRef erased mut (tyArray (tyInt w64) 1000)) l₂₅) ∷ ‵ (froom (sliceTy (tyRef erased mut table-ty)) l₂₄ 0) ∷ ‵ (fdies (sliceTy (tyRef erased mut table-ty)) l₂₄) ∷ ‵ (froom (tyRef erased mut table-ty) l₂₃ 0) ∷ ‵ (fdies (tyRef erased mut table-ty) l₂₃) ∷ ‵ (froom tyBool l₂₂ 0) ∷ ‵ (fdies tyBool l₂₂) ∷ ‵ (froom (sliceTy (tyRef erased mut (tyInt w8))) l₂₁ 0) ∷ ‵ (fdies (sliceTy (tyRef erased mut (tyInt w8))) l₂₁) ∷ ‵ (froom (tyRef erased mut (tyInt w8)) l₂₀ 0) ∷ ‵ (fdies (tyRef erased mut (tyInt w8)) l₂₀) ∷ ‵ (froom (tyRef erased mut (tyArray (tyInt w32) 1024)) l₁₉ 0) ∷ ‵ (fdies (tyRef erased mut (tyArray (tyInt w32) 1024)) l₁₉) ∷ ‵ (froom (sliceTy (tyRef erased mut (tyInt w8))) l₁₈ 0) ∷ ‵ (fdies (sliceTy (tyRef erased mut (tyInt w8))) l₁₈) ∷ ‵ (froom (tyRef erased mut (tyInt w8)) l₁₇ 0) ∷ ‵ (fdies (tyRef erased mut (tyInt w8)) l₁₇) ∷ ‵ (froom (sliceTy (tyRef erased mut (tyInt w8))) l₁₆ 0) ∷ ‵ (fdies (sliceTy (tyRef erased mut (tyInt w8))) l₁₆) ∷ ‵ (froom (tyRef erased mut (tyInt w8)) l₁₅ 0) ∷ ‵ (fdies (tyRef erased mut (tyInt w8)) l₁₅) ∷ ‵ (froom (sliceTy (tyRef erased mut table-ty)) l₁₄ 0) ∷ ‵ (fdies (sliceTy (tyRef erased mut table-ty)) l₁₄) ∷ ‵ (froom (tyRef erased mut table-ty) l₁₃ 0) ∷ ‵ (fdies (tyRef erased mut table-ty) l₁₃) ∷ ‵ (froom ran-ty l₁₂ 0) ∷ ‵ (fdies ran-ty l₁₂) ∷ ‵ (froom allowed-ty l₁₁ 0) ∷ ‵ (fdies allowed-ty l₁₁) ∷ ‵ (froom tyBool l₁₀ 0) ∷ ‵ (fdies tyBool l₁₀) ∷ ‵ (froom (tyInt w64) l₉ 0) ∷ ‵ (fdies (tyInt w64) l₉) ∷ ‵ (froom verb-ty l₈ 0) ∷ ‵ (fdies verb-ty l₈) ∷ ‵ (froom machine-ty l₇ 0) ∷ ‵ (fdies machine-ty l₇) ∷ ‵ (froom (sliceTy (tyRef (named 5) mut (tyInt w8))) l₆ 0) ∷ ‵ (fdies (sliceTy (tyRef (named 5) mut (tyInt w8))) l₆) ∷ ‵ (froom (tyRef (named 4) mut (tyArray (tyInt w32) 1024)) l₅ 0) ∷ ‵ (fdies (tyRef (named 4) mut (tyArray (tyInt w32) 1024)) l₅) ∷ ‵ (froom (sliceTy (tyRef (named 3) mut (tyInt w8))) l₄ 0) ∷ ‵ (fdies (sliceTy (tyRef (named 3) mut (tyInt w8))) l₄) ∷ ‵ (froom (sliceTy (tyRef (named 2) mut (tyInt w8))) l₃ 0) ∷ ‵ (fdies (sliceTy (tyRef (named 2) mut (tyInt w8))) l₃) ∷ ‵ (froom (tyRef (named 1) mut (tyArray (tyInt w64) 1000)) l₂ 0) ∷ ‵ (fdies (tyRef (named 1) mut (tyArray (tyInt w64) 1000)) l₂) ∷ ‵ (froom (sliceTy (tyRef (named 0) mut table-ty)) l₁ 0) ∷ ‵ (fdies (sliceTy (tyRef (named 0) mut table-ty)) l₁) ∷ ‵ (froom report-ty l₀ 0) ∷ ‵ (fdies report-ty l₀) ∷ []
 
-      ends : (r : Report) (ts : List Task) (st me po en sv : List ℕ) → Is report.the-row r (report-vals r) → length ts ≡ n₀ → length me ≡ n₂ → length po ≡ n₃ → length sv ≡ n₅ → reported r ts st me po en sv ≡ call-of starts fuel (world m x₀ x₁ x₂ x₃ x₄ x₅) → Sq W (Has ts st me po en sv Bare) (frees En (prop (Post (report-val r))))
+      ends : (r : Report) (ts : List Task) (st me po en sv : List ℕ) → Is report.the-row r (report-vals r) → length ts ≡ n₀ → length me ≡ n₂ → length po ≡ n₃ → length sv ≡ n₅ → reported r ts st me po en sv ≡ call-of verb fuel (world m x₀ x₁ x₂ x₃ x₄ x₅) → Sq W (Has ts st me po en sv Bare) (frees En (prop (Post (report-val r))))
       ends r ts st me po en sv is m₀ m₂ m₃ m₅ e =
           move ! (66 ∷ 67 ∷ []) $ free1 ! $ move ! (64 ∷ 65 ∷ []) $ free1 ! $ move ! (62 ∷ 63 ∷ []) $ free1 ! $ move ! (60 ∷ 61 ∷ []) $ free1 ! $ move ! (58 ∷ 59 ∷ []) $ free1 ! $ move ! (56 ∷ 57 ∷ []) $ free1 ! $ move ! (54 ∷ 55 ∷ []) $ free1 ! $ move ! (52 ∷ 53 ∷ []) $ free1 ! $ move ! (50 ∷ 51 ∷ []) $ free1 ! $ move ! (48 ∷ 49 ∷ []) $ free1 ! $ move ! (46 ∷ 47 ∷ []) $ free1 ! $ move ! (44 ∷ 45 ∷ []) $ free1 ! $ move ! (42 ∷ 43 ∷ []) $ free1 ! $ move ! (40 ∷ 41 ∷ []) $ free1 ! $ move ! (38 ∷ 39 ∷ []) $ free1 ! $ move ! (36 ∷ 37 ∷ []) $ free1 ! $ move ! (34 ∷ 35 ∷ []) $ free1 ! $ move ! (32 ∷ 33 ∷ []) $ free1 ! $ move ! (30 ∷ 31 ∷ []) $ free1 ! $ move ! (28 ∷ 29 ∷ []) $ free1 ! $ move ! (26 ∷ 27 ∷ []) $ free1 ! $ move ! (24 ∷ 25 ∷ []) $ free1 ! $ move ! (22 ∷ 23 ∷ []) $ free1 ! $ move ! (20 ∷ 21 ∷ []) $ free1 ! $ move ! (18 ∷ 19 ∷ []) $ free1 ! $ move ! (16 ∷ 17 ∷ []) $ free1 ! $ move ! (14 ∷ 15 ∷ []) $ free1 ! $ move ! (12 ∷ 13 ∷ []) $ free1 ! $ move ! (10 ∷ 11 ∷ []) $ free1 ! $ move ! (8 ∷ 9 ∷ []) $ free1 ! $ move ! (6 ∷ 7 ∷ []) $ free1 ! $ move ! (4 ∷ 5 ∷ []) $ free1 ! $ move ! (2 ∷ 3 ∷ []) $ free1 ! $ free0 ! $ by ! (exits r ts st me po en sv is m₀ m₂ m₃ m₅ e)
 
       -- the locals after both tests
       abbrev With : Bool → Allowed → List (Item 𝓤)
-      With good a = ‵ (froom (sliceTy (tyRef erased mut (tyInt w8))) l₃₂ 0) ∷ ‵ (fdies (sliceTy (tyRef erased mut (tyInt w8))) l₃₂) ∷ ‵ (froom (tyRef erased mut (tyInt w8)) l₃₁ 0) ∷ ‵ (fdies (tyRef erased mut (tyInt w8)) l₃₁) ∷ ‵ (froom (tyRef erased mut (tyArray (tyInt w32) 1024)) l₃₀ 0) ∷ ‵ (fdies (tyRef erased mut (tyArray (tyInt w32) 1024)) l₃₀) ∷ ‵ (froom (sliceTy (tyRef erased mut (tyInt w8))) l₂₉ 0) ∷ ‵ (fdies (sliceTy (tyRef erased mut (tyInt w8))) l₂₉) ∷ ‵ (froom (tyRef erased mut (tyInt w8)) l₂₈ 0) ∷ ‵ (fdies (tyRef erased mut (tyInt w8)) l₂₈) ∷ ‵ (froom (sliceTy (tyRef erased mut (tyInt w8))) l₂₇ 0) ∷ ‵ (fdies (sliceTy (tyRef erased mut (tyInt w8))) l₂₇) ∷ ‵ (froom (tyRef erased mut (tyInt w8)) l₂₆ 0) ∷ ‵ (fdies (tyRef erased mut (tyInt w8)) l₂₆) ∷ ‵ (froom (tyRef erased mut (tyArray (tyInt w64) 1000)) l₂₅ 0) ∷ ‵ (fdies (tyRef erased mut (tyArray (tyInt w64) 1000)) l₂₅) ∷ ‵ (froom (sliceTy (tyRef erased mut table-ty)) l₂₄ 0) ∷ ‵ (fdies (sliceTy (tyRef erased mut table-ty)) l₂₄) ∷ ‵ (froom (tyRef erased mut table-ty) l₂₃ 0) ∷ ‵ (fdies (tyRef erased mut table-ty) l₂₃) ∷ ‵ (froom tyBool l₂₂ 0) ∷ ‵ (fdies tyBool l₂₂) ∷ ‵ (froom (sliceTy (tyRef erased mut (tyInt w8))) l₂₁ 0) ∷ ‵ (fdies (sliceTy (tyRef erased mut (tyInt w8))) l₂₁) ∷ ‵ (froom (tyRef erased mut (tyInt w8)) l₂₀ 0) ∷ ‵ (fdies (tyRef erased mut (tyInt w8)) l₂₀) ∷ ‵ (froom (tyRef erased mut (tyArray (tyInt w32) 1024)) l₁₉ 0) ∷ ‵ (fdies (tyRef erased mut (tyArray (tyInt w32) 1024)) l₁₉) ∷ ‵ (froom (sliceTy (tyRef erased mut (tyInt w8))) l₁₈ 0) ∷ ‵ (fdies (sliceTy (tyRef erased mut (tyInt w8))) l₁₈) ∷ ‵ (froom (tyRef erased mut (tyInt w8)) l₁₇ 0) ∷ ‵ (fdies (tyRef erased mut (tyInt w8)) l₁₇) ∷ ‵ (froom (sliceTy (tyRef erased mut (tyInt w8))) l₁₆ 0) ∷ ‵ (fdies (sliceTy (tyRef erased mut (tyInt w8))) l₁₆) ∷ ‵ (froom (tyRef erased mut (tyInt w8)) l₁₅ 0) ∷ ‵ (fdies (tyRef erased mut (tyInt w8)) l₁₅) ∷ ‵ (froom (sliceTy (tyRef erased mut table-ty)) l₁₄ 0) ∷ ‵ (fdies (sliceTy (tyRef erased mut table-ty)) l₁₄) ∷ ‵ (froom (tyRef erased mut table-ty) l₁₃ 0) ∷ ‵ (fdies (tyRef erased mut table-ty) l₁₃) ∷ ‵ (froom ran-ty l₁₂ 0) ∷ ‵ (fdies ran-ty l₁₂) ∷ ‵ (fat fullShare allowed-ty l₁₁ 0 (allowed-val a)) ∷ ‵ (fdies allowed-ty l₁₁) ∷ ‵ (fat fullShare tyBool l₁₀ 0 (vbool good)) ∷ ‵ (fdies tyBool l₁₀) ∷ ‵ (fat fullShare tyBool l₉ 0 (vbool starts)) ∷ ‵ (fdies tyBool l₉) ∷ ‵ (fat fullShare (tyInt w64) l₈ 0 (vint w64 fuel)) ∷ ‵ (fdies (tyInt w64) l₈) ∷ ‵ (fat fullShare machine-ty l₇ 0 (machine-val m)) ∷ ‵ (fdies machine-ty l₇) ∷ ‵ (fat fullShare (sliceTy (tyRef (named 5) mut (tyInt w8))) l₆ 0 (sliceVal (b₅, o₅) n₅)) ∷ ‵ (fdies (sliceTy (tyRef (named 5) mut (tyInt w8))) l₆) ∷ ‵ (fat fullShare (tyRef (named 4) mut (tyArray (tyInt w32) 1024)) l₅ 0 (vptr b₄ o₄)) ∷ ‵ (fdies (tyRef (named 4) mut (tyArray (tyInt w32) 1024)) l₅) ∷ ‵ (fat fullShare (sliceTy (tyRef (named 3) mut (tyInt w8))) l₄ 0 (sliceVal (b₃, o₃) n₃)) ∷ ‵ (fdies (sliceTy (tyRef (named 3) mut (tyInt w8))) l₄) ∷ ‵ (fat fullShare (sliceTy (tyRef (named 2) mut (tyInt w8))) l₃ 0 (sliceVal (b₂, o₂) n₂)) ∷ ‵ (fdies (sliceTy (tyRef (named 2) mut (tyInt w8))) l₃) ∷ ‵ (fat fullShare (tyRef (named 1) mut (tyArray (tyInt w64) 1000)) l₂ 0 (vptr b₁ o₁)) ∷ ‵ (fdies (tyRef (named 1) mut (tyArray (tyInt w64) 1000)) l₂) ∷ ‵ (fat fullShare (sliceTy (tyRef (named 0) mut table-ty)) l₁ 0 (sliceVal (b₀, o₀) n₀)) ∷ ‵ (fdies (sliceTy (tyRef (named 0) mut table-ty)) l₁) ∷ ‵ (froom report-ty l₀ 0) ∷ ‵ (fdies report-ty l₀) ∷ []
+      With good a = ‵ (froom (sliceTy (tyRef erased mut (tyInt w8))) l₃₂ 0) ∷ ‵ (fdies (sliceTy (tyRef erased mut (tyInt w8))) l₃₂) ∷ ‵ (froom (tyRef erased mut (tyInt w8)) l₃₁ 0) ∷ ‵ (fdies (tyRef erased mut (tyInt w8)) l₃₁) ∷ ‵ (froom (tyRef erased mut (tyArray (tyInt w32) 1024)) l₃₀ 0) ∷ ‵ (fdies (tyRef erased mut (tyArray (tyInt w32) 1024)) l₃₀) ∷ ‵ (froom (sliceTy (tyRef erased mut (tyInt w8))) l₂₉ 0) ∷ ‵ (fdies (sliceTy (tyRef erased mut (tyInt w8))) l₂₉) ∷ ‵ (froom (tyRef erased mut (tyInt w8)) l₂₈ 0) ∷ ‵ (fdies (tyRef erased mut (tyInt w8)) l₂₈) ∷ ‵ (froom (sliceTy (tyRef erased mut (tyInt w8))) l₂₇ 0) ∷ ‵ (fdies (sliceTy (tyRef erased mut (tyInt w8))) l₂₇) ∷ ‵ (froom (tyRef erased mut (tyInt w8)) l₂₆ 0) ∷ ‵ (fdies (tyRef erased mut (tyInt w8)) l₂₆) ∷ ‵ (froom (tyRef erased mut (tyArray (tyInt w64) 1000)) l₂₅ 0) ∷ ‵ (fdies (tyRef erased mut (tyArray (tyInt w64) 1000)) l₂₅) ∷ ‵ (froom (sliceTy (tyRef erased mut table-ty)) l₂₄ 0) ∷ ‵ (fdies (sliceTy (tyRef erased mut table-ty)) l₂₄) ∷ ‵ (froom (tyRef erased mut table-ty) l₂₃ 0) ∷ ‵ (fdies (tyRef erased mut table-ty) l₂₃) ∷ ‵ (froom tyBool l₂₂ 0) ∷ ‵ (fdies tyBool l₂₂) ∷ ‵ (froom (sliceTy (tyRef erased mut (tyInt w8))) l₂₁ 0) ∷ ‵ (fdies (sliceTy (tyRef erased mut (tyInt w8))) l₂₁) ∷ ‵ (froom (tyRef erased mut (tyInt w8)) l₂₀ 0) ∷ ‵ (fdies (tyRef erased mut (tyInt w8)) l₂₀) ∷ ‵ (froom (tyRef erased mut (tyArray (tyInt w32) 1024)) l₁₉ 0) ∷ ‵ (fdies (tyRef erased mut (tyArray (tyInt w32) 1024)) l₁₉) ∷ ‵ (froom (sliceTy (tyRef erased mut (tyInt w8))) l₁₈ 0) ∷ ‵ (fdies (sliceTy (tyRef erased mut (tyInt w8))) l₁₈) ∷ ‵ (froom (tyRef erased mut (tyInt w8)) l₁₇ 0) ∷ ‵ (fdies (tyRef erased mut (tyInt w8)) l₁₇) ∷ ‵ (froom (sliceTy (tyRef erased mut (tyInt w8))) l₁₆ 0) ∷ ‵ (fdies (sliceTy (tyRef erased mut (tyInt w8))) l₁₆) ∷ ‵ (froom (tyRef erased mut (tyInt w8)) l₁₅ 0) ∷ ‵ (fdies (tyRef erased mut (tyInt w8)) l₁₅) ∷ ‵ (froom (sliceTy (tyRef erased mut table-ty)) l₁₄ 0) ∷ ‵ (fdies (sliceTy (tyRef erased mut table-ty)) l₁₄) ∷ ‵ (froom (tyRef erased mut table-ty) l₁₃ 0) ∷ ‵ (fdies (tyRef erased mut table-ty) l₁₃) ∷ ‵ (froom ran-ty l₁₂ 0) ∷ ‵ (fdies ran-ty l₁₂) ∷ ‵ (fat fullShare allowed-ty l₁₁ 0 (allowed-val a)) ∷ ‵ (fdies allowed-ty l₁₁) ∷ ‵ (fat fullShare tyBool l₁₀ 0 (vbool good)) ∷ ‵ (fdies tyBool l₁₀) ∷ ‵ (fat fullShare (tyInt w64) l₉ 0 (vint w64 fuel)) ∷ ‵ (fdies (tyInt w64) l₉) ∷ ‵ (fat fullShare verb-ty l₈ 0 (verb-val verb)) ∷ ‵ (fdies verb-ty l₈) ∷ ‵ (fat fullShare machine-ty l₇ 0 (machine-val m)) ∷ ‵ (fdies machine-ty l₇) ∷ ‵ (fat fullShare (sliceTy (tyRef (named 5) mut (tyInt w8))) l₆ 0 (sliceVal (b₅, o₅) n₅)) ∷ ‵ (fdies (sliceTy (tyRef (named 5) mut (tyInt w8))) l₆) ∷ ‵ (fat fullShare (tyRef (named 4) mut (tyArray (tyInt w32) 1024)) l₅ 0 (vptr b₄ o₄)) ∷ ‵ (fdies (tyRef (named 4) mut (tyArray (tyInt w32) 1024)) l₅) ∷ ‵ (fat fullShare (sliceTy (tyRef (named 3) mut (tyInt w8))) l₄ 0 (sliceVal (b₃, o₃) n₃)) ∷ ‵ (fdies (sliceTy (tyRef (named 3) mut (tyInt w8))) l₄) ∷ ‵ (fat fullShare (sliceTy (tyRef (named 2) mut (tyInt w8))) l₃ 0 (sliceVal (b₂, o₂) n₂)) ∷ ‵ (fdies (sliceTy (tyRef (named 2) mut (tyInt w8))) l₃) ∷ ‵ (fat fullShare (tyRef (named 1) mut (tyArray (tyInt w64) 1000)) l₂ 0 (vptr b₁ o₁)) ∷ ‵ (fdies (tyRef (named 1) mut (tyArray (tyInt w64) 1000)) l₂) ∷ ‵ (fat fullShare (sliceTy (tyRef (named 0) mut table-ty)) l₁ 0 (sliceVal (b₀, o₀) n₀)) ∷ ‵ (fdies (sliceTy (tyRef (named 0) mut table-ty)) l₁) ∷ ‵ (froom report-ty l₀ 0) ∷ ‵ (fdies report-ty l₀) ∷ []
 
       -- a call that is not allowed
-      goes-not : (good : Bool) (a : Allowed) (ts : List Task) (me po en sv : List ℕ) → Is allowed.the-row a (allowed-vals a) → length ts ≡ n₀ → length me ≡ n₂ → length po ≡ n₃ → length sv ≡ n₅ → tested good ts me po en sv ≡ tested (sound-world x₀ x₂ x₃ x₄ x₅ m) x₀ x₂ x₃ x₄ x₅ → a ≡ allowed-of m good starts → a .allowed ≡ false
-          → Sq W (Has ts x₁ me po en sv (‵ (froom (sliceTy (tyRef erased mut (tyInt w8))) l₃₂ 0) ∷ ‵ (fdies (sliceTy (tyRef erased mut (tyInt w8))) l₃₂) ∷ ‵ (froom (tyRef erased mut (tyInt w8)) l₃₁ 0) ∷ ‵ (fdies (tyRef erased mut (tyInt w8)) l₃₁) ∷ ‵ (froom (tyRef erased mut (tyArray (tyInt w32) 1024)) l₃₀ 0) ∷ ‵ (fdies (tyRef erased mut (tyArray (tyInt w32) 1024)) l₃₀) ∷ ‵ (froom (sliceTy (tyRef erased mut (tyInt w8))) l₂₉ 0) ∷ ‵ (fdies (sliceTy (tyRef erased mut (tyInt w8))) l₂₉) ∷ ‵ (froom (tyRef erased mut (tyInt w8)) l₂₈ 0) ∷ ‵ (fdies (tyRef erased mut (tyInt w8)) l₂₈) ∷ ‵ (froom (sliceTy (tyRef erased mut (tyInt w8))) l₂₇ 0) ∷ ‵ (fdies (sliceTy (tyRef erased mut (tyInt w8))) l₂₇) ∷ ‵ (froom (tyRef erased mut (tyInt w8)) l₂₆ 0) ∷ ‵ (fdies (tyRef erased mut (tyInt w8)) l₂₆) ∷ ‵ (froom (tyRef erased mut (tyArray (tyInt w64) 1000)) l₂₅ 0) ∷ ‵ (fdies (tyRef erased mut (tyArray (tyInt w64) 1000)) l₂₅) ∷ ‵ (froom (sliceTy (tyRef erased mut table-ty)) l₂₄ 0) ∷ ‵ (fdies (sliceTy (tyRef erased mut table-ty)) l₂₄) ∷ ‵ (froom (tyRef erased mut table-ty) l₂₃ 0) ∷ ‵ (fdies (tyRef erased mut table-ty) l₂₃) ∷ ‵ (fat fullShare tyBool l₂₂ 0 (vbool (a .allowed))) ∷ ‵ (fdies tyBool l₂₂) ∷ ‵ (froom (sliceTy (tyRef erased mut (tyInt w8))) l₂₁ 0) ∷ ‵ (fdies (sliceTy (tyRef erased mut (tyInt w8))) l₂₁) ∷ ‵ (froom (tyRef erased mut (tyInt w8)) l₂₀ 0) ∷ ‵ (fdies (tyRef erased mut (tyInt w8)) l₂₀) ∷ ‵ (froom (tyRef erased mut (tyArray (tyInt w32) 1024)) l₁₉ 0) ∷ ‵ (fdies (tyRef erased mut (tyArray (tyInt w32) 1024)) l₁₉) ∷ ‵ (froom (sliceTy (tyRef erased mut (tyInt w8))) l₁₈ 0) ∷ ‵ (fdies (sliceTy (tyRef erased mut (tyInt w8))) l₁₈) ∷ ‵ (froom (tyRef erased mut (tyInt w8)) l₁₇ 0) ∷ ‵ (fdies (tyRef erased mut (tyInt w8)) l₁₇) ∷ ‵ (froom (sliceTy (tyRef erased mut (tyInt w8))) l₁₆ 0) ∷ ‵ (fdies (sliceTy (tyRef erased mut (tyInt w8))) l₁₆) ∷ ‵ (froom (tyRef erased mut (tyInt w8)) l₁₅ 0) ∷ ‵ (fdies (tyRef erased mut (tyInt w8)) l₁₅) ∷ ‵ (froom (sliceTy (tyRef erased mut table-ty)) l₁₄ 0) ∷ ‵ (fdies (sliceTy (tyRef erased mut table-ty)) l₁₄) ∷ ‵ (froom (tyRef erased mut table-ty) l₁₃ 0) ∷ ‵ (fdies (tyRef erased mut table-ty) l₁₃) ∷ ‵ (froom ran-ty l₁₂ 0) ∷ ‵ (fdies ran-ty l₁₂) ∷ ‵ (fat fullShare allowed-ty l₁₁ 0 (allowed-val a)) ∷ ‵ (fdies allowed-ty l₁₁) ∷ ‵ (fat fullShare tyBool l₁₀ 0 (vbool good)) ∷ ‵ (fdies tyBool l₁₀) ∷ ‵ (fat fullShare tyBool l₉ 0 (vbool starts)) ∷ ‵ (fdies tyBool l₉) ∷ ‵ (fat fullShare (tyInt w64) l₈ 0 (vint w64 fuel)) ∷ ‵ (fdies (tyInt w64) l₈) ∷ ‵ (fat fullShare machine-ty l₇ 0 (machine-val m)) ∷ ‵ (fdies machine-ty l₇) ∷ ‵ (fat fullShare (sliceTy (tyRef (named 5) mut (tyInt w8))) l₆ 0 (sliceVal (b₅, o₅) n₅)) ∷ ‵ (fdies (sliceTy (tyRef (named 5) mut (tyInt w8))) l₆) ∷ ‵ (fat fullShare (tyRef (named 4) mut (tyArray (tyInt w32) 1024)) l₅ 0 (vptr b₄ o₄)) ∷ ‵ (fdies (tyRef (named 4) mut (tyArray (tyInt w32) 1024)) l₅) ∷ ‵ (fat fullShare (sliceTy (tyRef (named 3) mut (tyInt w8))) l₄ 0 (sliceVal (b₃, o₃) n₃)) ∷ ‵ (fdies (sliceTy (tyRef (named 3) mut (tyInt w8))) l₄) ∷ ‵ (fat fullShare (sliceTy (tyRef (named 2) mut (tyInt w8))) l₃ 0 (sliceVal (b₂, o₂) n₂)) ∷ ‵ (fdies (sliceTy (tyRef (named 2) mut (tyInt w8))) l₃) ∷ ‵ (fat fullShare (tyRef (named 1) mut (tyArray (tyInt w64) 1000)) l₂ 0 (vptr b₁ o₁)) ∷ ‵ (fdies (tyRef (named 1) mut (tyArray (tyInt w64) 1000)) l₂) ∷ ‵ (fat fullShare (sliceTy (tyRef (named 0) mut table-ty)) l₁ 0 (sliceVal (b₀, o₀) n₀)) ∷ ‵ (fdies (sliceTy (tyRef (named 0) mut table-ty)) l₁) ∷ ‵ (froom report-ty l₀ 0) ∷ ‵ (fdies report-ty l₀) ∷ [])) (runs C Λ En mir.t-14 (atRet En Post))
+      goes-not : (good : Bool) (a : Allowed) (ts : List Task) (me po en sv : List ℕ) → Is allowed.the-row a (allowed-vals a) → length ts ≡ n₀ → length me ≡ n₂ → length po ≡ n₃ → length sv ≡ n₅ → tested good ts me po en sv ≡ tested (sound-world x₀ x₂ x₃ x₄ x₅ m) x₀ x₂ x₃ x₄ x₅ → a ≡ allowed-of m good verb → a .allowed ≡ false
+          → Sq W (Has ts x₁ me po en sv (‵ (froom (sliceTy (tyRef erased mut (tyInt w8))) l₃₂ 0) ∷ ‵ (fdies (sliceTy (tyRef erased mut (tyInt w8))) l₃₂) ∷ ‵ (froom (tyRef erased mut (tyInt w8)) l₃₁ 0) ∷ ‵ (fdies (tyRef erased mut (tyInt w8)) l₃₁) ∷ ‵ (froom (tyRef erased mut (tyArray (tyInt w32) 1024)) l₃₀ 0) ∷ ‵ (fdies (tyRef erased mut (tyArray (tyInt w32) 1024)) l₃₀) ∷ ‵ (froom (sliceTy (tyRef erased mut (tyInt w8))) l₂₉ 0) ∷ ‵ (fdies (sliceTy (tyRef erased mut (tyInt w8))) l₂₉) ∷ ‵ (froom (tyRef erased mut (tyInt w8)) l₂₈ 0) ∷ ‵ (fdies (tyRef erased mut (tyInt w8)) l₂₈) ∷ ‵ (froom (sliceTy (tyRef erased mut (tyInt w8))) l₂₇ 0) ∷ ‵ (fdies (sliceTy (tyRef erased mut (tyInt w8))) l₂₇) ∷ ‵ (froom (tyRef erased mut (tyInt w8)) l₂₆ 0) ∷ ‵ (fdies (tyRef erased mut (tyInt w8)) l₂₆) ∷ ‵ (froom (tyRef erased mut (tyArray (tyInt w64) 1000)) l₂₅ 0) ∷ ‵ (fdies (tyRef erased mut (tyArray (tyInt w64) 1000)) l₂₅) ∷ ‵ (froom (sliceTy (tyRef erased mut table-ty)) l₂₄ 0) ∷ ‵ (fdies (sliceTy (tyRef erased mut table-ty)) l₂₄) ∷ ‵ (froom (tyRef erased mut table-ty) l₂₃ 0) ∷ ‵ (fdies (tyRef erased mut table-ty) l₂₃) ∷ ‵ (fat fullShare tyBool l₂₂ 0 (vbool (a .allowed))) ∷ ‵ (fdies tyBool l₂₂) ∷ ‵ (froom (sliceTy (tyRef erased mut (tyInt w8))) l₂₁ 0) ∷ ‵ (fdies (sliceTy (tyRef erased mut (tyInt w8))) l₂₁) ∷ ‵ (froom (tyRef erased mut (tyInt w8)) l₂₀ 0) ∷ ‵ (fdies (tyRef erased mut (tyInt w8)) l₂₀) ∷ ‵ (froom (tyRef erased mut (tyArray (tyInt w32) 1024)) l₁₉ 0) ∷ ‵ (fdies (tyRef erased mut (tyArray (tyInt w32) 1024)) l₁₉) ∷ ‵ (froom (sliceTy (tyRef erased mut (tyInt w8))) l₁₈ 0) ∷ ‵ (fdies (sliceTy (tyRef erased mut (tyInt w8))) l₁₈) ∷ ‵ (froom (tyRef erased mut (tyInt w8)) l₁₇ 0) ∷ ‵ (fdies (tyRef erased mut (tyInt w8)) l₁₇) ∷ ‵ (froom (sliceTy (tyRef erased mut (tyInt w8))) l₁₆ 0) ∷ ‵ (fdies (sliceTy (tyRef erased mut (tyInt w8))) l₁₆) ∷ ‵ (froom (tyRef erased mut (tyInt w8)) l₁₅ 0) ∷ ‵ (fdies (tyRef erased mut (tyInt w8)) l₁₅) ∷ ‵ (froom (sliceTy (tyRef erased mut table-ty)) l₁₄ 0) ∷ ‵ (fdies (sliceTy (tyRef erased mut table-ty)) l₁₄) ∷ ‵ (froom (tyRef erased mut table-ty) l₁₃ 0) ∷ ‵ (fdies (tyRef erased mut table-ty) l₁₃) ∷ ‵ (froom ran-ty l₁₂ 0) ∷ ‵ (fdies ran-ty l₁₂) ∷ ‵ (fat fullShare allowed-ty l₁₁ 0 (allowed-val a)) ∷ ‵ (fdies allowed-ty l₁₁) ∷ ‵ (fat fullShare tyBool l₁₀ 0 (vbool good)) ∷ ‵ (fdies tyBool l₁₀) ∷ ‵ (fat fullShare (tyInt w64) l₉ 0 (vint w64 fuel)) ∷ ‵ (fdies (tyInt w64) l₉) ∷ ‵ (fat fullShare verb-ty l₈ 0 (verb-val verb)) ∷ ‵ (fdies verb-ty l₈) ∷ ‵ (fat fullShare machine-ty l₇ 0 (machine-val m)) ∷ ‵ (fdies machine-ty l₇) ∷ ‵ (fat fullShare (sliceTy (tyRef (named 5) mut (tyInt w8))) l₆ 0 (sliceVal (b₅, o₅) n₅)) ∷ ‵ (fdies (sliceTy (tyRef (named 5) mut (tyInt w8))) l₆) ∷ ‵ (fat fullShare (tyRef (named 4) mut (tyArray (tyInt w32) 1024)) l₅ 0 (vptr b₄ o₄)) ∷ ‵ (fdies (tyRef (named 4) mut (tyArray (tyInt w32) 1024)) l₅) ∷ ‵ (fat fullShare (sliceTy (tyRef (named 3) mut (tyInt w8))) l₄ 0 (sliceVal (b₃, o₃) n₃)) ∷ ‵ (fdies (sliceTy (tyRef (named 3) mut (tyInt w8))) l₄) ∷ ‵ (fat fullShare (sliceTy (tyRef (named 2) mut (tyInt w8))) l₃ 0 (sliceVal (b₂, o₂) n₂)) ∷ ‵ (fdies (sliceTy (tyRef (named 2) mut (tyInt w8))) l₃) ∷ ‵ (fat fullShare (tyRef (named 1) mut (tyArray (tyInt w64) 1000)) l₂ 0 (vptr b₁ o₁)) ∷ ‵ (fdies (tyRef (named 1) mut (tyArray (tyInt w64) 1000)) l₂) ∷ ‵ (fat fullShare (sliceTy (tyRef (named 0) mut table-ty)) l₁ 0 (sliceVal (b₀, o₀) n₀)) ∷ ‵ (fdies (sliceTy (tyRef (named 0) mut table-ty)) l₁) ∷ ‵ (froom report-ty l₀ 0) ∷ ‵ (fdies report-ty l₀) ∷ [])) (runs C Λ En mir.t-14 (atRet En Post))
       goes-not good a ts me po en sv is m₀ m₂ m₃ m₅ e begun may =
           nothing ! $ nothing ! $
           lent 0 [] tt (machine.the-row ∷ []) report.the-row 𝓤 (refuses.clauses 𝓤 H A at-mem run) tt (m, tt) (machine-val m ∷ [], tt) ! (fmOf 𝓤 H (W .laws) 𝓣) known-refuses
@@ -185,10 +193,10 @@ module _ {M : Type 1} (𝓤 : URA M) (H : Heap 𝓤) (A : Atoms 𝓤) (W : Given
           (λ αs δs w₁ r₁ z₁ f₁. heard ! (r₁ ≡ not-allowed m) (λ e₁. landed-by ! report.the-row report-vals report-tells r₁ w₁ (λ is₁.
           drop ! $ drop ! $ land ! (from ! (stop !)) (init ! 66 refl (report-typed 𝓤 H A W r₁ is₁)) $
           returns ! (look ! 66 refl) $ forget ! 22 refl $ forget ! 44 refl $ forget ! 46 refl $ forget ! 48 refl $ forget ! 50 refl $ forget ! 52 refl $ forget ! 54 refl $ forget ! 56 refl $ forget ! 58 refl $ forget ! 60 refl $ forget ! 62 refl $ forget ! 64 refl $ forget ! 66 refl $
-          ends r₁ ts x₁ me po en sv is₁ m₀ m₂ m₃ m₅ (calls-none m x₀ x₁ x₂ x₃ x₄ x₅ e starts fuel begun may e₁))))
+          ends r₁ ts x₁ me po en sv is₁ m₀ m₂ m₃ m₅ (calls-none m x₀ x₁ x₂ x₃ x₄ x₅ e verb fuel begun may e₁))))
 
       -- the run, where it is allowed
-      goes-or-not : (good : Bool) (a : Allowed) (ts : List Task) (me po en sv : List ℕ) → Is allowed.the-row a (allowed-vals a) → length ts ≡ n₀ → length me ≡ n₂ → length po ≡ n₃ → length sv ≡ n₅ → tested good ts me po en sv ≡ tested (sound-world x₀ x₂ x₃ x₄ x₅ m) x₀ x₂ x₃ x₄ x₅ → a ≡ allowed-of m good starts
+      goes-or-not : (good : Bool) (a : Allowed) (ts : List Task) (me po en sv : List ℕ) → Is allowed.the-row a (allowed-vals a) → length ts ≡ n₀ → length me ≡ n₂ → length po ≡ n₃ → length sv ≡ n₅ → tested good ts me po en sv ≡ tested (sound-world x₀ x₂ x₃ x₄ x₅ m) x₀ x₂ x₃ x₄ x₅ → a ≡ allowed-of m good verb
           → Sq W (Has ts x₁ me po en sv (With good a)) (runs C Λ En mir.t-12 (atRet En Post))
       goes-or-not good a ts me po en sv is m₀ m₂ m₃ m₅ e begun =
           assigns ! (of-opd ! (take-allowed ! 11 44 a refl refl)) (from ! (stop !)) (init ! 22 refl (tt, tt)) $
@@ -206,32 +214,32 @@ module _ {M : Type 1} (𝓤 : URA M) (H : Heap 𝓤) (A : Atoms 𝓤) (W : Given
           assigns ! (agg ! (and-then ! (load ! (from ! (stop !)) (look ! 4 refl)) (and-then ! (load ! (from ! (fld ! refl (stop !))) (look-in ! 54 (sub ! 1 refl (whole !)))) (no-more !)))) (from ! (stop !)) (init ! 2 refl (tt, (tt, (record { fits = g₅ .0 }, tt)))) $
           lent 6 All (tt, (tt, (tt, (tt, (tt, (tt, tt)))))) (machine.the-row ∷ u64 ∷ []) ran.the-row 𝓤 (drives.clauses 𝓤 H A at-mem run) (ts, (x₁, (me, (po, (en, (sv, tt)))))) (a .machine, (fuel, tt)) (machine-val (a .machine) ∷ [], (vint w64 fuel ∷ [], tt)) ! (fmOf 𝓤 H (W .laws) 𝓣) known-drives
           (g₀, (tt, (g₂, (g₃, (tt, (g₅, tt)))))) (m₀, (tt, (m₂, (m₃, (tt, (m₅, tt)))))) (machine-makes 𝓤 H A (a .machine) _ (begun-is a is), (uint-makes 𝓤 H A W w64 fuel _ (refl, fuel-is), tt)) (λ αs δs. tt) (λ αs δs. id⊢ 𝓤 (emp 𝓤))
-          (λ αs δs. (and-then ! (load ! (from ! (stop !)) (look ! 18 refl)) (and-then ! (load ! (from ! (stop !)) (look ! 16 refl)) (and-then ! (load ! (from ! (stop !)) (look ! 12 refl)) (and-then ! (load ! (from ! (stop !)) (look ! 8 refl)) (and-then ! (load ! (from ! (stop !)) (look ! 6 refl)) (and-then ! (load ! (from ! (stop !)) (look ! 2 refl)) (and-then ! (take-begun ! 11 44 a refl refl) (and-then ! (load ! (from ! (stop !)) (look ! 50 refl)) (no-more !))))))))))
+          (λ αs δs. (and-then ! (load ! (from ! (stop !)) (look ! 18 refl)) (and-then ! (load ! (from ! (stop !)) (look ! 16 refl)) (and-then ! (load ! (from ! (stop !)) (look ! 12 refl)) (and-then ! (load ! (from ! (stop !)) (look ! 8 refl)) (and-then ! (load ! (from ! (stop !)) (look ! 6 refl)) (and-then ! (load ! (from ! (stop !)) (look ! 2 refl)) (and-then ! (take-begun ! 11 44 a refl refl) (and-then ! (load ! (from ! (stop !)) (look ! 48 refl)) (no-more !))))))))))
           (λ αs δs w₁ r₁ z₁ f₁. heard ! (ran-to r₁ (z₁ .0) (z₁ .1 .0) (z₁ .1 .1 .0) (z₁ .1 .1 .1 .0) (z₁ .1 .1 .1 .1 .0) (z₁ .1 .1 .1 .1 .1 .0) ≡ run-of fuel (world (a .machine) ts x₁ me po en sv)) (λ e₁. landed-by ! ran.the-row ran-vals ran-tells r₁ w₁ (λ is₁.
           land ! (from ! (stop !)) (init ! 42 refl (ran-typed 𝓤 H A W r₁ is₁)) $
           nothing ! $ nothing ! $
           lent 0 [] tt (u64 ∷ ran.the-row ∷ []) report.the-row 𝓤 (reports.clauses 𝓤 H A at-mem run) tt (fuel, (r₁, tt)) (vint w64 fuel ∷ [], (ran-val r₁ ∷ [], tt)) ! (fmOf 𝓤 H (W .laws) 𝓣) known-reports
           tt tt (uint-makes 𝓤 H A W w64 fuel _ (refl, fuel-is), (ran-makes 𝓤 H A r₁ _ is₁, tt)) (λ αs δs. tt) (λ αs δs. id⊢ 𝓤 (emp 𝓤))
-          (λ αs δs. (and-then ! (load ! (from ! (stop !)) (look ! 52 refl)) (and-then ! (load ! (from ! (stop !)) (look ! 44 refl)) (no-more !))))
+          (λ αs δs. (and-then ! (load ! (from ! (stop !)) (look ! 50 refl)) (and-then ! (load ! (from ! (stop !)) (look ! 44 refl)) (no-more !))))
           (λ αs δs w₂ r₂ z₂ f₂. heard ! (r₂ ≡ report-of fuel r₁) (λ e₂. landed-by ! report.the-row report-vals report-tells r₂ w₂ (λ is₂.
           drop ! $ drop ! $ land ! (from ! (stop !)) (init ! 66 refl (report-typed 𝓤 H A W r₂ is₂)) $
           returns-within ! Post refl (look ! 66 refl) $ forget ! 2 refl $ forget ! 4 refl $ forget ! 6 refl $ forget ! 8 refl $ forget ! 10 refl $ forget ! 12 refl $ forget ! 14 refl $ forget ! 16 refl $ forget ! 18 refl $ forget ! 20 refl $ forget ! 22 refl $ forget ! 42 refl $ forget ! 44 refl $ forget ! 46 refl $ forget ! 48 refl $ forget ! 50 refl $ forget ! 52 refl $ forget ! 54 refl $ forget ! 56 refl $ forget ! 58 refl $ forget ! 60 refl $ forget ! 62 refl $ forget ! 64 refl $ forget ! 66 refl $
-          ends r₂ (z₁ .0) (z₁ .1 .0) (z₁ .1 .1 .0) (z₁ .1 .1 .1 .0) (z₁ .1 .1 .1 .1 .0) (z₁ .1 .1 .1 .1 .1 .0) is₂ (f₁ .0) (f₁ .1 .1 .0) (f₁ .1 .1 .1 .0) (f₁ .1 .1 .1 .1 .1 .0) (calls-run m x₀ x₁ x₂ x₃ x₄ x₅ e starts fuel begun (is-true (a .allowed) yes) e₁ e₂))))))))
+          ends r₂ (z₁ .0) (z₁ .1 .0) (z₁ .1 .1 .0) (z₁ .1 .1 .1 .0) (z₁ .1 .1 .1 .1 .0) (z₁ .1 .1 .1 .1 .1 .0) is₂ (f₁ .0) (f₁ .1 .1 .0) (f₁ .1 .1 .1 .0) (f₁ .1 .1 .1 .1 .1 .0) (calls-run m x₀ x₁ x₂ x₃ x₄ x₅ e verb fuel begun (is-true (a .allowed) yes) e₁ e₂))))))))
           (λ no. skips ! $ exec ! C Λ En mir.t-14 (atRet En Post) $ goes-not good a ts me po en sv is m₀ m₂ m₃ m₅ e begun (is-false (a .allowed) no))
 
       -- what the call begins with
       allows-or-not : (good : Bool) (ts : List Task) (me po en sv : List ℕ) → length ts ≡ n₀ → length me ≡ n₂ → length po ≡ n₃ → length sv ≡ n₅ → tested good ts me po en sv ≡ tested (sound-world x₀ x₂ x₃ x₄ x₅ m) x₀ x₂ x₃ x₄ x₅
-          → Sq W (Has ts x₁ me po en sv (‵ (froom (sliceTy (tyRef erased mut (tyInt w8))) l₃₂ 0) ∷ ‵ (fdies (sliceTy (tyRef erased mut (tyInt w8))) l₃₂) ∷ ‵ (froom (tyRef erased mut (tyInt w8)) l₃₁ 0) ∷ ‵ (fdies (tyRef erased mut (tyInt w8)) l₃₁) ∷ ‵ (froom (tyRef erased mut (tyArray (tyInt w32) 1024)) l₃₀ 0) ∷ ‵ (fdies (tyRef erased mut (tyArray (tyInt w32) 1024)) l₃₀) ∷ ‵ (froom (sliceTy (tyRef erased mut (tyInt w8))) l₂₉ 0) ∷ ‵ (fdies (sliceTy (tyRef erased mut (tyInt w8))) l₂₉) ∷ ‵ (froom (tyRef erased mut (tyInt w8)) l₂₈ 0) ∷ ‵ (fdies (tyRef erased mut (tyInt w8)) l₂₈) ∷ ‵ (froom (sliceTy (tyRef erased mut (tyInt w8))) l₂₇ 0) ∷ ‵ (fdies (sliceTy (tyRef erased mut (tyInt w8))) l₂₇) ∷ ‵ (froom (tyRef erased mut (tyInt w8)) l₂₆ 0) ∷ ‵ (fdies (tyRef erased mut (tyInt w8)) l₂₆) ∷ ‵ (froom (tyRef erased mut (tyArray (tyInt w64) 1000)) l₂₅ 0) ∷ ‵ (fdies (tyRef erased mut (tyArray (tyInt w64) 1000)) l₂₅) ∷ ‵ (froom (sliceTy (tyRef erased mut table-ty)) l₂₄ 0) ∷ ‵ (fdies (sliceTy (tyRef erased mut table-ty)) l₂₄) ∷ ‵ (froom (tyRef erased mut table-ty) l₂₃ 0) ∷ ‵ (fdies (tyRef erased mut table-ty) l₂₃) ∷ ‵ (froom tyBool l₂₂ 0) ∷ ‵ (fdies tyBool l₂₂) ∷ ‵ (froom (sliceTy (tyRef erased mut (tyInt w8))) l₂₁ 0) ∷ ‵ (fdies (sliceTy (tyRef erased mut (tyInt w8))) l₂₁) ∷ ‵ (froom (tyRef erased mut (tyInt w8)) l₂₀ 0) ∷ ‵ (fdies (tyRef erased mut (tyInt w8)) l₂₀) ∷ ‵ (froom (tyRef erased mut (tyArray (tyInt w32) 1024)) l₁₉ 0) ∷ ‵ (fdies (tyRef erased mut (tyArray (tyInt w32) 1024)) l₁₉) ∷ ‵ (froom (sliceTy (tyRef erased mut (tyInt w8))) l₁₈ 0) ∷ ‵ (fdies (sliceTy (tyRef erased mut (tyInt w8))) l₁₈) ∷ ‵ (froom (tyRef erased mut (tyInt w8)) l₁₇ 0) ∷ ‵ (fdies (tyRef erased mut (tyInt w8)) l₁₇) ∷ ‵ (froom (sliceTy (tyRef erased mut (tyInt w8))) l₁₆ 0) ∷ ‵ (fdies (sliceTy (tyRef erased mut (tyInt w8))) l₁₆) ∷ ‵ (froom (tyRef erased mut (tyInt w8)) l₁₅ 0) ∷ ‵ (fdies (tyRef erased mut (tyInt w8)) l₁₅) ∷ ‵ (froom (sliceTy (tyRef erased mut table-ty)) l₁₄ 0) ∷ ‵ (fdies (sliceTy (tyRef erased mut table-ty)) l₁₄) ∷ ‵ (froom (tyRef erased mut table-ty) l₁₃ 0) ∷ ‵ (fdies (tyRef erased mut table-ty) l₁₃) ∷ ‵ (froom ran-ty l₁₂ 0) ∷ ‵ (fdies ran-ty l₁₂) ∷ ‵ (froom allowed-ty l₁₁ 0) ∷ ‵ (fdies allowed-ty l₁₁) ∷ ‵ (fat fullShare tyBool l₁₀ 0 (vbool good)) ∷ ‵ (fdies tyBool l₁₀) ∷ ‵ (fat fullShare tyBool l₉ 0 (vbool starts)) ∷ ‵ (fdies tyBool l₉) ∷ ‵ (fat fullShare (tyInt w64) l₈ 0 (vint w64 fuel)) ∷ ‵ (fdies (tyInt w64) l₈) ∷ ‵ (fat fullShare machine-ty l₇ 0 (machine-val m)) ∷ ‵ (fdies machine-ty l₇) ∷ ‵ (fat fullShare (sliceTy (tyRef (named 5) mut (tyInt w8))) l₆ 0 (sliceVal (b₅, o₅) n₅)) ∷ ‵ (fdies (sliceTy (tyRef (named 5) mut (tyInt w8))) l₆) ∷ ‵ (fat fullShare (tyRef (named 4) mut (tyArray (tyInt w32) 1024)) l₅ 0 (vptr b₄ o₄)) ∷ ‵ (fdies (tyRef (named 4) mut (tyArray (tyInt w32) 1024)) l₅) ∷ ‵ (fat fullShare (sliceTy (tyRef (named 3) mut (tyInt w8))) l₄ 0 (sliceVal (b₃, o₃) n₃)) ∷ ‵ (fdies (sliceTy (tyRef (named 3) mut (tyInt w8))) l₄) ∷ ‵ (fat fullShare (sliceTy (tyRef (named 2) mut (tyInt w8))) l₃ 0 (sliceVal (b₂, o₂) n₂)) ∷ ‵ (fdies (sliceTy (tyRef (named 2) mut (tyInt w8))) l₃) ∷ ‵ (fat fullShare (tyRef (named 1) mut (tyArray (tyInt w64) 1000)) l₂ 0 (vptr b₁ o₁)) ∷ ‵ (fdies (tyRef (named 1) mut (tyArray (tyInt w64) 1000)) l₂) ∷ ‵ (fat fullShare (sliceTy (tyRef (named 0) mut table-ty)) l₁ 0 (sliceVal (b₀, o₀) n₀)) ∷ ‵ (fdies (sliceTy (tyRef (named 0) mut table-ty)) l₁) ∷ ‵ (froom report-ty l₀ 0) ∷ ‵ (fdies report-ty l₀) ∷ [])) (runs C Λ En mir.t-11 (atRet En Post))
+          → Sq W (Has ts x₁ me po en sv (‵ (froom (sliceTy (tyRef erased mut (tyInt w8))) l₃₂ 0) ∷ ‵ (fdies (sliceTy (tyRef erased mut (tyInt w8))) l₃₂) ∷ ‵ (froom (tyRef erased mut (tyInt w8)) l₃₁ 0) ∷ ‵ (fdies (tyRef erased mut (tyInt w8)) l₃₁) ∷ ‵ (froom (tyRef erased mut (tyArray (tyInt w32) 1024)) l₃₀ 0) ∷ ‵ (fdies (tyRef erased mut (tyArray (tyInt w32) 1024)) l₃₀) ∷ ‵ (froom (sliceTy (tyRef erased mut (tyInt w8))) l₂₉ 0) ∷ ‵ (fdies (sliceTy (tyRef erased mut (tyInt w8))) l₂₉) ∷ ‵ (froom (tyRef erased mut (tyInt w8)) l₂₈ 0) ∷ ‵ (fdies (tyRef erased mut (tyInt w8)) l₂₈) ∷ ‵ (froom (sliceTy (tyRef erased mut (tyInt w8))) l₂₇ 0) ∷ ‵ (fdies (sliceTy (tyRef erased mut (tyInt w8))) l₂₇) ∷ ‵ (froom (tyRef erased mut (tyInt w8)) l₂₆ 0) ∷ ‵ (fdies (tyRef erased mut (tyInt w8)) l₂₆) ∷ ‵ (froom (tyRef erased mut (tyArray (tyInt w64) 1000)) l₂₅ 0) ∷ ‵ (fdies (tyRef erased mut (tyArray (tyInt w64) 1000)) l₂₅) ∷ ‵ (froom (sliceTy (tyRef erased mut table-ty)) l₂₄ 0) ∷ ‵ (fdies (sliceTy (tyRef erased mut table-ty)) l₂₄) ∷ ‵ (froom (tyRef erased mut table-ty) l₂₃ 0) ∷ ‵ (fdies (tyRef erased mut table-ty) l₂₃) ∷ ‵ (froom tyBool l₂₂ 0) ∷ ‵ (fdies tyBool l₂₂) ∷ ‵ (froom (sliceTy (tyRef erased mut (tyInt w8))) l₂₁ 0) ∷ ‵ (fdies (sliceTy (tyRef erased mut (tyInt w8))) l₂₁) ∷ ‵ (froom (tyRef erased mut (tyInt w8)) l₂₀ 0) ∷ ‵ (fdies (tyRef erased mut (tyInt w8)) l₂₀) ∷ ‵ (froom (tyRef erased mut (tyArray (tyInt w32) 1024)) l₁₉ 0) ∷ ‵ (fdies (tyRef erased mut (tyArray (tyInt w32) 1024)) l₁₉) ∷ ‵ (froom (sliceTy (tyRef erased mut (tyInt w8))) l₁₈ 0) ∷ ‵ (fdies (sliceTy (tyRef erased mut (tyInt w8))) l₁₈) ∷ ‵ (froom (tyRef erased mut (tyInt w8)) l₁₇ 0) ∷ ‵ (fdies (tyRef erased mut (tyInt w8)) l₁₇) ∷ ‵ (froom (sliceTy (tyRef erased mut (tyInt w8))) l₁₆ 0) ∷ ‵ (fdies (sliceTy (tyRef erased mut (tyInt w8))) l₁₆) ∷ ‵ (froom (tyRef erased mut (tyInt w8)) l₁₅ 0) ∷ ‵ (fdies (tyRef erased mut (tyInt w8)) l₁₅) ∷ ‵ (froom (sliceTy (tyRef erased mut table-ty)) l₁₄ 0) ∷ ‵ (fdies (sliceTy (tyRef erased mut table-ty)) l₁₄) ∷ ‵ (froom (tyRef erased mut table-ty) l₁₃ 0) ∷ ‵ (fdies (tyRef erased mut table-ty) l₁₃) ∷ ‵ (froom ran-ty l₁₂ 0) ∷ ‵ (fdies ran-ty l₁₂) ∷ ‵ (froom allowed-ty l₁₁ 0) ∷ ‵ (fdies allowed-ty l₁₁) ∷ ‵ (fat fullShare tyBool l₁₀ 0 (vbool good)) ∷ ‵ (fdies tyBool l₁₀) ∷ ‵ (fat fullShare (tyInt w64) l₉ 0 (vint w64 fuel)) ∷ ‵ (fdies (tyInt w64) l₉) ∷ ‵ (fat fullShare verb-ty l₈ 0 (verb-val verb)) ∷ ‵ (fdies verb-ty l₈) ∷ ‵ (fat fullShare machine-ty l₇ 0 (machine-val m)) ∷ ‵ (fdies machine-ty l₇) ∷ ‵ (fat fullShare (sliceTy (tyRef (named 5) mut (tyInt w8))) l₆ 0 (sliceVal (b₅, o₅) n₅)) ∷ ‵ (fdies (sliceTy (tyRef (named 5) mut (tyInt w8))) l₆) ∷ ‵ (fat fullShare (tyRef (named 4) mut (tyArray (tyInt w32) 1024)) l₅ 0 (vptr b₄ o₄)) ∷ ‵ (fdies (tyRef (named 4) mut (tyArray (tyInt w32) 1024)) l₅) ∷ ‵ (fat fullShare (sliceTy (tyRef (named 3) mut (tyInt w8))) l₄ 0 (sliceVal (b₃, o₃) n₃)) ∷ ‵ (fdies (sliceTy (tyRef (named 3) mut (tyInt w8))) l₄) ∷ ‵ (fat fullShare (sliceTy (tyRef (named 2) mut (tyInt w8))) l₃ 0 (sliceVal (b₂, o₂) n₂)) ∷ ‵ (fdies (sliceTy (tyRef (named 2) mut (tyInt w8))) l₃) ∷ ‵ (fat fullShare (tyRef (named 1) mut (tyArray (tyInt w64) 1000)) l₂ 0 (vptr b₁ o₁)) ∷ ‵ (fdies (tyRef (named 1) mut (tyArray (tyInt w64) 1000)) l₂) ∷ ‵ (fat fullShare (sliceTy (tyRef (named 0) mut table-ty)) l₁ 0 (sliceVal (b₀, o₀) n₀)) ∷ ‵ (fdies (sliceTy (tyRef (named 0) mut table-ty)) l₁) ∷ ‵ (froom report-ty l₀ 0) ∷ ‵ (fdies report-ty l₀) ∷ [])) (runs C Λ En mir.t-11 (atRet En Post))
       allows-or-not good ts me po en sv m₀ m₂ m₃ m₅ e =
           nothing ! $ nothing ! $
-          lent 0 [] tt (machine.the-row ∷ bool ∷ bool ∷ []) allowed.the-row 𝓤 (allows.clauses 𝓤 H A at-mem run) tt (m, (good, (starts, tt))) (machine-val m ∷ [], (vbool good ∷ [], (vbool starts ∷ [], tt))) ! (fmOf 𝓤 H (W .laws) 𝓣) known-allows
-          tt tt (machine-makes 𝓤 H A m _ m-is, (bool-makes 𝓤 H A W good _ refl, (bool-makes 𝓤 H A W starts _ refl, tt))) (λ αs δs. tt) (λ αs δs. id⊢ 𝓤 (emp 𝓤))
-          (λ αs δs. (and-then ! (load ! (from ! (stop !)) (look ! 54 refl)) (and-then ! (load ! (from ! (stop !)) (look ! 48 refl)) (and-then ! (load ! (from ! (stop !)) (look ! 50 refl)) (no-more !)))))
-          (λ αs δs w₁ r₁ z₁ f₁. heard ! (r₁ ≡ allowed-of m good starts) (λ e₁. landed-by ! allowed.the-row allowed-vals allowed-tells r₁ w₁ (λ is₁.
+          lent 0 [] tt (machine.the-row ∷ bool ∷ verb-row.the-row ∷ []) allowed.the-row 𝓤 (allows.clauses 𝓤 H A at-mem run) tt (m, (good, (verb, tt))) (machine-val m ∷ [], (vbool good ∷ [], (verb-val verb ∷ [], tt))) ! (fmOf 𝓤 H (W .laws) 𝓣) known-allows
+          tt tt (machine-makes 𝓤 H A m _ m-is, (bool-makes 𝓤 H A W good _ refl, (verb-makes 𝓤 H A verb _ verb-is, tt))) (λ αs δs. tt) (λ αs δs. id⊢ 𝓤 (emp 𝓤))
+          (λ αs δs. (and-then ! (load ! (from ! (stop !)) (look ! 54 refl)) (and-then ! (load ! (from ! (stop !)) (look ! 48 refl)) (and-then ! (load ! (from ! (stop !)) (look ! 52 refl)) (no-more !)))))
+          (λ αs δs w₁ r₁ z₁ f₁. heard ! (r₁ ≡ allowed-of m good verb) (λ e₁. landed-by ! allowed.the-row allowed-vals allowed-tells r₁ w₁ (λ is₁.
           drop ! $ drop ! $ land ! (from ! (stop !)) (init ! 44 refl (allowed-typed 𝓤 H A W r₁ is₁)) $
           goes-or-not good r₁ ts me po en sv is₁ m₀ m₂ m₃ m₅ e e₁)))
 
-      steps : Sq W (Has x₀ x₁ x₂ x₃ x₄ x₅ (‵ (froom (sliceTy (tyRef erased mut (tyInt w8))) l₃₂ 0) ∷ ‵ (fdies (sliceTy (tyRef erased mut (tyInt w8))) l₃₂) ∷ ‵ (froom (tyRef erased mut (tyInt w8)) l₃₁ 0) ∷ ‵ (fdies (tyRef erased mut (tyInt w8)) l₃₁) ∷ ‵ (froom (tyRef erased mut (tyArray (tyInt w32) 1024)) l₃₀ 0) ∷ ‵ (fdies (tyRef erased mut (tyArray (tyInt w32) 1024)) l₃₀) ∷ ‵ (froom (sliceTy (tyRef erased mut (tyInt w8))) l₂₉ 0) ∷ ‵ (fdies (sliceTy (tyRef erased mut (tyInt w8))) l₂₉) ∷ ‵ (froom (tyRef erased mut (tyInt w8)) l₂₈ 0) ∷ ‵ (fdies (tyRef erased mut (tyInt w8)) l₂₈) ∷ ‵ (froom (sliceTy (tyRef erased mut (tyInt w8))) l₂₇ 0) ∷ ‵ (fdies (sliceTy (tyRef erased mut (tyInt w8))) l₂₇) ∷ ‵ (froom (tyRef erased mut (tyInt w8)) l₂₆ 0) ∷ ‵ (fdies (tyRef erased mut (tyInt w8)) l₂₆) ∷ ‵ (froom (tyRef erased mut (tyArray (tyInt w64) 1000)) l₂₅ 0) ∷ ‵ (fdies (tyRef erased mut (tyArray (tyInt w64) 1000)) l₂₅) ∷ ‵ (froom (sliceTy (tyRef erased mut table-ty)) l₂₄ 0) ∷ ‵ (fdies (sliceTy (tyRef erased mut table-ty)) l₂₄) ∷ ‵ (froom (tyRef erased mut table-ty) l₂₃ 0) ∷ ‵ (fdies (tyRef erased mut table-ty) l₂₃) ∷ ‵ (froom tyBool l₂₂ 0) ∷ ‵ (fdies tyBool l₂₂) ∷ ‵ (froom (sliceTy (tyRef erased mut (tyInt w8))) l₂₁ 0) ∷ ‵ (fdies (sliceTy (tyRef erased mut (tyInt w8))) l₂₁) ∷ ‵ (froom (tyRef erased mut (tyInt w8)) l₂₀ 0) ∷ ‵ (fdies (tyRef erased mut (tyInt w8)) l₂₀) ∷ ‵ (froom (tyRef erased mut (tyArray (tyInt w32) 1024)) l₁₉ 0) ∷ ‵ (fdies (tyRef erased mut (tyArray (tyInt w32) 1024)) l₁₉) ∷ ‵ (froom (sliceTy (tyRef erased mut (tyInt w8))) l₁₈ 0) ∷ ‵ (fdies (sliceTy (tyRef erased mut (tyInt w8))) l₁₈) ∷ ‵ (froom (tyRef erased mut (tyInt w8)) l₁₇ 0) ∷ ‵ (fdies (tyRef erased mut (tyInt w8)) l₁₇) ∷ ‵ (froom (sliceTy (tyRef erased mut (tyInt w8))) l₁₆ 0) ∷ ‵ (fdies (sliceTy (tyRef erased mut (tyInt w8))) l₁₆) ∷ ‵ (froom (tyRef erased mut (tyInt w8)) l₁₅ 0) ∷ ‵ (fdies (tyRef erased mut (tyInt w8)) l₁₅) ∷ ‵ (froom (sliceTy (tyRef erased mut table-ty)) l₁₄ 0) ∷ ‵ (fdies (sliceTy (tyRef erased mut table-ty)) l₁₄) ∷ ‵ (froom (tyRef erased mut table-ty) l₁₃ 0) ∷ ‵ (fdies (tyRef erased mut table-ty) l₁₃) ∷ ‵ (froom ran-ty l₁₂ 0) ∷ ‵ (fdies ran-ty l₁₂) ∷ ‵ (froom allowed-ty l₁₁ 0) ∷ ‵ (fdies allowed-ty l₁₁) ∷ ‵ (froom tyBool l₁₀ 0) ∷ ‵ (fdies tyBool l₁₀) ∷ ‵ (fat fullShare tyBool l₉ 0 (vbool starts)) ∷ ‵ (fdies tyBool l₉) ∷ ‵ (fat fullShare (tyInt w64) l₈ 0 (vint w64 fuel)) ∷ ‵ (fdies (tyInt w64) l₈) ∷ ‵ (fat fullShare machine-ty l₇ 0 (machine-val m)) ∷ ‵ (fdies machine-ty l₇) ∷ ‵ (fat fullShare (sliceTy (tyRef (named 5) mut (tyInt w8))) l₆ 0 (sliceVal (b₅, o₅) n₅)) ∷ ‵ (fdies (sliceTy (tyRef (named 5) mut (tyInt w8))) l₆) ∷ ‵ (fat fullShare (tyRef (named 4) mut (tyArray (tyInt w32) 1024)) l₅ 0 (vptr b₄ o₄)) ∷ ‵ (fdies (tyRef (named 4) mut (tyArray (tyInt w32) 1024)) l₅) ∷ ‵ (fat fullShare (sliceTy (tyRef (named 3) mut (tyInt w8))) l₄ 0 (sliceVal (b₃, o₃) n₃)) ∷ ‵ (fdies (sliceTy (tyRef (named 3) mut (tyInt w8))) l₄) ∷ ‵ (fat fullShare (sliceTy (tyRef (named 2) mut (tyInt w8))) l₃ 0 (sliceVal (b₂, o₂) n₂)) ∷ ‵ (fdies (sliceTy (tyRef (named 2) mut (tyInt w8))) l₃) ∷ ‵ (fat fullShare (tyRef (named 1) mut (tyArray (tyInt w64) 1000)) l₂ 0 (vptr b₁ o₁)) ∷ ‵ (fdies (tyRef (named 1) mut (tyArray (tyInt w64) 1000)) l₂) ∷ ‵ (fat fullShare (sliceTy (tyRef (named 0) mut table-ty)) l₁ 0 (sliceVal (b₀, o₀) n₀)) ∷ ‵ (fdies (sliceTy (tyRef (named 0) mut table-ty)) l₁) ∷ ‵ (froom report-ty l₀ 0) ∷ ‵ (fdies report-ty l₀) ∷ [])) (runs C Λ En mir.t-1 (atRet En Post))
+      steps : Sq W (Has x₀ x₁ x₂ x₃ x₄ x₅ (‵ (froom (sliceTy (tyRef erased mut (tyInt w8))) l₃₂ 0) ∷ ‵ (fdies (sliceTy (tyRef erased mut (tyInt w8))) l₃₂) ∷ ‵ (froom (tyRef erased mut (tyInt w8)) l₃₁ 0) ∷ ‵ (fdies (tyRef erased mut (tyInt w8)) l₃₁) ∷ ‵ (froom (tyRef erased mut (tyArray (tyInt w32) 1024)) l₃₀ 0) ∷ ‵ (fdies (tyRef erased mut (tyArray (tyInt w32) 1024)) l₃₀) ∷ ‵ (froom (sliceTy (tyRef erased mut (tyInt w8))) l₂₉ 0) ∷ ‵ (fdies (sliceTy (tyRef erased mut (tyInt w8))) l₂₉) ∷ ‵ (froom (tyRef erased mut (tyInt w8)) l₂₈ 0) ∷ ‵ (fdies (tyRef erased mut (tyInt w8)) l₂₈) ∷ ‵ (froom (sliceTy (tyRef erased mut (tyInt w8))) l₂₇ 0) ∷ ‵ (fdies (sliceTy (tyRef erased mut (tyInt w8))) l₂₇) ∷ ‵ (froom (tyRef erased mut (tyInt w8)) l₂₆ 0) ∷ ‵ (fdies (tyRef erased mut (tyInt w8)) l₂₆) ∷ ‵ (froom (tyRef erased mut (tyArray (tyInt w64) 1000)) l₂₅ 0) ∷ ‵ (fdies (tyRef erased mut (tyArray (tyInt w64) 1000)) l₂₅) ∷ ‵ (froom (sliceTy (tyRef erased mut table-ty)) l₂₄ 0) ∷ ‵ (fdies (sliceTy (tyRef erased mut table-ty)) l₂₄) ∷ ‵ (froom (tyRef erased mut table-ty) l₂₃ 0) ∷ ‵ (fdies (tyRef erased mut table-ty) l₂₃) ∷ ‵ (froom tyBool l₂₂ 0) ∷ ‵ (fdies tyBool l₂₂) ∷ ‵ (froom (sliceTy (tyRef erased mut (tyInt w8))) l₂₁ 0) ∷ ‵ (fdies (sliceTy (tyRef erased mut (tyInt w8))) l₂₁) ∷ ‵ (froom (tyRef erased mut (tyInt w8)) l₂₀ 0) ∷ ‵ (fdies (tyRef erased mut (tyInt w8)) l₂₀) ∷ ‵ (froom (tyRef erased mut (tyArray (tyInt w32) 1024)) l₁₉ 0) ∷ ‵ (fdies (tyRef erased mut (tyArray (tyInt w32) 1024)) l₁₉) ∷ ‵ (froom (sliceTy (tyRef erased mut (tyInt w8))) l₁₈ 0) ∷ ‵ (fdies (sliceTy (tyRef erased mut (tyInt w8))) l₁₈) ∷ ‵ (froom (tyRef erased mut (tyInt w8)) l₁₇ 0) ∷ ‵ (fdies (tyRef erased mut (tyInt w8)) l₁₇) ∷ ‵ (froom (sliceTy (tyRef erased mut (tyInt w8))) l₁₆ 0) ∷ ‵ (fdies (sliceTy (tyRef erased mut (tyInt w8))) l₁₆) ∷ ‵ (froom (tyRef erased mut (tyInt w8)) l₁₅ 0) ∷ ‵ (fdies (tyRef erased mut (tyInt w8)) l₁₅) ∷ ‵ (froom (sliceTy (tyRef erased mut table-ty)) l₁₄ 0) ∷ ‵ (fdies (sliceTy (tyRef erased mut table-ty)) l₁₄) ∷ ‵ (froom (tyRef erased mut table-ty) l₁₃ 0) ∷ ‵ (fdies (tyRef erased mut table-ty) l₁₃) ∷ ‵ (froom ran-ty l₁₂ 0) ∷ ‵ (fdies ran-ty l₁₂) ∷ ‵ (froom allowed-ty l₁₁ 0) ∷ ‵ (fdies allowed-ty l₁₁) ∷ ‵ (froom tyBool l₁₀ 0) ∷ ‵ (fdies tyBool l₁₀) ∷ ‵ (fat fullShare (tyInt w64) l₉ 0 (vint w64 fuel)) ∷ ‵ (fdies (tyInt w64) l₉) ∷ ‵ (fat fullShare verb-ty l₈ 0 (verb-val verb)) ∷ ‵ (fdies verb-ty l₈) ∷ ‵ (fat fullShare machine-ty l₇ 0 (machine-val m)) ∷ ‵ (fdies machine-ty l₇) ∷ ‵ (fat fullShare (sliceTy (tyRef (named 5) mut (tyInt w8))) l₆ 0 (sliceVal (b₅, o₅) n₅)) ∷ ‵ (fdies (sliceTy (tyRef (named 5) mut (tyInt w8))) l₆) ∷ ‵ (fat fullShare (tyRef (named 4) mut (tyArray (tyInt w32) 1024)) l₅ 0 (vptr b₄ o₄)) ∷ ‵ (fdies (tyRef (named 4) mut (tyArray (tyInt w32) 1024)) l₅) ∷ ‵ (fat fullShare (sliceTy (tyRef (named 3) mut (tyInt w8))) l₄ 0 (sliceVal (b₃, o₃) n₃)) ∷ ‵ (fdies (sliceTy (tyRef (named 3) mut (tyInt w8))) l₄) ∷ ‵ (fat fullShare (sliceTy (tyRef (named 2) mut (tyInt w8))) l₃ 0 (sliceVal (b₂, o₂) n₂)) ∷ ‵ (fdies (sliceTy (tyRef (named 2) mut (tyInt w8))) l₃) ∷ ‵ (fat fullShare (tyRef (named 1) mut (tyArray (tyInt w64) 1000)) l₂ 0 (vptr b₁ o₁)) ∷ ‵ (fdies (tyRef (named 1) mut (tyArray (tyInt w64) 1000)) l₂) ∷ ‵ (fat fullShare (sliceTy (tyRef (named 0) mut table-ty)) l₁ 0 (sliceVal (b₀, o₀) n₀)) ∷ ‵ (fdies (sliceTy (tyRef (named 0) mut table-ty)) l₁) ∷ ‵ (froom report-ty l₀ 0) ∷ ‵ (fdies report-ty l₀) ∷ [])) (runs C Λ En mir.t-1 (atRet En Post))
       steps =
           fsplit ! $ move ! (1 ∷ []) $ fsplit ! $ move ! (1 ∷ []) $ fsplit ! $ move ! (1 ∷ []) $ fsplit ! $ move ! (1 ∷ []) $ fsplit ! $ move ! (1 ∷ []) $ fsplit ! $ move ! (1 ∷ []) $ drop ! $ nothing ! $ move ! (5 ∷ 0 ∷ []) $ fjoin ! $ nothing ! $ move ! (2 ∷ 0 ∷ []) $ fjoin ! $ move ! (2 ∷ 0 ∷ []) $ fjoin ! $ move ! (2 ∷ 0 ∷ []) $ fjoin ! $ move ! (2 ∷ 0 ∷ []) $ fjoin ! $ move ! (2 ∷ 0 ∷ []) $ fjoin ! $
           move ! (2 ∷ []) $ fsplit ! $ move ! (1 ∷ []) $ fsplit ! $ move ! (1 ∷ []) $ fsplit ! $ move ! (1 ∷ []) $ fsplit ! $ move ! (1 ∷ []) $ fsplit ! $ move ! (1 ∷ []) $ fsplit ! $ move ! (1 ∷ []) $ drop ! $ nothing ! $ move ! (5 ∷ 0 ∷ []) $ fjoin ! $ nothing ! $ move ! (2 ∷ 0 ∷ []) $ fjoin ! $ move ! (2 ∷ 0 ∷ []) $ fjoin ! $ move ! (2 ∷ 0 ∷ []) $ fjoin ! $ move ! (2 ∷ 0 ∷ []) $ fjoin ! $ move ! (2 ∷ 0 ∷ []) $ fjoin ! $ move ! (2 ∷ 0 ∷ 3 ∷ 1 ∷ []) $
@@ -254,12 +262,12 @@ module _ {M : Type 1} (𝓤 : URA M) (H : Heap 𝓤) (A : Atoms 𝓤) (W : Given
           forget ! 24 refl $ forget ! 26 refl $ forget ! 28 refl $ forget ! 30 refl $ forget ! 32 refl $ forget ! 34 refl $ forget ! 36 refl $ forget ! 38 refl $ forget ! 40 refl $
           allows-or-not r₁ (z₁ .0) (z₁ .1 .0) (z₁ .1 .1 .0) (z₁ .1 .1 .1 .0) (z₁ .1 .1 .1 .1 .0) (f₁ .0) (f₁ .1 .0) (f₁ .1 .1 .0) (f₁ .1 .1 .1 .1 .0) e₁)))
 
-    walk : (𝓣 : Tables 𝓤 H) (known-tests : Triple 𝓤 (𝓣 .C #tests) (tests-con 𝓤 H A at-mem run)) (known-allows : Triple 𝓤 (𝓣 .C #allows) (allows-con 𝓤 H A at-mem run)) (known-drives : Triple 𝓤 (𝓣 .C #drives) (drives-con 𝓤 H A at-mem run)) (known-reports : Triple 𝓤 (𝓣 .C #reports) (reports-con 𝓤 H A at-mem run)) (known-refuses : Triple 𝓤 (𝓣 .C #refuses) (refuses-con 𝓤 H A at-mem run)) → ent 𝓤 (onEntry 𝓤 H A f.signature κs₀ qs₀ x at) (WpFn 𝓤 H (𝓣 .C) (𝓣 .Λ) code.function (sliceVal (b₀, o₀) n₀ ∷ vptr b₁ o₁ ∷ sliceVal (b₂, o₂) n₂ ∷ sliceVal (b₃, o₃) n₃ ∷ vptr b₄ o₄ ∷ sliceVal (b₅, o₅) n₅ ∷ machine-val m ∷ vint w64 fuel ∷ vbool starts ∷ []) Post)
-    unfolding allowed-ty machine-ty ran-ty report-ty
+    walk : (𝓣 : Tables 𝓤 H) (known-tests : Triple 𝓤 (𝓣 .C #tests) (tests-con 𝓤 H A at-mem run)) (known-allows : Triple 𝓤 (𝓣 .C #allows) (allows-con 𝓤 H A at-mem run)) (known-drives : Triple 𝓤 (𝓣 .C #drives) (drives-con 𝓤 H A at-mem run)) (known-reports : Triple 𝓤 (𝓣 .C #reports) (reports-con 𝓤 H A at-mem run)) (known-refuses : Triple 𝓤 (𝓣 .C #refuses) (refuses-con 𝓤 H A at-mem run)) → ent 𝓤 (onEntry 𝓤 H A f.signature κs₀ qs₀ x at) (WpFn 𝓤 H (𝓣 .C) (𝓣 .Λ) code.function (sliceVal (b₀, o₀) n₀ ∷ vptr b₁ o₁ ∷ sliceVal (b₂, o₂) n₂ ∷ sliceVal (b₃, o₃) n₃ ∷ vptr b₄ o₄ ∷ sliceVal (b₅, o₅) n₅ ∷ machine-val m ∷ verb-val verb ∷ vint w64 fuel ∷ []) Post)
+    unfolding allowed-shut machine-shut ran-shut report-shut verb-shut
     walk 𝓣 known-tests known-allows known-drives known-reports known-refuses =
-        qed W ((‵ (flft κ₀ q₀) ⊛ ‵ (flft κ₁ q₁) ⊛ ‵ (flft κ₂ q₂) ⊛ ‵ (flft κ₃ q₃) ⊛ ‵ (flft κ₄ q₄) ⊛ ‵ (flft κ₅ q₅) ⊛ ‵ ftrue) ∷ ‵ (owns (typesAt (f.signature .params) κs₀) x at) ∷ []) ∵ enter ! (𝓣 .C) (𝓣 .Λ) code.function (sliceVal (b₀, o₀) n₀ ∷ vptr b₁ o₁ ∷ sliceVal (b₂, o₂) n₂ ∷ sliceVal (b₃, o₃) n₃ ∷ vptr b₄ o₄ ∷ sliceVal (b₅, o₅) n₅ ∷ machine-val m ∷ vint w64 fuel ∷ vbool starts ∷ []) _ $
+        qed W ((‵ (flft κ₀ q₀) ⊛ ‵ (flft κ₁ q₁) ⊛ ‵ (flft κ₂ q₂) ⊛ ‵ (flft κ₃ q₃) ⊛ ‵ (flft κ₄ q₄) ⊛ ‵ (flft κ₅ q₅) ⊛ ‵ ftrue) ∷ ‵ (owns (typesAt (f.signature .params) κs₀) x at) ∷ []) ∵ enter ! (𝓣 .C) (𝓣 .Λ) code.function (sliceVal (b₀, o₀) n₀ ∷ vptr b₁ o₁ ∷ sliceVal (b₂, o₂) n₂ ∷ sliceVal (b₃, o₃) n₃ ∷ vptr b₄ o₄ ∷ sliceVal (b₅, o₅) n₅ ∷ machine-val m ∷ verb-val verb ∷ vint w64 fuel ∷ []) _ $
         alloc1 ! (λ l₀. alloc1 ! (λ l₁. alloc1 ! (λ l₂. alloc1 ! (λ l₃. alloc1 ! (λ l₄. alloc1 ! (λ l₅. alloc1 ! (λ l₆. alloc1 ! (λ l₇. alloc1 ! (λ l₈. alloc1 ! (λ l₉. alloc1 ! (λ l₁₀. alloc1 ! (λ l₁₁. alloc1 ! (λ l₁₂. alloc1 ! (λ l₁₃. alloc1 ! (λ l₁₄. alloc1 ! (λ l₁₅. alloc1 ! (λ l₁₆. alloc1 ! (λ l₁₇. alloc1 ! (λ l₁₈. alloc1 ! (λ l₁₉. alloc1 ! (λ l₂₀. alloc1 ! (λ l₂₁. alloc1 ! (λ l₂₂. alloc1 ! (λ l₂₃. alloc1 ! (λ l₂₄. alloc1 ! (λ l₂₅. alloc1 ! (λ l₂₆. alloc1 ! (λ l₂₇. alloc1 ! (λ l₂₈. alloc1 ! (λ l₂₉. alloc1 ! (λ l₃₀. alloc1 ! (λ l₃₁. alloc1 ! (λ l₃₂. alloc0 ! $ params1 ! $
-        pass1 ! (init ! 62 refl (tt, (tt, (record { fits = g₀ .0 }, tt)))) $ pass1 ! (init ! 60 refl (tt, tt)) $ pass1 ! (init ! 58 refl (tt, (tt, (record { fits = g₂ .0 }, tt)))) $ pass1 ! (init ! 56 refl (tt, (tt, (record { fits = g₃ .0 }, tt)))) $ pass1 ! (init ! 54 refl (tt, tt)) $ pass1 ! (init ! 52 refl (tt, (tt, (record { fits = g₅ .0 }, tt)))) $ pass1 ! (init ! 50 refl (machine-typed 𝓤 H A W m m-is)) $ pass1 ! (init ! 48 refl (tt, record { fits = fuel-is })) $ pass1 ! (init ! 46 refl (tt, tt)) $ pass0 ! $
+        pass1 ! (init ! 62 refl (tt, (tt, (record { fits = g₀ .0 }, tt)))) $ pass1 ! (init ! 60 refl (tt, tt)) $ pass1 ! (init ! 58 refl (tt, (tt, (record { fits = g₂ .0 }, tt)))) $ pass1 ! (init ! 56 refl (tt, (tt, (record { fits = g₃ .0 }, tt)))) $ pass1 ! (init ! 54 refl (tt, tt)) $ pass1 ! (init ! 52 refl (tt, (tt, (record { fits = g₅ .0 }, tt)))) $ pass1 ! (init ! 50 refl (machine-typed 𝓤 H A W m m-is)) $ pass1 ! (init ! 48 refl (verb-typed 𝓤 H A W verb verb-is)) $ pass1 ! (init ! 46 refl (tt, record { fits = fuel-is })) $ pass0 ! $
         move ! (67 ∷ []) $ fsplit ! $ move ! (1 ∷ []) $ fsplit ! $ move ! (1 ∷ []) $ fsplit ! $ move ! (1 ∷ []) $ fsplit ! $ move ! (1 ∷ []) $ fsplit ! $ move ! (1 ∷ []) $ fsplit ! $ move ! (1 ∷ []) $ drop ! $ nothing ! $ move ! (1 ∷ 0 ∷ []) $ fjoin ! $ move ! (1 ∷ 0 ∷ []) $ fjoin ! $ move ! (1 ∷ 0 ∷ []) $ fjoin ! $ move ! (1 ∷ 0 ∷ []) $ fjoin ! $ move ! (1 ∷ 0 ∷ []) $ fjoin ! $ move ! (1 ∷ 0 ∷ []) $ fjoin ! $
         move ! (67 ∷ []) $ split ! $ move ! (1 ∷ []) $ split ! $ move ! (1 ∷ []) $ split ! $ move ! (1 ∷ []) $ split ! $ move ! (1 ∷ []) $ split ! $ move ! (1 ∷ []) $ split ! $ move ! (1 ∷ []) $ drop ! $ nothing ! $ move ! (1 ∷ 0 ∷ []) $ fjoin ! $ move ! (1 ∷ 0 ∷ []) $ fjoin ! $ move ! (1 ∷ 0 ∷ []) $ fjoin ! $ move ! (1 ∷ 0 ∷ []) $ fjoin ! $ move ! (1 ∷ 0 ∷ []) $ fjoin ! $ move ! (1 ∷ 0 ∷ []) $ fjoin ! $ move ! (1 ∷ 0 ∷ []) $
         steps 𝓣 known-tests known-allows known-drives known-reports known-refuses l₀ l₁ l₂ l₃ l₄ l₅ l₆ l₇ l₈ l₉ l₁₀ l₁₁ l₁₂ l₁₃ l₁₄ l₁₅ l₁₆ l₁₇ l₁₈ l₁₉ l₂₀ l₂₁ l₂₂ l₂₃ l₂₄ l₂₅ l₂₆ l₂₇ l₂₈ l₂₉ l₃₀ l₃₁ l₃₂)))))))))))))))))))))))))))))))))
@@ -267,15 +275,15 @@ module _ {M : Type 1} (𝓤 : URA M) (H : Heap 𝓤) (A : Atoms 𝓤) (W : Given
 module _ {M : Type 1} (𝓤 : URA M) (H : Heap 𝓤) (A : Atoms 𝓤) (W : Given 𝓤 H A) (at-mem : Memory → SProp 𝓤) (run : Routine → Fun 𝓤) (𝓣 : Tables 𝓤 H) (known-tests : Triple 𝓤 (𝓣 .C #tests) (tests-con 𝓤 H A at-mem run)) (known-allows : Triple 𝓤 (𝓣 .C #allows) (allows-con 𝓤 H A at-mem run)) (known-drives : Triple 𝓤 (𝓣 .C #drives) (drives-con 𝓤 H A at-mem run)) (known-reports : Triple 𝓤 (𝓣 .C #reports) (reports-con 𝓤 H A at-mem run)) (known-refuses : Triple 𝓤 (𝓣 .C #refuses) (refuses-con 𝓤 H A at-mem run)) where
   walks : Walks 𝓤 H A f.ended stayed (WpFn 𝓤 H (𝓣 .C) (𝓣 .Λ) code.function) (f.clauses 𝓤 H A at-mem run)
   walks =
-      walked 𝓤 H A f.ended stayed (f.clauses 𝓤 H A at-mem run) (WpFn 𝓤 H (𝓣 .C) (𝓣 .Λ) code.function) (λ κs. (slice-vals, (ptr-vals, (slice-vals, (slice-vals, (ptr-vals, (slice-vals, (machine-vals, (uint-vals w64, (bool-vals, tt))))))))))
-      (λ κs. (mut-slice-tells (named 0) (κs .0) R, (mut-tells (named 1) (κs .1 .0) (Array u64 1000), (mut-slice-tells (named 2) (κs .1 .1 .0) u8, (mut-slice-tells (named 3) (κs .1 .1 .1 .0) u8, (mut-tells (named 4) (κs .1 .1 .1 .1 .0) (Array u32 1024), (mut-slice-tells (named 5) (κs .1 .1 .1 .1 .1 .0) u8, (machine-tells, (uint-tells w64, (bool-tells, tt))))))))))
+      walked 𝓤 H A f.ended stayed (f.clauses 𝓤 H A at-mem run) (WpFn 𝓤 H (𝓣 .C) (𝓣 .Λ) code.function) (λ κs. (slice-vals, (ptr-vals, (slice-vals, (slice-vals, (ptr-vals, (slice-vals, (machine-vals, (verb-vals, (uint-vals w64, tt))))))))))
+      (λ κs. (mut-slice-tells (named 0) (κs .0) R, (mut-tells (named 1) (κs .1 .0) (Array u64 1000), (mut-slice-tells (named 2) (κs .1 .1 .0) u8, (mut-slice-tells (named 3) (κs .1 .1 .1 .0) u8, (mut-tells (named 4) (κs .1 .1 .1 .1 .0) (Array u32 1024), (mut-slice-tells (named 5) (κs .1 .1 .1 .1 .1 .0) u8, (machine-tells, (verb-tells, (uint-tells w64, tt))))))))))
       (λ κs qs bounds a g are. via 𝓤 _ (fst∗ 𝓤 _ (emp 𝓤))
       (walk 𝓤 H A W at-mem run (κs .0) (κs .1 .0) (κs .1 .1 .0) (κs .1 .1 .1 .0) (κs .1 .1 .1 .1 .0) (κs .1 .1 .1 .1 .1 .0) (qs .0) (qs .1 .0) (qs .1 .1 .0) (qs .1 .1 .1 .0) (qs .1 .1 .1 .1 .0) (qs .1 .1 .1 .1 .1 .0) (a .0 .ptr .0) (a .0 .ptr .1) (a .1 .0 .ptr .0) (a .1 .0 .ptr .1) (a .1 .1 .0 .ptr .0) (a .1 .1 .0 .ptr .1) (a .1 .1 .1 .0 .ptr .0) (a .1 .1 .1 .0 .ptr .1) (a .1 .1 .1 .1 .0 .ptr .0) (a .1 .1 .1 .1 .0 .ptr .1) (a .1 .1 .1 .1 .1 .0 .ptr .0) (a .1 .1 .1 .1 .1 .0 .ptr .1) (a .0 .name) (a .1 .0 .name) (a .1 .1 .0 .name) (a .1 .1 .1 .0 .name) (a .1 .1 .1 .1 .0 .name) (a .1 .1 .1 .1 .1 .0 .name) (a .0 .now) (a .1 .0 .now) (a .1 .1 .0 .now) (a .1 .1 .1 .0 .now) (a .1 .1 .1 .1 .0 .now) (a .1 .1 .1 .1 .1 .0 .now) (a .1 .1 .1 .1 .1 .1 .0) (a .1 .1 .1 .1 .1 .1 .1 .0) (a .1 .1 .1 .1 .1 .1 .1 .1 .0)
-      (are .0 .0 .1) (are .1 .1 .0 .0 .1) (are .1 .1 .1 .0 .0 .1) (are .1 .1 .1 .1 .1 .0 .0 .1) (are .1 .1 .1 .1 .1 .1 .0) (are .1 .1 .1 .1 .1 .1 .1 .0 .1) 𝓣 known-tests known-allows known-drives known-reports known-refuses))
+      (are .0 .0 .1) (are .1 .1 .0 .0 .1) (are .1 .1 .1 .0 .0 .1) (are .1 .1 .1 .1 .1 .0 .0 .1) (are .1 .1 .1 .1 .1 .1 .0) (are .1 .1 .1 .1 .1 .1 .1 .0) (are .1 .1 .1 .1 .1 .1 .1 .1 .0 .1) 𝓣 known-tests known-allows known-drives known-reports known-refuses))
 
   meets : Meets 𝓤 H A f.signature (WpFn 𝓤 H (𝓣 .C) (𝓣 .Λ) code.function) (f.spec 𝓤 H A at-mem run)
   meets =
-      walk-meets 𝓤 H A f.ended stayed W (goes-slice 𝓤 H A W 6 0 tt (plain (λ _. R)), (goes-ref 𝓤 H A W 6 1 tt (plain (λ _. Array u64 1000)), (goes-slice 𝓤 H A W 6 2 tt (plain (λ _. u8)), (goes-slice 𝓤 H A W 6 3 tt (plain (λ _. u8)), (goes-ref 𝓤 H A W 6 4 tt (plain (λ _. Array u32 1024)), (goes-slice 𝓤 H A W 6 5 tt (plain (λ _. u8)), (goes-none 𝓤 H A W 6 (λ _. machine.the-row) yes (λ κs x f. refl), (goes-none 𝓤 H A W 6 (λ _. u64) yes (λ κs x f. refl), (goes-none 𝓤 H A W 6 (λ _. bool) yes (λ κs x f. refl), tt))))))))) (f.clauses 𝓤 H A at-mem run)
+      walk-meets 𝓤 H A f.ended stayed W (goes-slice 𝓤 H A W 6 0 tt (plain (λ _. R)), (goes-ref 𝓤 H A W 6 1 tt (plain (λ _. Array u64 1000)), (goes-slice 𝓤 H A W 6 2 tt (plain (λ _. u8)), (goes-slice 𝓤 H A W 6 3 tt (plain (λ _. u8)), (goes-ref 𝓤 H A W 6 4 tt (plain (λ _. Array u32 1024)), (goes-slice 𝓤 H A W 6 5 tt (plain (λ _. u8)), (goes-none 𝓤 H A W 6 (λ _. machine.the-row) yes (λ κs x f. refl), (goes-none 𝓤 H A W 6 (λ _. verb-row.the-row) yes (λ κs x f. refl), (goes-none 𝓤 H A W 6 (λ _. u64) yes (λ κs x f. refl), tt))))))))) (f.clauses 𝓤 H A at-mem run)
       (WpFn 𝓤 H (𝓣 .C) (𝓣 .Λ) code.function) (WpFn-mono 𝓤 H (W .laws) 𝓣 code.function) walks
 
 pub call-spec : {M : Type 1} → stated.statement M

@@ -38,6 +38,7 @@ use denote.Triple.Table.{entered, cited}
 use denote.Triple.Walked.{says, Stays, stay-slice, stay-ref, walkOf, goes-slice, goes-ref, Walks, ends-at, walked, walk-meets}
 use Rattle.lent.proofs.Lent.{Thing, part, whole as whole-of, have, tokens, lent}
 use Rattle.lent.proofs.Landed.{landed-by}
+use Rattle.lent.proofs.Shut.{Shut}
 use Rattle.storage.specs.declared.Task.{Task}
 use Rattle.storage.specs.Tasks.{after, blank}
 use Rattle.storage.proofs.Records.{R, table-ty}
@@ -45,13 +46,13 @@ use Rattle.core.proofs.Machine as machine
 use Rattle.image.specs.Table.{load-records}
 use Rattle.tables.proofs.InUse as used
 use Rattle.tables.specs.Tables.{in-use, loading}
-use Rattle.runs.proofs.Values.{machine-val, machine-makes}
+use Rattle.runs.proofs.Values.{machine-shut}
 use Rattle.runs.proofs.Fields.{entries-fit, is-true, is-false}
 use Rattle.vm.specs.declared.Prepared.{Prepared}
 use Rattle.vm.specs.declared.CreateResult.{CreateResult}
 use Rattle.vm.proofs.Prepared as prepared
 use Rattle.vm.proofs.CreateResult as created
-use Rattle.vm.proofs.Values.{prepared-val, prepared-vals, prepared-ty, prepared-tells, prepared-makes, prepared-typed, created-val, created-vals, created-ty, created-tells, created-makes, created-typed, used-val, used-vals, used-ty, used-tells, used-makes, used-typed}
+use Rattle.vm.proofs.Values.{prepared-shut, prepared-vals, created-shut, created-vals, used-shut, used-vals}
 use Rattle.vm.specs.declared.CreateResult.the-variants.{NotCreated}
 use Rattle.vm.specs.Creation.{prepared as prepared-in, prepare as prepare-of, created as created-of, made, create as create-of}
 use Rattle.vm.proofs.Fields.{pool-fits, new-is, tasks-fit, take-fits, take-new, take-tasks, take-new-pool, take-new-entries}
@@ -77,6 +78,10 @@ use Rattle.creating.proofs.create as f
 use Rattle.creating.proofs.create.Statement as stated
 use Rattle.creating.proofs.create.Code as code
 use Rattle.creating.proofs.create.Code.Mir as mir
+open Shut machine-shut using (val as machine-val, makes as machine-makes)
+open Shut prepared-shut using (val as prepared-val, ty as prepared-ty, tells as prepared-tells, makes as prepared-makes, typed as prepared-typed)
+open Shut created-shut using (val as created-val, ty as created-ty, tells as created-tells, makes as created-makes, typed as created-typed)
+open Shut used-shut using (val as used-val, ty as used-ty, tells as used-tells, makes as used-makes, typed as used-typed)
 
 abbrev stayed : Stays (f.ended .signature .params) (f.ended .kept)
 stayed = (stay-slice (0 ∷ []) tt (plain (λ _. R)), (stay-slice (1 ∷ []) tt (plain (λ _. u8)), (stay-ref (2 ∷ []) tt (plain (λ _. Array u32 1024)), (stay-slice (3 ∷ []) tt (plain (λ _. u8)), (stay-slice (4 ∷ []) tt (plain (λ _. u8)), tt)))))
@@ -239,7 +244,7 @@ module _ {M : Type 1} (𝓤 : URA M) (H : Heap 𝓤) (A : Atoms 𝓤) (W : Given
           tests r₁ (z₁ .0) (z₁ .1 .0) (z₁ .1 .1 .0) (z₁ .1 .1 .1 .0) is₁ (f₁ .0) (f₁ .1 .1 .0) (f₁ .1 .1 .1 .0) e₁)))
 
     walk : (𝓣 : Tables 𝓤 H) (known-prepare : Triple 𝓤 (𝓣 .C #prepare) (prepare-con 𝓤 H A at-mem run)) (known-load : Triple 𝓤 (𝓣 .C #load) (load-con 𝓤 H A at-mem run)) (known-makes-it : Triple 𝓤 (𝓣 .C #makes-it) (makes-it-con 𝓤 H A at-mem run)) (known-makes-none : Triple 𝓤 (𝓣 .C #makes-none) (makes-none-con 𝓤 H A at-mem run)) → ent 𝓤 (onEntry 𝓤 H A f.signature κs₀ qs₀ x at) (WpFn 𝓤 H (𝓣 .C) (𝓣 .Λ) code.function (sliceVal (b₀, o₀) n₀ ∷ sliceVal (b₁, o₁) n₁ ∷ vptr b₂ o₂ ∷ sliceVal (b₃, o₃) n₃ ∷ sliceVal (b₄, o₄) n₄ ∷ []) Post)
-    unfolding created-ty prepared-ty used-ty
+    unfolding created-shut prepared-shut used-shut
     walk 𝓣 known-prepare known-load known-makes-it known-makes-none =
         qed W ((‵ (flft κ₀ q₀) ⊛ ‵ (flft κ₁ q₁) ⊛ ‵ (flft κ₂ q₂) ⊛ ‵ (flft κ₃ q₃) ⊛ ‵ (flft κ₄ q₄) ⊛ ‵ ftrue) ∷ ‵ (owns (typesAt (f.signature .params) κs₀) x at) ∷ []) ∵ enter ! (𝓣 .C) (𝓣 .Λ) code.function (sliceVal (b₀, o₀) n₀ ∷ sliceVal (b₁, o₁) n₁ ∷ vptr b₂ o₂ ∷ sliceVal (b₃, o₃) n₃ ∷ sliceVal (b₄, o₄) n₄ ∷ []) _ $
         alloc1 ! (λ l₀. alloc1 ! (λ l₁. alloc1 ! (λ l₂. alloc1 ! (λ l₃. alloc1 ! (λ l₄. alloc1 ! (λ l₅. alloc1 ! (λ l₆. alloc1 ! (λ l₇. alloc1 ! (λ l₈. alloc1 ! (λ l₉. alloc1 ! (λ l₁₀. alloc1 ! (λ l₁₁. alloc1 ! (λ l₁₂. alloc1 ! (λ l₁₃. alloc1 ! (λ l₁₄. alloc1 ! (λ l₁₅. alloc1 ! (λ l₁₆. alloc1 ! (λ l₁₇. alloc1 ! (λ l₁₈. alloc1 ! (λ l₁₉. alloc1 ! (λ l₂₀. alloc1 ! (λ l₂₁. alloc1 ! (λ l₂₂. alloc1 ! (λ l₂₃. alloc0 ! $ params1 ! $

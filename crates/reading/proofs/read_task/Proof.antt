@@ -38,6 +38,7 @@ use denote.Triple.Table.{entered, cited}
 use denote.Triple.Walked.{says, Stays, stay-slice, stay-ref, stay-none, walkOf, goes-slice, goes-ref, goes-none, Walks, ends-at, walked, walk-meets}
 use Rattle.lent.proofs.Lent.{Thing, part, whole as whole-of, have, tokens, lent}
 use Rattle.lent.proofs.Landed.{landed-by}
+use Rattle.lent.proofs.Shut.{Shut}
 use Rattle.storage.specs.declared.Task.{Task}
 use Rattle.storage.specs.declared.TaskId.{TaskId}
 use Rattle.storage.specs.Tasks.{after, blank}
@@ -49,10 +50,10 @@ use Rattle.core.specs.declared.Machine.{Machine}
 use Rattle.core.proofs.Machine as machine
 use Rattle.image.specs.Table.{stepped}
 use Rattle.runs.specs.World.{world}
-use Rattle.runs.proofs.Values.{machine-val, machine-vals, machine-ty, machine-tells, machine-makes, machine-typed}
+use Rattle.runs.proofs.Values.{machine-shut, machine-vals}
 use Rattle.vm.specs.declared.TaskRead.{TaskRead}
 use Rattle.vm.proofs.TaskRead as task-read
-use Rattle.vm.proofs.Values.{task-read-val, task-read-vals, task-read-ty, task-read-tells, task-read-makes, task-read-typed, id-val, id-vals, id-ty, id-tells, id-makes, id-typed}
+use Rattle.vm.proofs.Values.{task-read-shut, task-read-vals, id-shut, id-vals}
 use Rattle.vm.specs.Sound.{tested, sound-world}
 use Rattle.vm.specs.Reads.{read-to, task-at, task-read as task-read-of}
 use Rattle.vm.proofs.Answers.{reads-task}
@@ -77,6 +78,9 @@ use Rattle.reading.proofs.read_task as f
 use Rattle.reading.proofs.read_task.Statement as stated
 use Rattle.reading.proofs.read_task.Code as code
 use Rattle.reading.proofs.read_task.Code.Mir as mir
+open Shut machine-shut using (val as machine-val, ty as machine-ty, tells as machine-tells, makes as machine-makes, typed as machine-typed)
+open Shut task-read-shut using (val as task-read-val, ty as task-read-ty, tells as task-read-tells, makes as task-read-makes, typed as task-read-typed)
+open Shut id-shut using (val as id-val, ty as id-ty, tells as id-tells, makes as id-makes, typed as id-typed)
 
 abbrev stayed : Stays (f.ended .signature .params) (f.ended .kept)
 stayed = (stay-slice (0 ∷ []) tt (plain (λ _. R)), (stay-ref (1 ∷ []) tt (plain (λ _. Array u64 1000)), (stay-slice (2 ∷ []) tt (plain (λ _. u8)), (stay-slice (3 ∷ []) tt (plain (λ _. u8)), (stay-ref (4 ∷ []) tt (plain (λ _. Array u32 1024)), (stay-slice (5 ∷ []) tt (plain (λ _. u8)), (stay-none (λ _. machine.the-row) yes, (stay-none (λ _. id.the-row) yes, tt))))))))
@@ -237,7 +241,7 @@ module _ {M : Type 1} (𝓤 : URA M) (H : Heap 𝓤) (A : Atoms 𝓤) (W : Given
           gets-then r₁ (z₁ .0) (z₁ .1 .0) (z₁ .1 .1 .0) (z₁ .1 .1 .1 .0) (z₁ .1 .1 .1 .1 .0) (f₁ .0) (f₁ .1 .0) (f₁ .1 .1 .0) (f₁ .1 .1 .1 .1 .0) e₁)))
 
     walk : (𝓣 : Tables 𝓤 H) (known-tests : Triple 𝓤 (𝓣 .C #tests) (tests-con 𝓤 H A at-mem run)) (known-slot : Triple 𝓤 (𝓣 .C #slot) (slot-con 𝓤 H A at-mem run)) (known-get : Triple 𝓤 (𝓣 .C #get) (get-con 𝓤 H A at-mem run)) (known-reads : Triple 𝓤 (𝓣 .C #reads) (reads-con 𝓤 H A at-mem run)) → ent 𝓤 (onEntry 𝓤 H A f.signature κs₀ qs₀ x at) (WpFn 𝓤 H (𝓣 .C) (𝓣 .Λ) code.function (sliceVal (b₀, o₀) n₀ ∷ vptr b₁ o₁ ∷ sliceVal (b₂, o₂) n₂ ∷ sliceVal (b₃, o₃) n₃ ∷ vptr b₄ o₄ ∷ sliceVal (b₅, o₅) n₅ ∷ machine-val m ∷ id-val i ∷ []) Post)
-    unfolding id-ty machine-ty task-read-ty
+    unfolding id-shut machine-shut task-read-shut
     walk 𝓣 known-tests known-slot known-get known-reads =
         qed W ((‵ (flft κ₀ q₀) ⊛ ‵ (flft κ₁ q₁) ⊛ ‵ (flft κ₂ q₂) ⊛ ‵ (flft κ₃ q₃) ⊛ ‵ (flft κ₄ q₄) ⊛ ‵ (flft κ₅ q₅) ⊛ ‵ ftrue) ∷ ‵ (owns (typesAt (f.signature .params) κs₀) x at) ∷ []) ∵ enter ! (𝓣 .C) (𝓣 .Λ) code.function (sliceVal (b₀, o₀) n₀ ∷ vptr b₁ o₁ ∷ sliceVal (b₂, o₂) n₂ ∷ sliceVal (b₃, o₃) n₃ ∷ vptr b₄ o₄ ∷ sliceVal (b₅, o₅) n₅ ∷ machine-val m ∷ id-val i ∷ []) _ $
         alloc1 ! (λ l₀. alloc1 ! (λ l₁. alloc1 ! (λ l₂. alloc1 ! (λ l₃. alloc1 ! (λ l₄. alloc1 ! (λ l₅. alloc1 ! (λ l₆. alloc1 ! (λ l₇. alloc1 ! (λ l₈. alloc1 ! (λ l₉. alloc1 ! (λ l₁₀. alloc1 ! (λ l₁₁. alloc1 ! (λ l₁₂. alloc1 ! (λ l₁₃. alloc1 ! (λ l₁₄. alloc1 ! (λ l₁₅. alloc1 ! (λ l₁₆. alloc1 ! (λ l₁₇. alloc1 ! (λ l₁₈. alloc1 ! (λ l₁₉. alloc1 ! (λ l₂₀. alloc1 ! (λ l₂₁. alloc1 ! (λ l₂₂. alloc1 ! (λ l₂₃. alloc1 ! (λ l₂₄. alloc1 ! (λ l₂₅. alloc0 ! $ params1 ! $

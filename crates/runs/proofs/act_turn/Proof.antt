@@ -37,6 +37,7 @@ use denote.Triple.Table.{entered, cited}
 use denote.Triple.Walked.{says, Stays, stay-slice, stay-ref, stay-none, walkOf, goes-slice, goes-ref, goes-none, Walks, ends-at, walked, walk-meets}
 use Rattle.lent.proofs.Lent.{Thing, part, whole as whole-of, have, tokens, lent}
 use Rattle.lent.proofs.Landed.{landed, landed-by}
+use Rattle.lent.proofs.Shut.{Shut}
 use Rattle.storage.specs.declared.Task.{Task}
 use Rattle.storage.specs.Tasks.{blank, after}
 use Rattle.storage.proofs.Records.{R, table-ty, val, makes, typed}
@@ -46,7 +47,7 @@ use Rattle.calls.specs.declared.Gone.{Gone}
 use Rattle.calls.specs.Act.{on-all, act as act-of}
 use Rattle.calls.specs.Turns.{turned as turned-of}
 use Rattle.runs.specs.Going.{acting, act-turn}
-use Rattle.runs.proofs.Values.{machine-val, machine-makes, change-val, change-makes, acted-val, acted-vals, acted-ty, acted-tells, acted-typed, gone-val, gone-vals, gone-ty, gone-tells, gone-makes, gone-typed, went-val, went-makes}
+use Rattle.runs.proofs.Values.{machine-shut, change-shut, acted-shut, acted-vals, gone-shut, gone-vals, went-shut}
 use Rattle.runs.proofs.Fields.{went-is, change-is, machine-is, left-fits, slot-fits, take-machine, take-left, take-slot, take-went, take-change}
 use Rattle.runs.proofs.Turns.{act-turns}
 use Rattle.table.proofs.get.Symbol.{name as #get}
@@ -77,6 +78,11 @@ use Rattle.runs.proofs.act_turn as f
 use Rattle.runs.proofs.act_turn.Statement as stated
 use Rattle.runs.proofs.act_turn.Code as code
 use Rattle.runs.proofs.act_turn.Code.Mir as mir
+open Shut machine-shut using (val as machine-val, makes as machine-makes)
+open Shut change-shut using (val as change-val, makes as change-makes)
+open Shut acted-shut using (val as acted-val, ty as acted-ty, tells as acted-tells, typed as acted-typed)
+open Shut gone-shut using (val as gone-val, ty as gone-ty, tells as gone-tells, makes as gone-makes, typed as gone-typed)
+open Shut went-shut using (val as went-val, makes as went-makes)
 
 abbrev stayed : Stays (f.ended .signature .params) (f.ended .kept)
 stayed = (stay-slice (0 ∷ []) tt (plain (λ _. R)), (stay-ref (1 ∷ []) tt (plain (λ _. Array u64 1000)), (stay-slice (2 ∷ []) tt (plain (λ _. u8)), (stay-slice (3 ∷ []) tt (plain (λ _. u8)), (stay-ref (4 ∷ []) tt (plain (λ _. Array u32 1024)), (stay-none (λ _. gone.the-row) yes, tt))))))
@@ -211,7 +217,7 @@ module _ {M : Type 1} (𝓤 : URA M) (H : Heap 𝓤) (A : Atoms 𝓤) (W : Given
           changes r₁ r₂ (z₁ .0) (z₂ .0) (z₂ .1 .0) (z₂ .1 .1 .0) (z₂ .1 .1 .1 .0) is₂ (f₁ .0) (f₂ .1 .0) (f₂ .1 .1 .0) e₁ e₂))))))
 
     walk : (𝓣 : Tables 𝓤 H) (known-get : Triple 𝓤 (𝓣 .C #get) (get-con 𝓤 H A at-mem run)) (known-act : Triple 𝓤 (𝓣 .C #act) (act-con 𝓤 H A at-mem run)) (known-apply : Triple 𝓤 (𝓣 .C #apply) (apply-con 𝓤 H A at-mem run)) (known-turned : Triple 𝓤 (𝓣 .C #turned) (turned-con 𝓤 H A at-mem run)) → ent 𝓤 (onEntry 𝓤 H A f.signature κs₀ qs₀ x at) (WpFn 𝓤 H (𝓣 .C) (𝓣 .Λ) code.function (sliceVal (b₀, o₀) n₀ ∷ vptr b₁ o₁ ∷ sliceVal (b₂, o₂) n₂ ∷ sliceVal (b₃, o₃) n₃ ∷ vptr b₄ o₄ ∷ gone-val g ∷ []) Post)
-    unfolding acted-ty gone-ty
+    unfolding acted-shut gone-shut
     walk 𝓣 known-get known-act known-apply known-turned =
         qed W ((‵ (flft κ₀ q₀) ⊛ ‵ (flft κ₁ q₁) ⊛ ‵ (flft κ₂ q₂) ⊛ ‵ (flft κ₃ q₃) ⊛ ‵ (flft κ₄ q₄) ⊛ ‵ ftrue) ∷ ‵ (owns (typesAt (f.signature .params) κs₀) x at) ∷ []) ∵ enter ! (𝓣 .C) (𝓣 .Λ) code.function (sliceVal (b₀, o₀) n₀ ∷ vptr b₁ o₁ ∷ sliceVal (b₂, o₂) n₂ ∷ sliceVal (b₃, o₃) n₃ ∷ vptr b₄ o₄ ∷ gone-val g ∷ []) _ $
         alloc1 ! (λ l₀. alloc1 ! (λ l₁. alloc1 ! (λ l₂. alloc1 ! (λ l₃. alloc1 ! (λ l₄. alloc1 ! (λ l₅. alloc1 ! (λ l₆. alloc1 ! (λ l₇. alloc1 ! (λ l₈. alloc1 ! (λ l₉. alloc1 ! (λ l₁₀. alloc1 ! (λ l₁₁. alloc1 ! (λ l₁₂. alloc1 ! (λ l₁₃. alloc1 ! (λ l₁₄. alloc1 ! (λ l₁₅. alloc1 ! (λ l₁₆. alloc1 ! (λ l₁₇. alloc1 ! (λ l₁₈. alloc1 ! (λ l₁₉. alloc0 ! $ params1 ! $

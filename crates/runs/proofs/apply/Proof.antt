@@ -36,6 +36,7 @@ use denote.Triple.Statement.{Contract, Triple}
 use denote.Triple.Table.{entered, cited}
 use denote.Triple.Walked.{says, Stays, stay-slice, stay-none, walkOf, goes-slice, goes-none, Walks, ends-at, walked, walk-meets}
 use Rattle.lent.proofs.Lent.{Thing, part, have, tokens, lent}
+use Rattle.lent.proofs.Shut.{Shut}
 use Rattle.storage.specs.declared.Task.{Task}
 use Rattle.storage.specs.Tasks.{after}
 use Rattle.storage.specs.Table.{set-state-at}
@@ -43,7 +44,7 @@ use Rattle.storage.proofs.Records.{R, table-ty, val, makes, typed}
 use Rattle.tables.specs.Tables.{held}
 use Rattle.tasks.specs.Changes.{applied}
 use Rattle.tasks.specs.declared.Change.{Change}
-use Rattle.runs.proofs.Values.{change-val, change-vals, change-ty, change-tells, change-makes, change-typed}
+use Rattle.runs.proofs.Values.{change-shut, change-vals}
 use Rattle.runs.proofs.Fields.{state-fits, task-is, take-puts, take-states, take-state, take-task, is-true, is-false}
 use Rattle.runs.proofs.Turns.{puts-task, puts-state, puts-none}
 use Rattle.table.proofs.put.Symbol.{name as #put}
@@ -62,6 +63,7 @@ use Rattle.runs.proofs.apply as f
 use Rattle.runs.proofs.apply.Statement as stated
 use Rattle.runs.proofs.apply.Code as code
 use Rattle.runs.proofs.apply.Code.Mir as mir
+open Shut change-shut using (val as change-val, ty as change-ty, tells as change-tells, makes as change-makes, typed as change-typed)
 
 abbrev stayed : Stays (f.ended .signature .params) (f.ended .kept)
 stayed = (stay-slice (0 ∷ []) tt (plain (λ _. R)), (stay-none (λ _. usize) yes, (stay-none (λ _. change.the-row) yes, tt)))
@@ -165,7 +167,7 @@ module _ {M : Type 1} (𝓤 : URA M) (H : Heap 𝓤) (A : Atoms 𝓤) (W : Given
           (λ no. skips ! $ exec ! C Λ En mir.t-3 (atRet En Post) $ states (is-false (c .puts) no))
 
     walk : (𝓣 : Tables 𝓤 H) (known-put : Triple 𝓤 (𝓣 .C #put) (put-con 𝓤 H A at-mem run)) (known-state : Triple 𝓤 (𝓣 .C #state) (state-con 𝓤 H A at-mem run)) → ent 𝓤 (onEntry 𝓤 H A f.signature κs₀ qs₀ x at) (WpFn 𝓤 H (𝓣 .C) (𝓣 .Λ) code.function (sliceVal (b₀, o₀) n₀ ∷ vint w64 slot ∷ change-val c ∷ []) Post)
-    unfolding change-ty
+    unfolding change-shut
     walk 𝓣 known-put known-state =
         qed W ((‵ (flft κ₀ q₀) ⊛ ‵ ftrue) ∷ ‵ (owns (typesAt (f.signature .params) κs₀) x at) ∷ []) ∵ enter ! (𝓣 .C) (𝓣 .Λ) code.function (sliceVal (b₀, o₀) n₀ ∷ vint w64 slot ∷ change-val c ∷ []) _ $
         alloc1 ! (λ l₀. alloc1 ! (λ l₁. alloc1 ! (λ l₂. alloc1 ! (λ l₃. alloc1 ! (λ l₄. alloc1 ! (λ l₅. alloc1 ! (λ l₆. alloc1 ! (λ l₇. alloc1 ! (λ l₈. alloc1 ! (λ l₉. alloc1 ! (λ l₁₀. alloc0 ! $ params1 ! $

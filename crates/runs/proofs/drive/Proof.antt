@@ -41,6 +41,7 @@ use denote.Triple.Walked.{says, Stays, stay-slice, stay-ref, stay-none, walkOf, 
 use Rattle.lent.proofs.Lent.{Thing, part, whole as whole-of, have, tokens, lent}
 use Rattle.lent.proofs.Landed.{landed-by}
 use Rattle.lent.proofs.Rest.{past}
+use Rattle.lent.proofs.Shut.{Shut}
 use Rattle.storage.specs.declared.Task.{Task}
 use Rattle.storage.specs.Tasks.{after}
 use Rattle.storage.proofs.Records.{R, table-ty}
@@ -52,7 +53,7 @@ use Rattle.calls.specs.Turns.{begun as begun-of, ran as ran-of}
 use Rattle.runs.specs.World.{world}
 use Rattle.runs.specs.Run.{End, ran-to, run as run-of}
 use Rattle.runs.specs.Going.{Going, going, turn as turn-of}
-use Rattle.runs.proofs.Values.{machine-val, machine-vals, machine-ty, machine-tells, machine-makes, machine-typed, gone-val, gone-vals, gone-ty, gone-tells, gone-makes, gone-typed, ran-val, ran-vals, ran-ty, ran-tells, ran-makes, ran-typed}
+use Rattle.runs.proofs.Values.{machine-shut, machine-vals, gone-shut, gone-vals, ran-shut, ran-vals}
 use Rattle.runs.proofs.Fields.{machine-is, left-fits, take-machine, take-left, take-running, is-true, is-false}
 use Rattle.runs.proofs.Runs.{comes-to, turns-left}
 use Rattle.runs.proofs.Turns.{begins-same, goes-at, goes-same, goes-fewer, ends-run}
@@ -80,6 +81,9 @@ use Rattle.runs.proofs.drive as f
 use Rattle.runs.proofs.drive.Statement as stated
 use Rattle.runs.proofs.drive.Code as code
 use Rattle.runs.proofs.drive.Code.Mir as mir
+open Shut machine-shut using (val as machine-val, ty as machine-ty, tells as machine-tells, makes as machine-makes, typed as machine-typed)
+open Shut gone-shut using (val as gone-val, ty as gone-ty, tells as gone-tells, makes as gone-makes, typed as gone-typed)
+open Shut ran-shut using (val as ran-val, ty as ran-ty, tells as ran-tells, makes as ran-makes, typed as ran-typed)
 
 abbrev stayed : Stays (f.ended .signature .params) (f.ended .kept)
 stayed = (stay-slice (0 ∷ []) tt (plain (λ _. R)), (stay-ref (1 ∷ []) tt (plain (λ _. Array u64 1000)), (stay-slice (2 ∷ []) tt (plain (λ _. u8)), (stay-slice (3 ∷ []) tt (plain (λ _. u8)), (stay-ref (4 ∷ []) tt (plain (λ _. Array u32 1024)), (stay-slice (5 ∷ []) tt (plain (λ _. u8)), (stay-none (λ _. machine.the-row) yes, (stay-none (λ _. u64) yes, tt))))))))
@@ -295,7 +299,7 @@ module _ {M : Type 1} (𝓤 : URA M) (H : Heap 𝓤) (A : Atoms 𝓤) (W : Given
           looped (record { g = r₁; ts = x₀; st = x₁; me = x₂; po = x₃; en = x₄; sv = x₅; g-is = is₁; ts-len = refl; me-len = refl; po-len = refl; sv-len = refl; so-far = begins-same m fuel x₀ x₁ x₂ x₃ x₄ x₅ e₁ }))))
 
     walk : (𝓣 : Tables 𝓤 H) (known-begins : Triple 𝓤 (𝓣 .C #begins) (begins-con 𝓤 H A at-mem run)) (known-advance : Triple 𝓤 (𝓣 .C #advance) (advance-con 𝓤 H A at-mem run)) (known-turn : Triple 𝓤 (𝓣 .C #turn) (turn-con 𝓤 H A at-mem run)) (known-ends : Triple 𝓤 (𝓣 .C #ends) (ends-con 𝓤 H A at-mem run)) → ent 𝓤 (onEntry 𝓤 H A f.signature κs₀ qs₀ x at) (WpFn 𝓤 H (𝓣 .C) (𝓣 .Λ) code.function (sliceVal (b₀, o₀) n₀ ∷ vptr b₁ o₁ ∷ sliceVal (b₂, o₂) n₂ ∷ sliceVal (b₃, o₃) n₃ ∷ vptr b₄ o₄ ∷ sliceVal (b₅, o₅) n₅ ∷ machine-val m ∷ vint w64 fuel ∷ []) Post)
-    unfolding gone-ty machine-ty ran-ty
+    unfolding gone-shut machine-shut ran-shut
     walk 𝓣 known-begins known-advance known-turn known-ends =
         qed W ((‵ (flft κ₀ q₀) ⊛ ‵ (flft κ₁ q₁) ⊛ ‵ (flft κ₂ q₂) ⊛ ‵ (flft κ₃ q₃) ⊛ ‵ (flft κ₄ q₄) ⊛ ‵ (flft κ₅ q₅) ⊛ ‵ ftrue) ∷ ‵ (owns (typesAt (f.signature .params) κs₀) x at) ∷ []) ∵ enter ! (𝓣 .C) (𝓣 .Λ) code.function (sliceVal (b₀, o₀) n₀ ∷ vptr b₁ o₁ ∷ sliceVal (b₂, o₂) n₂ ∷ sliceVal (b₃, o₃) n₃ ∷ vptr b₄ o₄ ∷ sliceVal (b₅, o₅) n₅ ∷ machine-val m ∷ vint w64 fuel ∷ []) _ $
         alloc1 ! (λ l₀. alloc1 ! (λ l₁. alloc1 ! (λ l₂. alloc1 ! (λ l₃. alloc1 ! (λ l₄. alloc1 ! (λ l₅. alloc1 ! (λ l₆. alloc1 ! (λ l₇. alloc1 ! (λ l₈. alloc1 ! (λ l₉. alloc1 ! (λ l₁₀. alloc1 ! (λ l₁₁. alloc1 ! (λ l₁₂. alloc1 ! (λ l₁₃. alloc1 ! (λ l₁₄. alloc1 ! (λ l₁₅. alloc1 ! (λ l₁₆. alloc1 ! (λ l₁₇. alloc1 ! (λ l₁₈. alloc1 ! (λ l₁₉. alloc1 ! (λ l₂₀. alloc1 ! (λ l₂₁. alloc1 ! (λ l₂₂. alloc1 ! (λ l₂₃. alloc1 ! (λ l₂₄. alloc1 ! (λ l₂₅. alloc1 ! (λ l₂₆. alloc1 ! (λ l₂₇. alloc0 ! $ params1 ! $

@@ -38,6 +38,7 @@ use denote.Triple.Table.{entered, cited}
 use denote.Triple.Walked.{says, Stays, stay-slice, stay-ref, stay-none, walkOf, goes-slice, goes-ref, goes-none, Walks, ends-at, walked, walk-meets}
 use Rattle.lent.proofs.Lent.{Thing, part, whole as whole-of, have, tokens, lent}
 use Rattle.lent.proofs.Landed.{landed-by}
+use Rattle.lent.proofs.Shut.{Shut}
 use Rattle.storage.specs.declared.Task.{Task}
 use Rattle.storage.proofs.Records.{R, table-ty, makes, typed}
 use Rattle.image.specs.Table.{saved-table, save-table}
@@ -45,7 +46,7 @@ use Rattle.tables.specs.Tables.{held}
 use Rattle.calls.specs.declared.Gone.{Gone}
 use Rattle.calls.specs.Turns.{saved as saved-of}
 use Rattle.runs.specs.Going.{saving, save-turn}
-use Rattle.runs.proofs.Values.{machine-val, machine-makes, gone-val, gone-vals, gone-ty, gone-tells, gone-makes, gone-typed}
+use Rattle.runs.proofs.Values.{machine-shut, gone-shut, gone-vals}
 use Rattle.runs.proofs.Fields.{entries-fit, next-id-fits, machine-is, left-fits, take-machine, take-left, take-entries, take-next-id}
 use Rattle.runs.proofs.Turns.{save-turns}
 use Rattle.tables.proofs.save_table.Symbol.{name as #save}
@@ -65,6 +66,8 @@ use Rattle.runs.proofs.save_turn as f
 use Rattle.runs.proofs.save_turn.Statement as stated
 use Rattle.runs.proofs.save_turn.Code as code
 use Rattle.runs.proofs.save_turn.Code.Mir as mir
+open Shut machine-shut using (val as machine-val, makes as machine-makes)
+open Shut gone-shut using (val as gone-val, ty as gone-ty, tells as gone-tells, makes as gone-makes, typed as gone-typed)
 
 abbrev stayed : Stays (f.ended .signature .params) (f.ended .kept)
 stayed = (stay-slice (0 ∷ []) tt (plain (λ _. R)), (stay-slice (1 ∷ []) tt (plain (λ _. u8)), (stay-ref (2 ∷ []) tt (plain (λ _. Array u32 1024)), (stay-slice (3 ∷ []) tt (plain (λ _. u8)), (stay-none (λ _. gone.the-row) yes, tt)))))
@@ -154,7 +157,7 @@ module _ {M : Type 1} (𝓤 : URA M) (H : Heap 𝓤) (A : Atoms 𝓤) (W : Given
           by ! (exits r₂ (z₁ .0) (z₁ .1 .0) (z₁ .1 .1 .0) (z₁ .1 .1 .1 .0) is₂ (f₁ .0) (f₁ .1 .0) (f₁ .1 .1 .1 .0) (save-turns x₀ x₁ x₂ x₃ g e₁ e₂))))))))
 
     walk : (𝓣 : Tables 𝓤 H) (known-save : Triple 𝓤 (𝓣 .C #save) (save-con 𝓤 H A at-mem run)) (known-kept : Triple 𝓤 (𝓣 .C #kept) (kept-con 𝓤 H A at-mem run)) → ent 𝓤 (onEntry 𝓤 H A f.signature κs₀ qs₀ x at) (WpFn 𝓤 H (𝓣 .C) (𝓣 .Λ) code.function (sliceVal (b₀, o₀) n₀ ∷ sliceVal (b₁, o₁) n₁ ∷ vptr b₂ o₂ ∷ sliceVal (b₃, o₃) n₃ ∷ gone-val g ∷ []) Post)
-    unfolding gone-ty
+    unfolding gone-shut
     walk 𝓣 known-save known-kept =
         qed W ((‵ (flft κ₀ q₀) ⊛ ‵ (flft κ₁ q₁) ⊛ ‵ (flft κ₂ q₂) ⊛ ‵ (flft κ₃ q₃) ⊛ ‵ ftrue) ∷ ‵ (owns (typesAt (f.signature .params) κs₀) x at) ∷ []) ∵ enter ! (𝓣 .C) (𝓣 .Λ) code.function (sliceVal (b₀, o₀) n₀ ∷ sliceVal (b₁, o₁) n₁ ∷ vptr b₂ o₂ ∷ sliceVal (b₃, o₃) n₃ ∷ gone-val g ∷ []) _ $
         alloc1 ! (λ l₀. alloc1 ! (λ l₁. alloc1 ! (λ l₂. alloc1 ! (λ l₃. alloc1 ! (λ l₄. alloc1 ! (λ l₅. alloc1 ! (λ l₆. alloc1 ! (λ l₇. alloc1 ! (λ l₈. alloc1 ! (λ l₉. alloc1 ! (λ l₁₀. alloc1 ! (λ l₁₁. alloc1 ! (λ l₁₂. alloc1 ! (λ l₁₃. alloc0 ! $ params1 ! $

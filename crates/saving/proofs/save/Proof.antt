@@ -38,6 +38,7 @@ use denote.Triple.Table.{entered, cited}
 use denote.Triple.Walked.{says, Stays, stay-slice, stay-ref, stay-none, walkOf, goes-slice, goes-ref, goes-none, Walks, ends-at, walked, walk-meets}
 use Rattle.lent.proofs.Lent.{Thing, part, whole as whole-of, have, tokens, lent}
 use Rattle.lent.proofs.Landed.{landed-by}
+use Rattle.lent.proofs.Shut.{Shut}
 use Rattle.storage.specs.declared.Task.{Task}
 use Rattle.storage.proofs.Records.{R, table-ty}
 use Rattle.core.specs.declared.Machine.{Machine}
@@ -46,11 +47,11 @@ use Rattle.image.proofs.SaveResult as saved
 use Rattle.image.specs.Table.{saved-table, save-table}
 use Rattle.tables.specs.Tables.{held}
 use Rattle.runs.specs.World.{world}
-use Rattle.runs.proofs.Values.{machine-val, machine-vals, machine-ty, machine-tells, machine-makes, machine-typed}
+use Rattle.runs.proofs.Values.{machine-shut, machine-vals}
 use Rattle.runs.proofs.Fields.{entries-fit, next-id-fits, is-true, is-false}
 use Rattle.vm.specs.declared.SaveReport.{SaveReport}
 use Rattle.vm.proofs.SaveReport as save-report
-use Rattle.vm.proofs.Values.{save-report-val, save-report-vals, save-report-ty, save-report-tells, save-report-makes, save-report-typed, saved-val, saved-vals, saved-ty, saved-tells, saved-makes, saved-typed}
+use Rattle.vm.proofs.Values.{save-report-shut, save-report-vals, saved-shut, saved-vals}
 use Rattle.vm.specs.Sound.{tested, sound-world}
 use Rattle.vm.specs.Reads.{host-saved, not-saved, saved-to, host-save}
 use Rattle.vm.proofs.Fields.{take-entries, take-next-id}
@@ -76,6 +77,9 @@ use Rattle.saving.proofs.save as f
 use Rattle.saving.proofs.save.Statement as stated
 use Rattle.saving.proofs.save.Code as code
 use Rattle.saving.proofs.save.Code.Mir as mir
+open Shut machine-shut using (val as machine-val, ty as machine-ty, tells as machine-tells, makes as machine-makes, typed as machine-typed)
+open Shut save-report-shut using (val as save-report-val, ty as save-report-ty, tells as save-report-tells, makes as save-report-makes, typed as save-report-typed)
+open Shut saved-shut using (val as saved-val, ty as saved-ty, tells as saved-tells, makes as saved-makes, typed as saved-typed)
 
 abbrev stayed : Stays (f.ended .signature .params) (f.ended .kept)
 stayed = (stay-slice (0 ∷ []) tt (plain (λ _. R)), (stay-ref (1 ∷ []) tt (plain (λ _. Array u64 1000)), (stay-slice (2 ∷ []) tt (plain (λ _. u8)), (stay-slice (3 ∷ []) tt (plain (λ _. u8)), (stay-ref (4 ∷ []) tt (plain (λ _. Array u32 1024)), (stay-slice (5 ∷ []) tt (plain (λ _. u8)), (stay-none (λ _. machine.the-row) yes, tt)))))))
@@ -235,7 +239,7 @@ module _ {M : Type 1} (𝓤 : URA M) (H : Heap 𝓤) (A : Atoms 𝓤) (W : Given
           saves-or-not r₁ (z₁ .0) (z₁ .1 .0) (z₁ .1 .1 .0) (z₁ .1 .1 .1 .0) (z₁ .1 .1 .1 .1 .0) (f₁ .0) (f₁ .1 .0) (f₁ .1 .1 .0) (f₁ .1 .1 .1 .1 .0) e₁)))
 
     walk : (𝓣 : Tables 𝓤 H) (known-tests : Triple 𝓤 (𝓣 .C #tests) (tests-con 𝓤 H A at-mem run)) (known-saves : Triple 𝓤 (𝓣 .C #saves) (saves-con 𝓤 H A at-mem run)) (known-keeps : Triple 𝓤 (𝓣 .C #keeps) (keeps-con 𝓤 H A at-mem run)) (known-refuses : Triple 𝓤 (𝓣 .C #refuses) (refuses-con 𝓤 H A at-mem run)) → ent 𝓤 (onEntry 𝓤 H A f.signature κs₀ qs₀ x at) (WpFn 𝓤 H (𝓣 .C) (𝓣 .Λ) code.function (sliceVal (b₀, o₀) n₀ ∷ vptr b₁ o₁ ∷ sliceVal (b₂, o₂) n₂ ∷ sliceVal (b₃, o₃) n₃ ∷ vptr b₄ o₄ ∷ sliceVal (b₅, o₅) n₅ ∷ machine-val m ∷ []) Post)
-    unfolding machine-ty save-report-ty saved-ty
+    unfolding machine-shut save-report-shut saved-shut
     walk 𝓣 known-tests known-saves known-keeps known-refuses =
         qed W ((‵ (flft κ₀ q₀) ⊛ ‵ (flft κ₁ q₁) ⊛ ‵ (flft κ₂ q₂) ⊛ ‵ (flft κ₃ q₃) ⊛ ‵ (flft κ₄ q₄) ⊛ ‵ (flft κ₅ q₅) ⊛ ‵ ftrue) ∷ ‵ (owns (typesAt (f.signature .params) κs₀) x at) ∷ []) ∵ enter ! (𝓣 .C) (𝓣 .Λ) code.function (sliceVal (b₀, o₀) n₀ ∷ vptr b₁ o₁ ∷ sliceVal (b₂, o₂) n₂ ∷ sliceVal (b₃, o₃) n₃ ∷ vptr b₄ o₄ ∷ sliceVal (b₅, o₅) n₅ ∷ machine-val m ∷ []) _ $
         alloc1 ! (λ l₀. alloc1 ! (λ l₁. alloc1 ! (λ l₂. alloc1 ! (λ l₃. alloc1 ! (λ l₄. alloc1 ! (λ l₅. alloc1 ! (λ l₆. alloc1 ! (λ l₇. alloc1 ! (λ l₈. alloc1 ! (λ l₉. alloc1 ! (λ l₁₀. alloc1 ! (λ l₁₁. alloc1 ! (λ l₁₂. alloc1 ! (λ l₁₃. alloc1 ! (λ l₁₄. alloc1 ! (λ l₁₅. alloc1 ! (λ l₁₆. alloc1 ! (λ l₁₇. alloc1 ! (λ l₁₈. alloc1 ! (λ l₁₉. alloc1 ! (λ l₂₀. alloc1 ! (λ l₂₁. alloc1 ! (λ l₂₂. alloc1 ! (λ l₂₃. alloc1 ! (λ l₂₄. alloc1 ! (λ l₂₅. alloc1 ! (λ l₂₆. alloc0 ! $ params1 ! $

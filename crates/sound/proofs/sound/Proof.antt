@@ -38,12 +38,13 @@ use denote.Triple.Table.{entered, cited}
 use denote.Triple.Walked.{says, Stays, stay-slice, stay-ref, stay-none, walkOf, goes-slice, goes-ref, goes-none, Walks, ends-at, walked, walk-meets}
 use Rattle.lent.proofs.Lent.{Thing, part, whole as whole-of, have, tokens, lent}
 use Rattle.lent.proofs.Landed.{landed-by}
+use Rattle.lent.proofs.Shut.{Shut}
 use Rattle.storage.specs.declared.Task.{Task}
 use Rattle.storage.specs.Tasks.{after}
 use Rattle.storage.proofs.Records.{R, table-ty}
 use Rattle.core.specs.declared.Machine.{Machine}
 use Rattle.core.proofs.Machine as machine
-use Rattle.runs.proofs.Values.{machine-val, machine-vals, machine-ty, machine-tells, machine-makes, machine-typed}
+use Rattle.runs.proofs.Values.{machine-shut, machine-vals}
 use Rattle.runs.proofs.Fields.{next-id-fits}
 use Rattle.storage.specs.Table.{sound-table}
 use Rattle.vm.specs.Sound.{tested, beside, sound-record, sound-world}
@@ -62,6 +63,7 @@ use Rattle.sound.proofs.sound as f
 use Rattle.sound.proofs.sound.Statement as stated
 use Rattle.sound.proofs.sound.Code as code
 use Rattle.sound.proofs.sound.Code.Mir as mir
+open Shut machine-shut using (val as machine-val, ty as machine-ty, tells as machine-tells, makes as machine-makes, typed as machine-typed)
 
 abbrev stayed : Stays (f.ended .signature .params) (f.ended .kept)
 stayed = (stay-slice (0 ∷ []) tt (plain (λ _. R)), (stay-slice (1 ∷ []) tt (plain (λ _. u8)), (stay-slice (2 ∷ []) tt (plain (λ _. u8)), (stay-ref (3 ∷ []) tt (plain (λ _. Array u32 1024)), (stay-slice (4 ∷ []) tt (plain (λ _. u8)), (stay-none (λ _. machine.the-row) yes, tt))))))
@@ -174,7 +176,7 @@ module _ {M : Type 1} (𝓤 : URA M) (H : Heap 𝓤) (A : Atoms 𝓤) (W : Given
           ends r₂ (z₁ .0) (z₂ .0) (z₂ .1 .0) (z₂ .1 .1 .0) (z₂ .1 .1 .1 .0) (f₁ .0) (f₂ .0) (f₂ .1 .0) (f₂ .1 .1 .1 .0) (tests x₀ x₁ x₂ x₃ x₄ m e₁ e₂)))))))
 
     walk : (𝓣 : Tables 𝓤 H) (known-slots : Triple 𝓤 (𝓣 .C #slots) (slots-con 𝓤 H A at-mem run)) (known-others : Triple 𝓤 (𝓣 .C #others) (others-con 𝓤 H A at-mem run)) → ent 𝓤 (onEntry 𝓤 H A f.signature κs₀ qs₀ x at) (WpFn 𝓤 H (𝓣 .C) (𝓣 .Λ) code.function (sliceVal (b₀, o₀) n₀ ∷ sliceVal (b₁, o₁) n₁ ∷ sliceVal (b₂, o₂) n₂ ∷ vptr b₃ o₃ ∷ sliceVal (b₄, o₄) n₄ ∷ machine-val m ∷ []) Post)
-    unfolding machine-ty
+    unfolding machine-shut
     walk 𝓣 known-slots known-others =
         qed W ((‵ (flft κ₀ q₀) ⊛ ‵ (flft κ₁ q₁) ⊛ ‵ (flft κ₂ q₂) ⊛ ‵ (flft κ₃ q₃) ⊛ ‵ (flft κ₄ q₄) ⊛ ‵ ftrue) ∷ ‵ (owns (typesAt (f.signature .params) κs₀) x at) ∷ []) ∵ enter ! (𝓣 .C) (𝓣 .Λ) code.function (sliceVal (b₀, o₀) n₀ ∷ sliceVal (b₁, o₁) n₁ ∷ sliceVal (b₂, o₂) n₂ ∷ vptr b₃ o₃ ∷ sliceVal (b₄, o₄) n₄ ∷ machine-val m ∷ []) _ $
         alloc1 ! (λ l₀. alloc1 ! (λ l₁. alloc1 ! (λ l₂. alloc1 ! (λ l₃. alloc1 ! (λ l₄. alloc1 ! (λ l₅. alloc1 ! (λ l₆. alloc1 ! (λ l₇. alloc1 ! (λ l₈. alloc1 ! (λ l₉. alloc1 ! (λ l₁₀. alloc1 ! (λ l₁₁. alloc1 ! (λ l₁₂. alloc1 ! (λ l₁₃. alloc1 ! (λ l₁₄. alloc1 ! (λ l₁₅. alloc1 ! (λ l₁₆. alloc0 ! $ params1 ! $

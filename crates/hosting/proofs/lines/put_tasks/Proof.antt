@@ -39,6 +39,7 @@ use Rattle.lent.proofs.Lent.{Thing, part, have, tokens, lent}
 use Rattle.lent.proofs.Landed.{landed, landed-by}
 use Rattle.lent.proofs.Rest.{past}
 use Rattle.lent.proofs.Slots.{zero-fits, from-zero, next-in, slot-fits, next-fits, fewer}
+use Rattle.lent.proofs.Shut.{Shut}
 use Rattle.storage.specs.declared.Task.{Task}
 use Rattle.storage.specs.Tasks.{blank, after}
 use Rattle.storage.specs.Table.{living-of}
@@ -52,7 +53,7 @@ use Rattle.listing.specs.declared.Counted.the-variants as counted
 use Rattle.listing.specs.Listing.{line-of-count, line-of-task}
 use Rattle.hosting.specs.Lines.{put-next, task-lines}
 use Rattle.hosting.specs.Lines.{put-tasks as put-all}
-use Rattle.hosting.proofs.Values.{line-val, line-vals, line-ty, line-tells, line-makes, line-typed}
+use Rattle.hosting.proofs.Values.{line-shut, line-vals}
 use Rattle.hosting.proofs.Behind.{read, one-task, all-tasks, first-line, stays}
 use Rattle.slots.proofs.living.Symbol.{name as #counts}
 use Rattle.slots.proofs.living as counts
@@ -75,6 +76,7 @@ use Rattle.hosting.proofs.lines.put_tasks as f
 use Rattle.hosting.proofs.lines.put_tasks.Statement as stated
 use Rattle.hosting.proofs.lines.put_tasks.Code as code
 use Rattle.hosting.proofs.lines.put_tasks.Code.Mir as mir
+open Shut line-shut using (val as line-val, ty as line-ty, tells as line-tells, makes as line-makes, typed as line-typed)
 
 abbrev stayed : Stays (f.ended .signature .params) (f.ended .kept)
 stayed = (stay-slice (0 ∷ []) tt (plain (λ _. R)), (stay-slice (1 ∷ []) tt (plain (λ _. u8)), tt))
@@ -244,7 +246,7 @@ module _ {M : Type 1} (𝓤 : URA M) (H : Heap 𝓤) (A : Atoms 𝓤) (W : Given
           looped (record { i = 0; so = r₂; ts = z₁ .0; ou = z₂ .0; i-in = from-zero n₀; so-is = is₂; ts-is = stays e₁; ou-len = f₂ .0; so-far = first-line x₀ x₁ e₁ e₂ })))))))
 
     walk : (𝓣 : Tables 𝓤 H) (known-counts : Triple 𝓤 (𝓣 .C #counts) (counts-con 𝓤 H A at-mem run)) (known-puts-count : Triple 𝓤 (𝓣 .C #puts-count) (puts-count-con 𝓤 H A at-mem run)) (known-gets : Triple 𝓤 (𝓣 .C #gets) (gets-con 𝓤 H A at-mem run)) (known-puts-task : Triple 𝓤 (𝓣 .C #puts-task) (puts-task-con 𝓤 H A at-mem run)) → ent 𝓤 (onEntry 𝓤 H A f.signature κs₀ qs₀ x at) (WpFn 𝓤 H (𝓣 .C) (𝓣 .Λ) code.function (sliceVal (b₀, o₀) n₀ ∷ sliceVal (b₁, o₁) n₁ ∷ []) Post)
-    unfolding line-ty
+    unfolding line-shut
     walk 𝓣 known-counts known-puts-count known-gets known-puts-task =
         qed W ((‵ (flft κ₀ q₀) ⊛ ‵ (flft κ₁ q₁) ⊛ ‵ ftrue) ∷ ‵ (owns (typesAt (f.signature .params) κs₀) x at) ∷ []) ∵ enter ! (𝓣 .C) (𝓣 .Λ) code.function (sliceVal (b₀, o₀) n₀ ∷ sliceVal (b₁, o₁) n₁ ∷ []) _ $
         alloc1 ! (λ l₀. alloc1 ! (λ l₁. alloc1 ! (λ l₂. alloc1 ! (λ l₃. alloc1 ! (λ l₄. alloc1 ! (λ l₅. alloc1 ! (λ l₆. alloc1 ! (λ l₇. alloc1 ! (λ l₈. alloc1 ! (λ l₉. alloc1 ! (λ l₁₀. alloc1 ! (λ l₁₁. alloc1 ! (λ l₁₂. alloc1 ! (λ l₁₃. alloc1 ! (λ l₁₄. alloc1 ! (λ l₁₅. alloc1 ! (λ l₁₆. alloc0 ! $ params1 ! $

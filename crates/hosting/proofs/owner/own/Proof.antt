@@ -44,14 +44,15 @@ use denote.Memory.{mem}
 use denote.Lend.{Held}
 use denote.Plain.{uint-makes, uint-vals, uint-tells}
 use Rattle.lent.proofs.Landed.{landed, landed-by}
+use Rattle.lent.proofs.Shut.{Shut}
 use Rattle.storage.specs.Tasks.{blank}
 use Rattle.storage.proofs.Task as task
 use Rattle.storage.proofs.Task.Laws as task-laws
 use Rattle.storage.proofs.Records.{R, typed}
 use Rattle.hosting.specs.Hosting.{performed-in, perform, owned as owned-of, own as own-of}
-use Rattle.hosting.proofs.Values.{performed-val, performed-vals, performed-ty, performed-tells, performed-makes, performed-typed}
+use Rattle.hosting.proofs.Values.{performed-shut, performed-vals}
 use Rattle.hosting.proofs.Performing.{owns-it}
-use Rattle.hosting.proofs.Owned.{held-at, all-typed, array-in, lend-array, comes-back}
+use Rattle.owned.proofs.Owned.{held-at, all-typed, array-in, lend-array, comes-back}
 use Rattle.storage.proofs.task_types.blank.Symbol.{name as #blanks}
 use Rattle.storage.proofs.task_types.blank as blanks
 use Rattle.storage.proofs.task_types.blank.Symbol as blanks-def
@@ -64,6 +65,7 @@ use Rattle.hosting.proofs.owner.own.Key.{name as #this}
 use Rattle.hosting.proofs.owner.own as f
 use Rattle.hosting.proofs.owner.own.Statement as stated
 use Rattle.hosting.proofs.owner.own.Code as code
+open Shut performed-shut using (val as performed-val, tells as performed-tells, makes as performed-makes, typed as performed-typed)
 
 abbrev stayed : Stays (f.ended .signature .params) (f.ended .kept)
 stayed = (stay-ref (0 ∷ []) tt (plain (λ _. Array u64 1000)), (stay-slice (1 ∷ []) tt (plain (λ _. u8)), (stay-slice (2 ∷ []) tt (plain (λ _. u8)), (stay-ref (3 ∷ []) tt (plain (λ _. Array u32 1024)), (stay-slice (4 ∷ []) tt (plain (λ _. u8)), (stay-slice (5 ∷ []) tt (plain (λ _. u8)), (stay-slice (6 ∷ []) tt (plain (λ _. u8)), (stay-slice (7 ∷ []) tt (plain (λ _. u8)), (stay-none (λ _. u64) yes, tt)))))))))
@@ -132,7 +134,7 @@ module _ {M : Type 1} (𝓤 : URA M) (H : Heap 𝓤) (A : Atoms 𝓤) (W : Given
         owned ! performed.the-row (Is performed.the-row) (performed-makes 𝓤 H A) r _ is $ move ! (1 ∷ 0 ∷ []) $ done !
 
     walk : (𝓣 : Tables 𝓤 H) (known-blanks : Triple 𝓤 (𝓣 .C #blanks) (blanks-con 𝓤 H A at-mem run)) (known-performs : Triple 𝓤 (𝓣 .C #performs) (performs-con 𝓤 H A at-mem run)) → ent 𝓤 (onEntry 𝓤 H A f.signature κs₀ qs₀ x at) (WpFn 𝓤 H (𝓣 .C) (𝓣 .Λ) code.function (vptr b₀ o₀ ∷ sliceVal (b₁, o₁) n₁ ∷ sliceVal (b₂, o₂) n₂ ∷ vptr b₃ o₃ ∷ sliceVal (b₄, o₄) n₄ ∷ sliceVal (b₅, o₅) n₅ ∷ sliceVal (b₆, o₆) n₆ ∷ sliceVal (b₇, o₇) n₇ ∷ vint w64 fuel ∷ []) Post)
-    unfolding performed-ty
+    unfolding performed-shut
     walk 𝓣 known-blanks known-performs =
         qed W ((‵ (flft κ₀ q₀) ⊛ ‵ (flft κ₁ q₁) ⊛ ‵ (flft κ₂ q₂) ⊛ ‵ (flft κ₃ q₃) ⊛ ‵ (flft κ₄ q₄) ⊛ ‵ (flft κ₅ q₅) ⊛ ‵ (flft κ₆ q₆) ⊛ ‵ (flft κ₇ q₇) ⊛ ‵ ftrue) ∷ ‵ (owns (typesAt (f.signature .params) κs₀) x at) ∷ []) ∵ enter ! (𝓣 .C) (𝓣 .Λ) code.function (vptr b₀ o₀ ∷ sliceVal (b₁, o₁) n₁ ∷ sliceVal (b₂, o₂) n₂ ∷ vptr b₃ o₃ ∷ sliceVal (b₄, o₄) n₄ ∷ sliceVal (b₅, o₅) n₅ ∷ sliceVal (b₆, o₆) n₆ ∷ sliceVal (b₇, o₇) n₇ ∷ vint w64 fuel ∷ []) _ $
         alloc1 ! (λ l₀. alloc1 ! (λ l₁. alloc1 ! (λ l₂. alloc1 ! (λ l₃. alloc1 ! (λ l₄. alloc1 ! (λ l₅. alloc1 ! (λ l₆. alloc1 ! (λ l₇. alloc1 ! (λ l₈. alloc1 ! (λ l₉. alloc1 ! (λ l₁₀. alloc1 ! (λ l₁₁. alloc1 ! (λ l₁₂. alloc1 ! (λ l₁₃. alloc1 ! (λ l₁₄. alloc1 ! (λ l₁₅. alloc1 ! (λ l₁₆. alloc1 ! (λ l₁₇. alloc1 ! (λ l₁₈. alloc1 ! (λ l₁₉. alloc1 ! (λ l₂₀. alloc1 ! (λ l₂₁. alloc1 ! (λ l₂₂. alloc1 ! (λ l₂₃. alloc1 ! (λ l₂₄. alloc1 ! (λ l₂₅. alloc1 ! (λ l₂₆. alloc1 ! (λ l₂₇. alloc0 ! $ params1 ! $

@@ -17,7 +17,7 @@ use contract.Lifetimes.{Lfts, Shares}
 use contract.Monad.{Fun}
 use contract.Running.{givenOf, tables, tablesOf}
 use types.Kit.{Given, Item, Sq, runs, frees, prop, atRet, ‵, _⊛_, ⋆, _$_, _∵_, !, qed, by, move, drop, split, join, fsplit, fjoin, suffices, frame, done}
-use types.Run.{look, init, forget, stop, hop, fld, from, load, addr, and-then, no-more, assigns, land, returns, enter, alloc1, alloc0, params1, pass1, pass0, free1, free0}
+use types.Run.{look, init, forget, stop, hop, fld, from, load, lit, addr, and-then, no-more, assigns, land, returns, enter, alloc1, alloc0, params1, pass1, pass0, free1, free0}
 use types.Part.{agg, whole, sub, look-in}
 use sound.WpLaws.{fmOf, WpFn-mono}
 use denote.RattleType.{owns}
@@ -37,6 +37,7 @@ use denote.Triple.Table.{entered, cited}
 use denote.Triple.Walked.{says, Stays, stay-slice, stay-ref, stay-none, walkOf, goes-slice, goes-ref, goes-none, Walks, ends-at, walked, walk-meets}
 use Rattle.lent.proofs.Lent.{Thing, part, whole as whole-of, have, tokens, lent}
 use Rattle.lent.proofs.Landed.{landed-by}
+use Rattle.lent.proofs.Shut.{Shut}
 use Rattle.storage.specs.declared.Task.{Task}
 use Rattle.storage.specs.Tasks.{after}
 use Rattle.storage.proofs.Records.{R, table-ty}
@@ -44,11 +45,13 @@ use Rattle.text.specs.Lines.{lined}
 use Rattle.text.proofs.LineResult as line
 use Rattle.core.proofs.Machine as machine
 use Rattle.runs.specs.World.{world}
-use Rattle.runs.proofs.Values.{machine-val, machine-vals, machine-ty, machine-tells, machine-makes, machine-typed}
+use Rattle.runs.proofs.Values.{machine-shut, machine-vals}
+use Rattle.vm.specs.declared.Verb.the-variants.{Start}
+use Rattle.vm.proofs.Verb as verb
 use Rattle.vm.proofs.Report as report
 use Rattle.vm.proofs.SaveReport as save-report
 use Rattle.vm.proofs.CreateResult as created
-use Rattle.vm.proofs.Values.{report-val, report-vals, report-ty, report-tells, report-makes, report-typed, save-report-val, save-report-vals, save-report-ty, save-report-tells, save-report-makes, save-report-typed, created-val, created-vals, created-ty, created-tells, created-makes, created-typed}
+use Rattle.vm.proofs.Values.{verb-shut, start-val, start-typed, report-shut, report-vals, save-report-shut, save-report-vals, created-shut, created-vals, start-is}
 use Rattle.vm.specs.Calls.{reported, start as start-of}
 use Rattle.vm.specs.Creation.{made, create as create-of}
 use Rattle.vm.specs.Reads.{saved-to, host-save}
@@ -57,7 +60,7 @@ use Rattle.hosting.specs.Lines.{task-lines}
 use Rattle.hosting.specs.Hosting.{machine-of, to-save, performed-in, perform}
 use Rattle.hosting.specs.Hosting.{performed as performed-of}
 use Rattle.hosting.proofs.Performed as performed
-use Rattle.hosting.proofs.Values.{line-val, line-vals, line-ty, line-tells, line-makes, line-typed, performed-val, performed-vals, performed-ty, performed-tells, performed-makes, performed-typed}
+use Rattle.hosting.proofs.Values.{line-shut, line-vals, performed-shut, performed-vals}
 use Rattle.hosting.proofs.Performing.{performs}
 use Rattle.creating.proofs.create.Symbol.{name as #creates}
 use Rattle.creating.proofs.create as creates
@@ -67,10 +70,10 @@ use Rattle.hosting.proofs.outcomes.machine_of.Symbol.{name as #begins}
 use Rattle.hosting.proofs.outcomes.machine_of as begins
 use Rattle.hosting.proofs.outcomes.machine_of.Symbol as begins-def
 use Rattle.hosting.proofs.outcomes.machine_of.Met as begins-thm
-use Rattle.calling.proofs.start.Symbol.{name as #starts}
-use Rattle.calling.proofs.start as starts
-use Rattle.calling.proofs.start.Symbol as starts-def
-use Rattle.calling.proofs.start.Met as starts-thm
+use Rattle.calling.proofs.call.Symbol.{name as #starts}
+use Rattle.calling.proofs.call as starts
+use Rattle.calling.proofs.call.Symbol as starts-def
+use Rattle.calling.proofs.call.Met as starts-thm
 use Rattle.hosting.proofs.outcomes.to_save.Symbol.{name as #chooses}
 use Rattle.hosting.proofs.outcomes.to_save as chooses
 use Rattle.hosting.proofs.outcomes.to_save.Symbol as chooses-def
@@ -92,6 +95,13 @@ use Rattle.hosting.proofs.owner.perform as f
 use Rattle.hosting.proofs.owner.perform.Statement as stated
 use Rattle.hosting.proofs.owner.perform.Code as code
 use Rattle.hosting.proofs.owner.perform.Code.Mir as mir
+open Shut machine-shut using (val as machine-val, ty as machine-ty, tells as machine-tells, makes as machine-makes, typed as machine-typed)
+open Shut verb-shut using (ty as verb-ty, makes as verb-makes)
+open Shut report-shut using (val as report-val, ty as report-ty, tells as report-tells, makes as report-makes, typed as report-typed)
+open Shut save-report-shut using (val as save-report-val, ty as save-report-ty, tells as save-report-tells, makes as save-report-makes, typed as save-report-typed)
+open Shut created-shut using (val as created-val, ty as created-ty, tells as created-tells, makes as created-makes, typed as created-typed)
+open Shut line-shut using (val as line-val, ty as line-ty, tells as line-tells, makes as line-makes, typed as line-typed)
+open Shut performed-shut using (val as performed-val, ty as performed-ty, tells as performed-tells, makes as performed-makes, typed as performed-typed)
 
 abbrev stayed : Stays (f.ended .signature .params) (f.ended .kept)
 stayed = (stay-slice (0 ∷ []) tt (plain (λ _. R)), (stay-ref (1 ∷ []) tt (plain (λ _. Array u64 1000)), (stay-slice (2 ∷ []) tt (plain (λ _. u8)), (stay-slice (3 ∷ []) tt (plain (λ _. u8)), (stay-ref (4 ∷ []) tt (plain (λ _. Array u32 1024)), (stay-slice (5 ∷ []) tt (plain (λ _. u8)), (stay-slice (6 ∷ []) tt (plain (λ _. u8)), (stay-slice (7 ∷ []) tt (plain (λ _. u8)), (stay-slice (8 ∷ []) tt (plain (λ _. u8)), (stay-none (λ _. u64) yes, tt))))))))))
@@ -182,7 +192,7 @@ module _ {M : Type 1} (𝓤 : URA M) (H : Heap 𝓤) (A : Atoms 𝓤) (W : Given
         fsplit ! $ move ! (1 ∷ []) $ fsplit ! $ move ! (1 ∷ []) $ fsplit ! $ move ! (1 ∷ []) $ fsplit ! $ move ! (1 ∷ []) $ fsplit ! $ move ! (1 ∷ []) $ fsplit ! $ move ! (1 ∷ []) $ fsplit ! $ move ! (1 ∷ []) $ fsplit ! $ move ! (1 ∷ []) $ fsplit ! $ move ! (1 ∷ []) $ drop ! $ nothing ! $ owned ! u64 (Is u64) (uint-makes 𝓤 H A W w64) fuel _ (refl, fuel-is) $ fjoin ! $ move ! (1 ∷ 0 ∷ []) $ fjoin ! $ move ! (1 ∷ 0 ∷ []) $ fjoin ! $ move ! (1 ∷ 0 ∷ []) $ fjoin ! $ move ! (1 ∷ 0 ∷ []) $ fjoin ! $ move ! (1 ∷ 0 ∷ []) $ fjoin ! $ move ! (1 ∷ 0 ∷ []) $ fjoin ! $ move ! (1 ∷ 0 ∷ []) $ fjoin ! $ move ! (1 ∷ 0 ∷ []) $ fjoin ! $ move ! (1 ∷ 0 ∷ []) $ fjoin ! $
         owned ! performed.the-row (Is performed.the-row) (performed-makes 𝓤 H A) r _ is $ move ! (1 ∷ 0 ∷ []) $ done !
 
-    module _ (𝓣 : Tables 𝓤 H) (known-creates : Triple 𝓤 (𝓣 .C #creates) (creates-con 𝓤 H A at-mem run)) (known-begins : Triple 𝓤 (𝓣 .C #begins) (begins-con 𝓤 H A at-mem run)) (known-starts : Triple 𝓤 (𝓣 .C #starts) (starts-con 𝓤 H A at-mem run)) (known-chooses : Triple 𝓤 (𝓣 .C #chooses) (chooses-con 𝓤 H A at-mem run)) (known-saves : Triple 𝓤 (𝓣 .C #saves) (saves-con 𝓤 H A at-mem run)) (known-tells : Triple 𝓤 (𝓣 .C #tells) (tells-con 𝓤 H A at-mem run)) (known-sums : Triple 𝓤 (𝓣 .C #sums) (sums-con 𝓤 H A at-mem run)) (l₀ l₁ l₂ l₃ l₄ l₅ l₆ l₇ l₈ l₉ l₁₀ l₁₁ l₁₂ l₁₃ l₁₄ l₁₅ l₁₆ l₁₇ l₁₈ l₁₉ l₂₀ l₂₁ l₂₂ l₂₃ l₂₄ l₂₅ l₂₆ l₂₇ l₂₈ l₂₉ l₃₀ l₃₁ l₃₂ l₃₃ l₃₄ l₃₅ l₃₆ l₃₇ l₃₈ l₃₉ l₄₀ l₄₁ l₄₂ l₄₃ l₄₄ l₄₅ l₄₆ l₄₇ l₄₈ l₄₉ : ℕ) where
+    module _ (𝓣 : Tables 𝓤 H) (known-creates : Triple 𝓤 (𝓣 .C #creates) (creates-con 𝓤 H A at-mem run)) (known-begins : Triple 𝓤 (𝓣 .C #begins) (begins-con 𝓤 H A at-mem run)) (known-starts : Triple 𝓤 (𝓣 .C #starts) (starts-con 𝓤 H A at-mem run)) (known-chooses : Triple 𝓤 (𝓣 .C #chooses) (chooses-con 𝓤 H A at-mem run)) (known-saves : Triple 𝓤 (𝓣 .C #saves) (saves-con 𝓤 H A at-mem run)) (known-tells : Triple 𝓤 (𝓣 .C #tells) (tells-con 𝓤 H A at-mem run)) (known-sums : Triple 𝓤 (𝓣 .C #sums) (sums-con 𝓤 H A at-mem run)) (l₀ l₁ l₂ l₃ l₄ l₅ l₆ l₇ l₈ l₉ l₁₀ l₁₁ l₁₂ l₁₃ l₁₄ l₁₅ l₁₆ l₁₇ l₁₈ l₁₉ l₂₀ l₂₁ l₂₂ l₂₃ l₂₄ l₂₅ l₂₆ l₂₇ l₂₈ l₂₉ l₃₀ l₃₁ l₃₂ l₃₃ l₃₄ l₃₅ l₃₆ l₃₇ l₃₈ l₃₉ l₄₀ l₄₁ l₄₂ l₄₃ l₄₄ l₄₅ l₄₆ l₄₇ l₄₈ l₄₉ l₅₀ : ℕ) where
       abbrev C : Calls 𝓤 H
       C = 𝓣 .C
 
@@ -190,105 +200,106 @@ module _ {M : Type 1} (𝓤 : URA M) (H : Heap 𝓤) (A : Atoms 𝓤) (W : Given
       Λ = 𝓣 .Λ
 
       abbrev En : Env 𝓤 H
-      En = (performed-ty, l₀) ∷ (sliceTy (tyRef (named 0) mut table-ty), l₁) ∷ (tyRef (named 1) mut (tyArray (tyInt w64) 1000), l₂) ∷ (sliceTy (tyRef (named 2) mut (tyInt w8)), l₃) ∷ (sliceTy (tyRef (named 3) mut (tyInt w8)), l₄) ∷ (tyRef (named 4) mut (tyArray (tyInt w32) 1024), l₅) ∷ (sliceTy (tyRef (named 5) mut (tyInt w8)), l₆) ∷ (sliceTy (tyRef (named 6) mut (tyInt w8)), l₇) ∷ (sliceTy (tyRef (named 7) mut (tyInt w8)), l₈) ∷ (sliceTy (tyRef (named 8) mut (tyInt w8)), l₉) ∷ (tyInt w64, l₁₀) ∷ (created-ty, l₁₁) ∷ (machine-ty, l₁₂) ∷ (report-ty, l₁₃) ∷ (machine-ty, l₁₄) ∷ (save-report-ty, l₁₅) ∷ (line-ty, l₁₆) ∷ (tyRef erased mut table-ty, l₁₇) ∷ (sliceTy (tyRef erased mut table-ty), l₁₈) ∷ (tyRef erased mut (tyInt w8), l₁₉) ∷ (sliceTy (tyRef erased mut (tyInt w8)), l₂₀) ∷ (tyRef erased mut (tyArray (tyInt w32) 1024), l₂₁) ∷ (tyRef erased mut (tyInt w8), l₂₂) ∷ (sliceTy (tyRef erased mut (tyInt w8)), l₂₃) ∷ (tyRef erased mut (tyInt w8), l₂₄) ∷ (sliceTy (tyRef erased mut (tyInt w8)), l₂₅) ∷ (tyRef erased mut table-ty, l₂₆) ∷ (sliceTy (tyRef erased mut table-ty), l₂₇) ∷ (tyRef erased mut (tyArray (tyInt w64) 1000), l₂₈) ∷ (tyRef erased mut (tyInt w8), l₂₉) ∷ (sliceTy (tyRef erased mut (tyInt w8)), l₃₀) ∷ (tyRef erased mut (tyInt w8), l₃₁) ∷ (sliceTy (tyRef erased mut (tyInt w8)), l₃₂) ∷ (tyRef erased mut (tyArray (tyInt w32) 1024), l₃₃) ∷ (tyRef erased mut (tyInt w8), l₃₄) ∷ (sliceTy (tyRef erased mut (tyInt w8)), l₃₅) ∷ (tyRef erased mut table-ty, l₃₆) ∷ (sliceTy (tyRef erased mut table-ty), l₃₇) ∷ (tyRef erased mut (tyArray (tyInt w64) 1000), l₃₈) ∷ (tyRef erased mut (tyInt w8), l₃₉) ∷ (sliceTy (tyRef erased mut (tyInt w8)), l₄₀) ∷ (tyRef erased mut (tyInt w8), l₄₁) ∷ (sliceTy (tyRef erased mut (tyInt w8)), l₄₂) ∷ (tyRef erased mut (tyArray (tyInt w32) 1024), l₄₃) ∷ (tyRef erased mut (tyInt w8), l₄₄) ∷ (sliceTy (tyRef erased mut (tyInt w8)), l₄₅) ∷ (tyRef erased mut table-ty, l₄₆) ∷ (sliceTy (tyRef erased mut table-ty), l₄₇) ∷ (tyRef erased mut (tyInt w8), l₄₈) ∷ (sliceTy (tyRef erased mut (tyInt w8)), l₄₉) ∷ []
+      En = (performed-ty, l₀) ∷ (sliceTy (tyRef (named 0) mut table-ty), l₁) ∷ (tyRef (named 1) mut (tyArray (tyInt w64) 1000), l₂) ∷ (sliceTy (tyRef (named 2) mut (tyInt w8)), l₃) ∷ (sliceTy (tyRef (named 3) mut (tyInt w8)), l₄) ∷ (tyRef (named 4) mut (tyArray (tyInt w32) 1024), l₅) ∷ (sliceTy (tyRef (named 5) mut (tyInt w8)), l₆) ∷ (sliceTy (tyRef (named 6) mut (tyInt w8)), l₇) ∷ (sliceTy (tyRef (named 7) mut (tyInt w8)), l₈) ∷ (sliceTy (tyRef (named 8) mut (tyInt w8)), l₉) ∷ (tyInt w64, l₁₀) ∷ (created-ty, l₁₁) ∷ (machine-ty, l₁₂) ∷ (report-ty, l₁₃) ∷ (machine-ty, l₁₄) ∷ (save-report-ty, l₁₅) ∷ (line-ty, l₁₆) ∷ (tyRef erased mut table-ty, l₁₇) ∷ (sliceTy (tyRef erased mut table-ty), l₁₈) ∷ (tyRef erased mut (tyInt w8), l₁₉) ∷ (sliceTy (tyRef erased mut (tyInt w8)), l₂₀) ∷ (tyRef erased mut (tyArray (tyInt w32) 1024), l₂₁) ∷ (tyRef erased mut (tyInt w8), l₂₂) ∷ (sliceTy (tyRef erased mut (tyInt w8)), l₂₃) ∷ (tyRef erased mut (tyInt w8), l₂₄) ∷ (sliceTy (tyRef erased mut (tyInt w8)), l₂₅) ∷ (tyRef erased mut table-ty, l₂₆) ∷ (sliceTy (tyRef erased mut table-ty), l₂₇) ∷ (tyRef erased mut (tyArray (tyInt w64) 1000), l₂₈) ∷ (tyRef erased mut (tyInt w8), l₂₉) ∷ (sliceTy (tyRef erased mut (tyInt w8)), l₃₀) ∷ (tyRef erased mut (tyInt w8), l₃₁) ∷ (sliceTy (tyRef erased mut (tyInt w8)), l₃₂) ∷ (tyRef erased mut (tyArray (tyInt w32) 1024), l₃₃) ∷ (tyRef erased mut (tyInt w8), l₃₄) ∷ (sliceTy (tyRef erased mut (tyInt w8)), l₃₅) ∷ (verb-ty, l₃₆) ∷ (tyRef erased mut table-ty, l₃₇) ∷ (sliceTy (tyRef erased mut table-ty), l₃₈) ∷ (tyRef erased mut (tyArray (tyInt w64) 1000), l₃₉) ∷ (tyRef erased mut (tyInt w8), l₄₀) ∷ (sliceTy (tyRef erased mut (tyInt w8)), l₄₁) ∷ (tyRef erased mut (tyInt w8), l₄₂) ∷ (sliceTy (tyRef erased mut (tyInt w8)), l₄₃) ∷ (tyRef erased mut (tyArray (tyInt w32) 1024), l₄₄) ∷ (tyRef erased mut (tyInt w8), l₄₅) ∷ (sliceTy (tyRef erased mut (tyInt w8)), l₄₆) ∷ (tyRef erased mut table-ty, l₄₇) ∷ (sliceTy (tyRef erased mut table-ty), l₄₈) ∷ (tyRef erased mut (tyInt w8), l₄₉) ∷ (sliceTy (tyRef erased mut (tyInt w8)), l₅₀) ∷ []
 
       -- the locals, given up
       abbrev Bare : List (Item 𝓤)
-      Bare = ‵ (froom (sliceTy (tyRef erased mut (tyInt w8))) l₄₉ 0) ∷ ‵ (fdies (sliceTy (tyRef erased mut (tyInt w8))) l₄₉) ∷ ‵ (froom (tyRef erased mut (tyInt w8)) l₄₈ 0) ∷ ‵ (fdies (tyRef erased mut (tyInt w8)) l₄₈) ∷ ‵ (froom (sliceTy (tyRef erased mut table-ty)) l₄₇ 0) ∷ ‵ (fdies (sliceTy (tyRef erased mut table-ty)) l₄₇) ∷ ‵ (froom (tyRef erased mut table-ty) l₄₆ 0) ∷ ‵ (fdies (tyRef erased mut table-ty) l₄₆) ∷ ‵ (froom (sliceTy (tyRef erased mut (tyInt w8))) l₄₅ 0) ∷ ‵ (fdies (sliceTy (tyRef erased mut (tyInt w8))) l₄₅) ∷ ‵ (froom (tyRef erased mut (tyInt w8)) l₄₄ 0) ∷ ‵ (fdies (tyRef erased mut (tyInt w8)) l₄₄) ∷ ‵ (froom (tyRef erased mut (tyArray (tyInt w32) 1024)) l₄₃ 0) ∷ ‵ (fdies (tyRef erased mut (tyArray (tyInt w32) 1024)) l₄₃) ∷ ‵ (froom (sliceTy (tyRef erased mut (tyInt w8))) l₄₂ 0) ∷ ‵ (fdies (sliceTy (tyRef erased mut (tyInt w8))) l₄₂) ∷ ‵ (froom (tyRef erased mut (tyInt w8)) l₄₁ 0) ∷ ‵ (fdies (tyRef erased mut (tyInt w8)) l₄₁) ∷ ‵ (froom (sliceTy (tyRef erased mut (tyInt w8))) l₄₀ 0) ∷ ‵ (fdies (sliceTy (tyRef erased mut (tyInt w8))) l₄₀) ∷ ‵ (froom (tyRef erased mut (tyInt w8)) l₃₉ 0) ∷ ‵ (fdies (tyRef erased mut (tyInt w8)) l₃₉) ∷ ‵ (froom (tyRef erased mut (tyArray (tyInt w64) 1000)) l₃₈ 0) ∷ ‵ (fdies (tyRef erased mut (tyArray (tyInt w64) 1000)) l₃₈) ∷ ‵ (froom (sliceTy (tyRef erased mut table-ty)) l₃₇ 0) ∷ ‵ (fdies (sliceTy (tyRef erased mut table-ty)) l₃₇) ∷ ‵ (froom (tyRef erased mut table-ty) l₃₆ 0) ∷ ‵ (fdies (tyRef erased mut table-ty) l₃₆) ∷ ‵ (froom (sliceTy (tyRef erased mut (tyInt w8))) l₃₅ 0) ∷ ‵ (fdies (sliceTy (tyRef erased mut (tyInt w8))) l₃₅) ∷ ‵ (froom (tyRef erased mut (tyInt w8)) l₃₄ 0) ∷ ‵ (fdies (tyRef erased mut (tyInt w8)) l₃₄) ∷ ‵ (froom (tyRef erased mut (tyArray (tyInt w32) 1024)) l₃₃ 0) ∷ ‵ (fdies (tyRef erased mut (tyArray (tyInt w32) 1024)) l₃₃) ∷ ‵ (froom (sliceTy (tyRef erased mut (tyInt w8))) l₃₂ 0) ∷ ‵ (fdies (sliceTy (tyRef erased mut (tyInt w8))) l₃₂) ∷ ‵ (froom (tyRef erased mut (tyInt w8)) l₃₁ 0) ∷ ‵ (fdies (tyRef erased mut (tyInt w8)) l₃₁) ∷ ‵ (froom (sliceTy (tyRef erased mut (tyInt w8))) l₃₀ 0) ∷ ‵ (fdies (sliceTy (tyRef erased mut (tyInt w8))) l₃₀) ∷ ‵ (froom (tyRef erased mut (tyInt w8)) l₂₉ 0) ∷ ‵ (fdies (tyRef erased mut (tyInt w8)) l₂₉) ∷ ‵ (froom (tyRef erased mut (tyArray (tyInt w64) 1000)) l₂₈ 0) ∷ ‵ (fdies (tyRef erased mut (tyArray (tyInt w64) 1000)) l₂₈) ∷ ‵ (froom (sliceTy (tyRef erased mut table-ty)) l₂₇ 0) ∷ ‵ (fdies (sliceTy (tyRef erased mut table-ty)) l₂₇) ∷ ‵ (froom (tyRef erased mut table-ty) l₂₆ 0) ∷ ‵ (fdies (tyRef erased mut table-ty) l₂₆) ∷ ‵ (froom (sliceTy (tyRef erased mut (tyInt w8))) l₂₅ 0) ∷ ‵ (fdies (sliceTy (tyRef erased mut (tyInt w8))) l₂₅) ∷ ‵ (froom (tyRef erased mut (tyInt w8)) l₂₄ 0) ∷ ‵ (fdies (tyRef erased mut (tyInt w8)) l₂₄) ∷ ‵ (froom (sliceTy (tyRef erased mut (tyInt w8))) l₂₃ 0) ∷ ‵ (fdies (sliceTy (tyRef erased mut (tyInt w8))) l₂₃) ∷ ‵ (froom (tyRef erased mut (tyInt w8)) l₂₂ 0) ∷ ‵ (fdies (tyRef erased mut (tyInt w8)) l₂₂) ∷ ‵ (froom (tyRef erased mut (tyArray (tyInt w32) 1024)) l₂₁ 0) ∷ ‵ (fdies (tyRef erased mut (tyArray (tyInt w32) 1024)) l₂₁) ∷ ‵ (froom (sliceTy (tyRef erased mut (tyInt w8))) l₂₀ 0) ∷ ‵ (fdies (sliceTy (tyRef erased mut (tyInt w8))) l₂₀) ∷ ‵ (froom (tyRef erased mut (tyInt w8)) l₁₉ 0) ∷ ‵ (fdies (tyRef erased mut (tyInt w8)) l₁₉) ∷ ‵ (froom (sliceTy (tyRef erased mut table-ty)) l₁₈ 0) ∷ ‵ (fdies (sliceTy (tyRef erased mut table-ty)) l₁₈) ∷ ‵ (froom (tyRef erased mut table-ty) l₁₇ 0) ∷ ‵ (fdies (tyRef erased mut table-ty) l₁₇) ∷ ‵ (froom line-ty l₁₆ 0) ∷ ‵ (fdies line-ty l₁₆) ∷ ‵ (froom save-report-ty l₁₅ 0) ∷ ‵ (fdies save-report-ty l₁₅) ∷ ‵ (froom machine-ty l₁₄ 0) ∷ ‵ (fdies machine-ty l₁₄) ∷ ‵ (froom report-ty l₁₃ 0) ∷ ‵ (fdies report-ty l₁₃) ∷ ‵ (froom machine-ty l₁₂ 0) ∷ ‵ (fdies machine-ty l₁₂) ∷ ‵ (froom created-ty l₁₁ 0) ∷ ‵ (fdies created-ty l₁₁) ∷ ‵ (froom (tyInt w64) l₁₀ 0) ∷ ‵ (fdies (tyInt w64) l₁₀) ∷ ‵ (froom (sliceTy (tyRef (named 8) mut (tyInt w8))) l₉ 0) ∷ ‵ (fdies (sliceTy (tyRef (named 8) mut (tyInt w8))) l₉) ∷ ‵ (froom (sliceTy (tyRef (named 7) mut (tyInt w8))) l₈ 0) ∷ ‵ (fdies (sliceTy (tyRef (named 7) mut (tyInt w8))) l₈) ∷ ‵ (froom (sliceTy (tyRef (named 6) mut (tyInt w8))) l₇ 0) ∷ ‵ (fdies (sliceTy (tyRef (named 6) mut (tyInt w8))) l₇) ∷ ‵ (froom (sliceTy (tyRef (named 5) mut (tyInt w8))) l₆ 0) ∷ ‵ (fdies (sliceTy (tyRef (named 5) mut (tyInt w8))) l₆) ∷ ‵ (froom (tyRef (named 4) mut (tyArray (tyInt w32) 1024)) l₅ 0) ∷ ‵ (fdies (tyRef (named 4) mut (tyArray (tyInt w32) 1024)) l₅) ∷ ‵ (froom (sliceTy (tyRef (named 3) mut (tyInt w8))) l₄ 0) ∷ ‵ (fdies (sliceTy (tyRef (named 3) mut (tyInt w8))) l₄) ∷ ‵ (froom (sliceTy (tyRef (named 2) mut (tyInt w8))) l₃ 0) ∷ ‵ (fdies (sliceTy (tyRef (named 2) mut (tyInt w8))) l₃) ∷ ‵ (froom (tyRef (named 1) mut (tyArray (tyInt w64) 1000)) l₂ 0) ∷ ‵ (fdies (tyRef (named 1) mut (tyArray (tyInt w64) 1000)) l₂) ∷ ‵ (froom (sliceTy (tyRef (named 0) mut table-ty)) l₁ 0) ∷ ‵ (fdies (sliceTy (tyRef (named 0) mut table-ty)) l₁) ∷ ‵ (froom performed-ty l₀ 0) ∷ ‵ (fdies performed-ty l₀) ∷ []
+      Bare = ‵ (froom (sliceTy (tyRef erased mut (tyInt w8))) l₅₀ 0) ∷ ‵ (fdies (sliceTy (tyRef erased mut (tyInt w8))) l₅₀) ∷ ‵ (froom (tyRef erased mut (tyInt w8)) l₄₉ 0) ∷ ‵ (fdies (tyRef erased mut (tyInt w8)) l₄₉) ∷ ‵ (froom (sliceTy (tyRef erased mut table-ty)) l₄₈ 0) ∷ ‵ (fdies (sliceTy (tyRef erased mut table-ty)) l₄₈) ∷ ‵ (froom (tyRef erased mut table-ty) l₄₇ 0) ∷ ‵ (fdies (tyRef erased mut table-ty) l₄₇) ∷ ‵ (froom (sliceTy (tyRef erased mut (tyInt w8))) l₄₆ 0) ∷ ‵ (fdies (sliceTy (tyRef erased mut (tyInt w8))) l₄₆) ∷ ‵ (froom (tyRef erased mut (tyInt w8)) l₄₅ 0) ∷ ‵ (fdies (tyRef erased mut (tyInt w8)) l₄₅) ∷ ‵ (froom (tyRef erased mut (tyArray (tyInt w32) 1024)) l₄₄ 0) ∷ ‵ (fdies (tyRef erased mut (tyArray (tyInt w32) 1024)) l₄₄) ∷ ‵ (froom (sliceTy (tyRef erased mut (tyInt w8))) l₄₃ 0) ∷ ‵ (fdies (sliceTy (tyRef erased mut (tyInt w8))) l₄₃) ∷ ‵ (froom (tyRef erased mut (tyInt w8)) l₄₂ 0) ∷ ‵ (fdies (tyRef erased mut (tyInt w8)) l₄₂) ∷ ‵ (froom (sliceTy (tyRef erased mut (tyInt w8))) l₄₁ 0) ∷ ‵ (fdies (sliceTy (tyRef erased mut (tyInt w8))) l₄₁) ∷ ‵ (froom (tyRef erased mut (tyInt w8)) l₄₀ 0) ∷ ‵ (fdies (tyRef erased mut (tyInt w8)) l₄₀) ∷ ‵ (froom (tyRef erased mut (tyArray (tyInt w64) 1000)) l₃₉ 0) ∷ ‵ (fdies (tyRef erased mut (tyArray (tyInt w64) 1000)) l₃₉) ∷ ‵ (froom (sliceTy (tyRef erased mut table-ty)) l₃₈ 0) ∷ ‵ (fdies (sliceTy (tyRef erased mut table-ty)) l₃₈) ∷ ‵ (froom (tyRef erased mut table-ty) l₃₇ 0) ∷ ‵ (fdies (tyRef erased mut table-ty) l₃₇) ∷ ‵ (froom verb-ty l₃₆ 0) ∷ ‵ (fdies verb-ty l₃₆) ∷ ‵ (froom (sliceTy (tyRef erased mut (tyInt w8))) l₃₅ 0) ∷ ‵ (fdies (sliceTy (tyRef erased mut (tyInt w8))) l₃₅) ∷ ‵ (froom (tyRef erased mut (tyInt w8)) l₃₄ 0) ∷ ‵ (fdies (tyRef erased mut (tyInt w8)) l₃₄) ∷ ‵ (froom (tyRef erased mut (tyArray (tyInt w32) 1024)) l₃₃ 0) ∷ ‵ (fdies (tyRef erased mut (tyArray (tyInt w32) 1024)) l₃₃) ∷ ‵ (froom (sliceTy (tyRef erased mut (tyInt w8))) l₃₂ 0) ∷ ‵ (fdies (sliceTy (tyRef erased mut (tyInt w8))) l₃₂) ∷ ‵ (froom (tyRef erased mut (tyInt w8)) l₃₁ 0) ∷ ‵ (fdies (tyRef erased mut (tyInt w8)) l₃₁) ∷ ‵ (froom (sliceTy (tyRef erased mut (tyInt w8))) l₃₀ 0) ∷ ‵ (fdies (sliceTy (tyRef erased mut (tyInt w8))) l₃₀) ∷ ‵ (froom (tyRef erased mut (tyInt w8)) l₂₉ 0) ∷ ‵ (fdies (tyRef erased mut (tyInt w8)) l₂₉) ∷ ‵ (froom (tyRef erased mut (tyArray (tyInt w64) 1000)) l₂₈ 0) ∷ ‵ (fdies (tyRef erased mut (tyArray (tyInt w64) 1000)) l₂₈) ∷ ‵ (froom (sliceTy (tyRef erased mut table-ty)) l₂₇ 0) ∷ ‵ (fdies (sliceTy (tyRef erased mut table-ty)) l₂₇) ∷ ‵ (froom (tyRef erased mut table-ty) l₂₆ 0) ∷ ‵ (fdies (tyRef erased mut table-ty) l₂₆) ∷ ‵ (froom (sliceTy (tyRef erased mut (tyInt w8))) l₂₅ 0) ∷ ‵ (fdies (sliceTy (tyRef erased mut (tyInt w8))) l₂₅) ∷ ‵ (froom (tyRef erased mut (tyInt w8)) l₂₄ 0) ∷ ‵ (fdies (tyRef erased mut (tyInt w8)) l₂₄) ∷ ‵ (froom (sliceTy (tyRef erased mut (tyInt w8))) l₂₃ 0) ∷ ‵ (fdies (sliceTy (tyRef erased mut (tyInt w8))) l₂₃) ∷ ‵ (froom (tyRef erased mut (tyInt w8)) l₂₂ 0) ∷ ‵ (fdies (tyRef erased mut (tyInt w8)) l₂₂) ∷ ‵ (froom (tyRef erased mut (tyArray (tyInt w32) 1024)) l₂₁ 0) ∷ ‵ (fdies (tyRef erased mut (tyArray (tyInt w32) 1024)) l₂₁) ∷ ‵ (froom (sliceTy (tyRef erased mut (tyInt w8))) l₂₀ 0) ∷ ‵ (fdies (sliceTy (tyRef erased mut (tyInt w8))) l₂₀) ∷ ‵ (froom (tyRef erased mut (tyInt w8)) l₁₉ 0) ∷ ‵ (fdies (tyRef erased mut (tyInt w8)) l₁₉) ∷ ‵ (froom (sliceTy (tyRef erased mut table-ty)) l₁₈ 0) ∷ ‵ (fdies (sliceTy (tyRef erased mut table-ty)) l₁₈) ∷ ‵ (froom (tyRef erased mut table-ty) l₁₇ 0) ∷ ‵ (fdies (tyRef erased mut table-ty) l₁₇) ∷ ‵ (froom line-ty l₁₆ 0) ∷ ‵ (fdies line-ty l₁₆) ∷ ‵ (froom save-report-ty l₁₅ 0) ∷ ‵ (fdies save-report-ty l₁₅) ∷ ‵ (froom machine-ty l₁₄ 0) ∷ ‵ (fdies machine-ty l₁₄) ∷ ‵ (froom report-ty l₁₃ 0) ∷ ‵ (fdies report-ty l₁₃) ∷ ‵ (froom machine-ty l₁₂ 0) ∷ ‵ (fdies machine-ty l₁₂) ∷ ‵ (froom created-ty l₁₁ 0) ∷ ‵ (fdies created-ty l₁₁) ∷ ‵ (froom (tyInt w64) l₁₀ 0) ∷ ‵ (fdies (tyInt w64) l₁₀) ∷ ‵ (froom (sliceTy (tyRef (named 8) mut (tyInt w8))) l₉ 0) ∷ ‵ (fdies (sliceTy (tyRef (named 8) mut (tyInt w8))) l₉) ∷ ‵ (froom (sliceTy (tyRef (named 7) mut (tyInt w8))) l₈ 0) ∷ ‵ (fdies (sliceTy (tyRef (named 7) mut (tyInt w8))) l₈) ∷ ‵ (froom (sliceTy (tyRef (named 6) mut (tyInt w8))) l₇ 0) ∷ ‵ (fdies (sliceTy (tyRef (named 6) mut (tyInt w8))) l₇) ∷ ‵ (froom (sliceTy (tyRef (named 5) mut (tyInt w8))) l₆ 0) ∷ ‵ (fdies (sliceTy (tyRef (named 5) mut (tyInt w8))) l₆) ∷ ‵ (froom (tyRef (named 4) mut (tyArray (tyInt w32) 1024)) l₅ 0) ∷ ‵ (fdies (tyRef (named 4) mut (tyArray (tyInt w32) 1024)) l₅) ∷ ‵ (froom (sliceTy (tyRef (named 3) mut (tyInt w8))) l₄ 0) ∷ ‵ (fdies (sliceTy (tyRef (named 3) mut (tyInt w8))) l₄) ∷ ‵ (froom (sliceTy (tyRef (named 2) mut (tyInt w8))) l₃ 0) ∷ ‵ (fdies (sliceTy (tyRef (named 2) mut (tyInt w8))) l₃) ∷ ‵ (froom (tyRef (named 1) mut (tyArray (tyInt w64) 1000)) l₂ 0) ∷ ‵ (fdies (tyRef (named 1) mut (tyArray (tyInt w64) 1000)) l₂) ∷ ‵ (froom (sliceTy (tyRef (named 0) mut table-ty)) l₁ 0) ∷ ‵ (fdies (sliceTy (tyRef (named 0) mut table-ty)) l₁) ∷ ‵ (froom performed-ty l₀ 0) ∷ ‵ (fdies performed-ty l₀) ∷ []
 
       ends : (r : Performed) (v₀ : List Task) (v₁ : List ℕ) (v₂ : List ℕ) (v₃ : List ℕ) (v₄ : List ℕ) (v₅ : List ℕ) (v₆ : List ℕ) (v₇ : List ℕ) (v₈ : List ℕ) → Is performed.the-row r (performed-vals r) → length v₀ ≡ n₀ → length v₂ ≡ n₂ → length v₃ ≡ n₃ → length v₅ ≡ n₅ → length v₆ ≡ n₆ → length v₇ ≡ n₇ → length v₈ ≡ n₈ → performed-in r v₀ v₁ v₂ v₃ v₄ v₅ v₆ v₇ v₈ ≡ perform fuel x₀ x₁ x₂ x₃ x₄ x₅ x₆ x₇ x₈ → Sq W (Has v₀ v₁ v₂ v₃ v₄ v₅ v₆ v₇ v₈ Bare) (frees En (prop (Post (performed-val r))))
       ends r v₀ v₁ v₂ v₃ v₄ v₅ v₆ v₇ v₈ is m₀ m₂ m₃ m₅ m₆ m₇ m₈ e =
-          move ! (100 ∷ 101 ∷ []) $ free1 ! $ move ! (98 ∷ 99 ∷ []) $ free1 ! $ move ! (96 ∷ 97 ∷ []) $ free1 ! $ move ! (94 ∷ 95 ∷ []) $ free1 ! $ move ! (92 ∷ 93 ∷ []) $ free1 ! $ move ! (90 ∷ 91 ∷ []) $ free1 ! $ move ! (88 ∷ 89 ∷ []) $ free1 ! $ move ! (86 ∷ 87 ∷ []) $ free1 ! $ move ! (84 ∷ 85 ∷ []) $ free1 ! $ move ! (82 ∷ 83 ∷ []) $ free1 ! $ move ! (80 ∷ 81 ∷ []) $ free1 ! $ move ! (78 ∷ 79 ∷ []) $ free1 ! $ move ! (76 ∷ 77 ∷ []) $ free1 ! $ move ! (74 ∷ 75 ∷ []) $ free1 ! $ move ! (72 ∷ 73 ∷ []) $ free1 ! $ move ! (70 ∷ 71 ∷ []) $ free1 ! $ move ! (68 ∷ 69 ∷ []) $ free1 ! $ move ! (66 ∷ 67 ∷ []) $ free1 ! $ move ! (64 ∷ 65 ∷ []) $ free1 ! $ move ! (62 ∷ 63 ∷ []) $ free1 ! $ move ! (60 ∷ 61 ∷ []) $ free1 ! $ move ! (58 ∷ 59 ∷ []) $ free1 ! $ move ! (56 ∷ 57 ∷ []) $ free1 ! $ move ! (54 ∷ 55 ∷ []) $ free1 ! $ move ! (52 ∷ 53 ∷ []) $ free1 ! $ move ! (50 ∷ 51 ∷ []) $ free1 ! $ move ! (48 ∷ 49 ∷ []) $ free1 ! $ move ! (46 ∷ 47 ∷ []) $ free1 ! $ move ! (44 ∷ 45 ∷ []) $ free1 ! $ move ! (42 ∷ 43 ∷ []) $ free1 ! $ move ! (40 ∷ 41 ∷ []) $ free1 ! $ move ! (38 ∷ 39 ∷ []) $ free1 ! $ move ! (36 ∷ 37 ∷ []) $ free1 ! $ move ! (34 ∷ 35 ∷ []) $ free1 ! $ move ! (32 ∷ 33 ∷ []) $ free1 ! $ move ! (30 ∷ 31 ∷ []) $ free1 ! $ move ! (28 ∷ 29 ∷ []) $ free1 ! $ move ! (26 ∷ 27 ∷ []) $ free1 ! $ move ! (24 ∷ 25 ∷ []) $ free1 ! $ move ! (22 ∷ 23 ∷ []) $ free1 ! $ move ! (20 ∷ 21 ∷ []) $ free1 ! $ move ! (18 ∷ 19 ∷ []) $ free1 ! $ move ! (16 ∷ 17 ∷ []) $ free1 ! $ move ! (14 ∷ 15 ∷ []) $ free1 ! $ move ! (12 ∷ 13 ∷ []) $ free1 ! $ move ! (10 ∷ 11 ∷ []) $ free1 ! $ move ! (8 ∷ 9 ∷ []) $ free1 ! $ move ! (6 ∷ 7 ∷ []) $ free1 ! $ move ! (4 ∷ 5 ∷ []) $ free1 ! $ move ! (2 ∷ 3 ∷ []) $ free1 ! $ free0 ! $ by ! (exits r v₀ v₁ v₂ v₃ v₄ v₅ v₆ v₇ v₈ is m₀ m₂ m₃ m₅ m₆ m₇ m₈ e)
+          move ! (102 ∷ 103 ∷ []) $ free1 ! $ move ! (100 ∷ 101 ∷ []) $ free1 ! $ move ! (98 ∷ 99 ∷ []) $ free1 ! $ move ! (96 ∷ 97 ∷ []) $ free1 ! $ move ! (94 ∷ 95 ∷ []) $ free1 ! $ move ! (92 ∷ 93 ∷ []) $ free1 ! $ move ! (90 ∷ 91 ∷ []) $ free1 ! $ move ! (88 ∷ 89 ∷ []) $ free1 ! $ move ! (86 ∷ 87 ∷ []) $ free1 ! $ move ! (84 ∷ 85 ∷ []) $ free1 ! $ move ! (82 ∷ 83 ∷ []) $ free1 ! $ move ! (80 ∷ 81 ∷ []) $ free1 ! $ move ! (78 ∷ 79 ∷ []) $ free1 ! $ move ! (76 ∷ 77 ∷ []) $ free1 ! $ move ! (74 ∷ 75 ∷ []) $ free1 ! $ move ! (72 ∷ 73 ∷ []) $ free1 ! $ move ! (70 ∷ 71 ∷ []) $ free1 ! $ move ! (68 ∷ 69 ∷ []) $ free1 ! $ move ! (66 ∷ 67 ∷ []) $ free1 ! $ move ! (64 ∷ 65 ∷ []) $ free1 ! $ move ! (62 ∷ 63 ∷ []) $ free1 ! $ move ! (60 ∷ 61 ∷ []) $ free1 ! $ move ! (58 ∷ 59 ∷ []) $ free1 ! $ move ! (56 ∷ 57 ∷ []) $ free1 ! $ move ! (54 ∷ 55 ∷ []) $ free1 ! $ move ! (52 ∷ 53 ∷ []) $ free1 ! $ move ! (50 ∷ 51 ∷ []) $ free1 ! $ move ! (48 ∷ 49 ∷ []) $ free1 ! $ move ! (46 ∷ 47 ∷ []) $ free1 ! $ move ! (44 ∷ 45 ∷ []) $ free1 ! $ move ! (42 ∷ 43 ∷ []) $ free1 ! $ move ! (40 ∷ 41 ∷ []) $ free1 ! $ move ! (38 ∷ 39 ∷ []) $ free1 ! $ move ! (36 ∷ 37 ∷ []) $ free1 ! $ move ! (34 ∷ 35 ∷ []) $ free1 ! $ move ! (32 ∷ 33 ∷ []) $ free1 ! $ move ! (30 ∷ 31 ∷ []) $ free1 ! $ move ! (28 ∷ 29 ∷ []) $ free1 ! $ move ! (26 ∷ 27 ∷ []) $ free1 ! $ move ! (24 ∷ 25 ∷ []) $ free1 ! $ move ! (22 ∷ 23 ∷ []) $ free1 ! $ move ! (20 ∷ 21 ∷ []) $ free1 ! $ move ! (18 ∷ 19 ∷ []) $ free1 ! $ move ! (16 ∷ 17 ∷ []) $ free1 ! $ move ! (14 ∷ 15 ∷ []) $ free1 ! $ move ! (12 ∷ 13 ∷ []) $ free1 ! $ move ! (10 ∷ 11 ∷ []) $ free1 ! $ move ! (8 ∷ 9 ∷ []) $ free1 ! $ move ! (6 ∷ 7 ∷ []) $ free1 ! $ move ! (4 ∷ 5 ∷ []) $ free1 ! $ move ! (2 ∷ 3 ∷ []) $ free1 ! $ free0 ! $ by ! (exits r v₀ v₁ v₂ v₃ v₄ v₅ v₆ v₇ v₈ is m₀ m₂ m₃ m₅ m₆ m₇ m₈ e)
 
-      steps : Sq W (Has x₀ x₁ x₂ x₃ x₄ x₅ x₆ x₇ x₈ (‵ (froom (sliceTy (tyRef erased mut (tyInt w8))) l₄₉ 0) ∷ ‵ (fdies (sliceTy (tyRef erased mut (tyInt w8))) l₄₉) ∷ ‵ (froom (tyRef erased mut (tyInt w8)) l₄₈ 0) ∷ ‵ (fdies (tyRef erased mut (tyInt w8)) l₄₈) ∷ ‵ (froom (sliceTy (tyRef erased mut table-ty)) l₄₇ 0) ∷ ‵ (fdies (sliceTy (tyRef erased mut table-ty)) l₄₇) ∷ ‵ (froom (tyRef erased mut table-ty) l₄₆ 0) ∷ ‵ (fdies (tyRef erased mut table-ty) l₄₆) ∷ ‵ (froom (sliceTy (tyRef erased mut (tyInt w8))) l₄₅ 0) ∷ ‵ (fdies (sliceTy (tyRef erased mut (tyInt w8))) l₄₅) ∷ ‵ (froom (tyRef erased mut (tyInt w8)) l₄₄ 0) ∷ ‵ (fdies (tyRef erased mut (tyInt w8)) l₄₄) ∷ ‵ (froom (tyRef erased mut (tyArray (tyInt w32) 1024)) l₄₃ 0) ∷ ‵ (fdies (tyRef erased mut (tyArray (tyInt w32) 1024)) l₄₃) ∷ ‵ (froom (sliceTy (tyRef erased mut (tyInt w8))) l₄₂ 0) ∷ ‵ (fdies (sliceTy (tyRef erased mut (tyInt w8))) l₄₂) ∷ ‵ (froom (tyRef erased mut (tyInt w8)) l₄₁ 0) ∷ ‵ (fdies (tyRef erased mut (tyInt w8)) l₄₁) ∷ ‵ (froom (sliceTy (tyRef erased mut (tyInt w8))) l₄₀ 0) ∷ ‵ (fdies (sliceTy (tyRef erased mut (tyInt w8))) l₄₀) ∷ ‵ (froom (tyRef erased mut (tyInt w8)) l₃₉ 0) ∷ ‵ (fdies (tyRef erased mut (tyInt w8)) l₃₉) ∷ ‵ (froom (tyRef erased mut (tyArray (tyInt w64) 1000)) l₃₈ 0) ∷ ‵ (fdies (tyRef erased mut (tyArray (tyInt w64) 1000)) l₃₈) ∷ ‵ (froom (sliceTy (tyRef erased mut table-ty)) l₃₇ 0) ∷ ‵ (fdies (sliceTy (tyRef erased mut table-ty)) l₃₇) ∷ ‵ (froom (tyRef erased mut table-ty) l₃₆ 0) ∷ ‵ (fdies (tyRef erased mut table-ty) l₃₆) ∷ ‵ (froom (sliceTy (tyRef erased mut (tyInt w8))) l₃₅ 0) ∷ ‵ (fdies (sliceTy (tyRef erased mut (tyInt w8))) l₃₅) ∷ ‵ (froom (tyRef erased mut (tyInt w8)) l₃₄ 0) ∷ ‵ (fdies (tyRef erased mut (tyInt w8)) l₃₄) ∷ ‵ (froom (tyRef erased mut (tyArray (tyInt w32) 1024)) l₃₃ 0) ∷ ‵ (fdies (tyRef erased mut (tyArray (tyInt w32) 1024)) l₃₃) ∷ ‵ (froom (sliceTy (tyRef erased mut (tyInt w8))) l₃₂ 0) ∷ ‵ (fdies (sliceTy (tyRef erased mut (tyInt w8))) l₃₂) ∷ ‵ (froom (tyRef erased mut (tyInt w8)) l₃₁ 0) ∷ ‵ (fdies (tyRef erased mut (tyInt w8)) l₃₁) ∷ ‵ (froom (sliceTy (tyRef erased mut (tyInt w8))) l₃₀ 0) ∷ ‵ (fdies (sliceTy (tyRef erased mut (tyInt w8))) l₃₀) ∷ ‵ (froom (tyRef erased mut (tyInt w8)) l₂₉ 0) ∷ ‵ (fdies (tyRef erased mut (tyInt w8)) l₂₉) ∷ ‵ (froom (tyRef erased mut (tyArray (tyInt w64) 1000)) l₂₈ 0) ∷ ‵ (fdies (tyRef erased mut (tyArray (tyInt w64) 1000)) l₂₈) ∷ ‵ (froom (sliceTy (tyRef erased mut table-ty)) l₂₇ 0) ∷ ‵ (fdies (sliceTy (tyRef erased mut table-ty)) l₂₇) ∷ ‵ (froom (tyRef erased mut table-ty) l₂₆ 0) ∷ ‵ (fdies (tyRef erased mut table-ty) l₂₆) ∷ ‵ (froom (sliceTy (tyRef erased mut (tyInt w8))) l₂₅ 0) ∷ ‵ (fdies (sliceTy (tyRef erased mut (tyInt w8))) l₂₅) ∷ ‵ (froom (tyRef erased mut (tyInt w8)) l₂₄ 0) ∷ ‵ (fdies (tyRef erased mut (tyInt w8)) l₂₄) ∷ ‵ (froom (sliceTy (tyRef erased mut (tyInt w8))) l₂₃ 0) ∷ ‵ (fdies (sliceTy (tyRef erased mut (tyInt w8))) l₂₃) ∷ ‵ (froom (tyRef erased mut (tyInt w8)) l₂₂ 0) ∷ ‵ (fdies (tyRef erased mut (tyInt w8)) l₂₂) ∷ ‵ (froom (tyRef erased mut (tyArray (tyInt w32) 1024)) l₂₁ 0) ∷ ‵ (fdies (tyRef erased mut (tyArray (tyInt w32) 1024)) l₂₁) ∷ ‵ (froom (sliceTy (tyRef erased mut (tyInt w8))) l₂₀ 0) ∷ ‵ (fdies (sliceTy (tyRef erased mut (tyInt w8))) l₂₀) ∷ ‵ (froom (tyRef erased mut (tyInt w8)) l₁₉ 0) ∷ ‵ (fdies (tyRef erased mut (tyInt w8)) l₁₉) ∷ ‵ (froom (sliceTy (tyRef erased mut table-ty)) l₁₈ 0) ∷ ‵ (fdies (sliceTy (tyRef erased mut table-ty)) l₁₈) ∷ ‵ (froom (tyRef erased mut table-ty) l₁₇ 0) ∷ ‵ (fdies (tyRef erased mut table-ty) l₁₇) ∷ ‵ (froom line-ty l₁₆ 0) ∷ ‵ (fdies line-ty l₁₆) ∷ ‵ (froom save-report-ty l₁₅ 0) ∷ ‵ (fdies save-report-ty l₁₅) ∷ ‵ (froom machine-ty l₁₄ 0) ∷ ‵ (fdies machine-ty l₁₄) ∷ ‵ (froom report-ty l₁₃ 0) ∷ ‵ (fdies report-ty l₁₃) ∷ ‵ (froom machine-ty l₁₂ 0) ∷ ‵ (fdies machine-ty l₁₂) ∷ ‵ (froom created-ty l₁₁ 0) ∷ ‵ (fdies created-ty l₁₁) ∷ ‵ (fat fullShare (tyInt w64) l₁₀ 0 (vint w64 fuel)) ∷ ‵ (fdies (tyInt w64) l₁₀) ∷ ‵ (fat fullShare (sliceTy (tyRef (named 8) mut (tyInt w8))) l₉ 0 (sliceVal (b₈, o₈) n₈)) ∷ ‵ (fdies (sliceTy (tyRef (named 8) mut (tyInt w8))) l₉) ∷ ‵ (fat fullShare (sliceTy (tyRef (named 7) mut (tyInt w8))) l₈ 0 (sliceVal (b₇, o₇) n₇)) ∷ ‵ (fdies (sliceTy (tyRef (named 7) mut (tyInt w8))) l₈) ∷ ‵ (fat fullShare (sliceTy (tyRef (named 6) mut (tyInt w8))) l₇ 0 (sliceVal (b₆, o₆) n₆)) ∷ ‵ (fdies (sliceTy (tyRef (named 6) mut (tyInt w8))) l₇) ∷ ‵ (fat fullShare (sliceTy (tyRef (named 5) mut (tyInt w8))) l₆ 0 (sliceVal (b₅, o₅) n₅)) ∷ ‵ (fdies (sliceTy (tyRef (named 5) mut (tyInt w8))) l₆) ∷ ‵ (fat fullShare (tyRef (named 4) mut (tyArray (tyInt w32) 1024)) l₅ 0 (vptr b₄ o₄)) ∷ ‵ (fdies (tyRef (named 4) mut (tyArray (tyInt w32) 1024)) l₅) ∷ ‵ (fat fullShare (sliceTy (tyRef (named 3) mut (tyInt w8))) l₄ 0 (sliceVal (b₃, o₃) n₃)) ∷ ‵ (fdies (sliceTy (tyRef (named 3) mut (tyInt w8))) l₄) ∷ ‵ (fat fullShare (sliceTy (tyRef (named 2) mut (tyInt w8))) l₃ 0 (sliceVal (b₂, o₂) n₂)) ∷ ‵ (fdies (sliceTy (tyRef (named 2) mut (tyInt w8))) l₃) ∷ ‵ (fat fullShare (tyRef (named 1) mut (tyArray (tyInt w64) 1000)) l₂ 0 (vptr b₁ o₁)) ∷ ‵ (fdies (tyRef (named 1) mut (tyArray (tyInt w64) 1000)) l₂) ∷ ‵ (fat fullShare (sliceTy (tyRef (named 0) mut table-ty)) l₁ 0 (sliceVal (b₀, o₀) n₀)) ∷ ‵ (fdies (sliceTy (tyRef (named 0) mut table-ty)) l₁) ∷ ‵ (froom performed-ty l₀ 0) ∷ ‵ (fdies performed-ty l₀) ∷ [])) (runs C Λ En mir.t-1 (atRet En Post))
+      steps : Sq W (Has x₀ x₁ x₂ x₃ x₄ x₅ x₆ x₇ x₈ (‵ (froom (sliceTy (tyRef erased mut (tyInt w8))) l₅₀ 0) ∷ ‵ (fdies (sliceTy (tyRef erased mut (tyInt w8))) l₅₀) ∷ ‵ (froom (tyRef erased mut (tyInt w8)) l₄₉ 0) ∷ ‵ (fdies (tyRef erased mut (tyInt w8)) l₄₉) ∷ ‵ (froom (sliceTy (tyRef erased mut table-ty)) l₄₈ 0) ∷ ‵ (fdies (sliceTy (tyRef erased mut table-ty)) l₄₈) ∷ ‵ (froom (tyRef erased mut table-ty) l₄₇ 0) ∷ ‵ (fdies (tyRef erased mut table-ty) l₄₇) ∷ ‵ (froom (sliceTy (tyRef erased mut (tyInt w8))) l₄₆ 0) ∷ ‵ (fdies (sliceTy (tyRef erased mut (tyInt w8))) l₄₆) ∷ ‵ (froom (tyRef erased mut (tyInt w8)) l₄₅ 0) ∷ ‵ (fdies (tyRef erased mut (tyInt w8)) l₄₅) ∷ ‵ (froom (tyRef erased mut (tyArray (tyInt w32) 1024)) l₄₄ 0) ∷ ‵ (fdies (tyRef erased mut (tyArray (tyInt w32) 1024)) l₄₄) ∷ ‵ (froom (sliceTy (tyRef erased mut (tyInt w8))) l₄₃ 0) ∷ ‵ (fdies (sliceTy (tyRef erased mut (tyInt w8))) l₄₃) ∷ ‵ (froom (tyRef erased mut (tyInt w8)) l₄₂ 0) ∷ ‵ (fdies (tyRef erased mut (tyInt w8)) l₄₂) ∷ ‵ (froom (sliceTy (tyRef erased mut (tyInt w8))) l₄₁ 0) ∷ ‵ (fdies (sliceTy (tyRef erased mut (tyInt w8))) l₄₁) ∷ ‵ (froom (tyRef erased mut (tyInt w8)) l₄₀ 0) ∷ ‵ (fdies (tyRef erased mut (tyInt w8)) l₄₀) ∷ ‵ (froom (tyRef erased mut (tyArray (tyInt w64) 1000)) l₃₉ 0) ∷ ‵ (fdies (tyRef erased mut (tyArray (tyInt w64) 1000)) l₃₉) ∷ ‵ (froom (sliceTy (tyRef erased mut table-ty)) l₃₈ 0) ∷ ‵ (fdies (sliceTy (tyRef erased mut table-ty)) l₃₈) ∷ ‵ (froom (tyRef erased mut table-ty) l₃₇ 0) ∷ ‵ (fdies (tyRef erased mut table-ty) l₃₇) ∷ ‵ (froom verb-ty l₃₆ 0) ∷ ‵ (fdies verb-ty l₃₆) ∷ ‵ (froom (sliceTy (tyRef erased mut (tyInt w8))) l₃₅ 0) ∷ ‵ (fdies (sliceTy (tyRef erased mut (tyInt w8))) l₃₅) ∷ ‵ (froom (tyRef erased mut (tyInt w8)) l₃₄ 0) ∷ ‵ (fdies (tyRef erased mut (tyInt w8)) l₃₄) ∷ ‵ (froom (tyRef erased mut (tyArray (tyInt w32) 1024)) l₃₃ 0) ∷ ‵ (fdies (tyRef erased mut (tyArray (tyInt w32) 1024)) l₃₃) ∷ ‵ (froom (sliceTy (tyRef erased mut (tyInt w8))) l₃₂ 0) ∷ ‵ (fdies (sliceTy (tyRef erased mut (tyInt w8))) l₃₂) ∷ ‵ (froom (tyRef erased mut (tyInt w8)) l₃₁ 0) ∷ ‵ (fdies (tyRef erased mut (tyInt w8)) l₃₁) ∷ ‵ (froom (sliceTy (tyRef erased mut (tyInt w8))) l₃₀ 0) ∷ ‵ (fdies (sliceTy (tyRef erased mut (tyInt w8))) l₃₀) ∷ ‵ (froom (tyRef erased mut (tyInt w8)) l₂₉ 0) ∷ ‵ (fdies (tyRef erased mut (tyInt w8)) l₂₉) ∷ ‵ (froom (tyRef erased mut (tyArray (tyInt w64) 1000)) l₂₈ 0) ∷ ‵ (fdies (tyRef erased mut (tyArray (tyInt w64) 1000)) l₂₈) ∷ ‵ (froom (sliceTy (tyRef erased mut table-ty)) l₂₇ 0) ∷ ‵ (fdies (sliceTy (tyRef erased mut table-ty)) l₂₇) ∷ ‵ (froom (tyRef erased mut table-ty) l₂₆ 0) ∷ ‵ (fdies (tyRef erased mut table-ty) l₂₆) ∷ ‵ (froom (sliceTy (tyRef erased mut (tyInt w8))) l₂₅ 0) ∷ ‵ (fdies (sliceTy (tyRef erased mut (tyInt w8))) l₂₅) ∷ ‵ (froom (tyRef erased mut (tyInt w8)) l₂₄ 0) ∷ ‵ (fdies (tyRef erased mut (tyInt w8)) l₂₄) ∷ ‵ (froom (sliceTy (tyRef erased mut (tyInt w8))) l₂₃ 0) ∷ ‵ (fdies (sliceTy (tyRef erased mut (tyInt w8))) l₂₃) ∷ ‵ (froom (tyRef erased mut (tyInt w8)) l₂₂ 0) ∷ ‵ (fdies (tyRef erased mut (tyInt w8)) l₂₂) ∷ ‵ (froom (tyRef erased mut (tyArray (tyInt w32) 1024)) l₂₁ 0) ∷ ‵ (fdies (tyRef erased mut (tyArray (tyInt w32) 1024)) l₂₁) ∷ ‵ (froom (sliceTy (tyRef erased mut (tyInt w8))) l₂₀ 0) ∷ ‵ (fdies (sliceTy (tyRef erased mut (tyInt w8))) l₂₀) ∷ ‵ (froom (tyRef erased mut (tyInt w8)) l₁₉ 0) ∷ ‵ (fdies (tyRef erased mut (tyInt w8)) l₁₉) ∷ ‵ (froom (sliceTy (tyRef erased mut table-ty)) l₁₈ 0) ∷ ‵ (fdies (sliceTy (tyRef erased mut table-ty)) l₁₈) ∷ ‵ (froom (tyRef erased mut table-ty) l₁₇ 0) ∷ ‵ (fdies (tyRef erased mut table-ty) l₁₇) ∷ ‵ (froom line-ty l₁₆ 0) ∷ ‵ (fdies line-ty l₁₆) ∷ ‵ (froom save-report-ty l₁₅ 0) ∷ ‵ (fdies save-report-ty l₁₅) ∷ ‵ (froom machine-ty l₁₄ 0) ∷ ‵ (fdies machine-ty l₁₄) ∷ ‵ (froom report-ty l₁₃ 0) ∷ ‵ (fdies report-ty l₁₃) ∷ ‵ (froom machine-ty l₁₂ 0) ∷ ‵ (fdies machine-ty l₁₂) ∷ ‵ (froom created-ty l₁₁ 0) ∷ ‵ (fdies created-ty l₁₁) ∷ ‵ (fat fullShare (tyInt w64) l₁₀ 0 (vint w64 fuel)) ∷ ‵ (fdies (tyInt w64) l₁₀) ∷ ‵ (fat fullShare (sliceTy (tyRef (named 8) mut (tyInt w8))) l₉ 0 (sliceVal (b₈, o₈) n₈)) ∷ ‵ (fdies (sliceTy (tyRef (named 8) mut (tyInt w8))) l₉) ∷ ‵ (fat fullShare (sliceTy (tyRef (named 7) mut (tyInt w8))) l₈ 0 (sliceVal (b₇, o₇) n₇)) ∷ ‵ (fdies (sliceTy (tyRef (named 7) mut (tyInt w8))) l₈) ∷ ‵ (fat fullShare (sliceTy (tyRef (named 6) mut (tyInt w8))) l₇ 0 (sliceVal (b₆, o₆) n₆)) ∷ ‵ (fdies (sliceTy (tyRef (named 6) mut (tyInt w8))) l₇) ∷ ‵ (fat fullShare (sliceTy (tyRef (named 5) mut (tyInt w8))) l₆ 0 (sliceVal (b₅, o₅) n₅)) ∷ ‵ (fdies (sliceTy (tyRef (named 5) mut (tyInt w8))) l₆) ∷ ‵ (fat fullShare (tyRef (named 4) mut (tyArray (tyInt w32) 1024)) l₅ 0 (vptr b₄ o₄)) ∷ ‵ (fdies (tyRef (named 4) mut (tyArray (tyInt w32) 1024)) l₅) ∷ ‵ (fat fullShare (sliceTy (tyRef (named 3) mut (tyInt w8))) l₄ 0 (sliceVal (b₃, o₃) n₃)) ∷ ‵ (fdies (sliceTy (tyRef (named 3) mut (tyInt w8))) l₄) ∷ ‵ (fat fullShare (sliceTy (tyRef (named 2) mut (tyInt w8))) l₃ 0 (sliceVal (b₂, o₂) n₂)) ∷ ‵ (fdies (sliceTy (tyRef (named 2) mut (tyInt w8))) l₃) ∷ ‵ (fat fullShare (tyRef (named 1) mut (tyArray (tyInt w64) 1000)) l₂ 0 (vptr b₁ o₁)) ∷ ‵ (fdies (tyRef (named 1) mut (tyArray (tyInt w64) 1000)) l₂) ∷ ‵ (fat fullShare (sliceTy (tyRef (named 0) mut table-ty)) l₁ 0 (sliceVal (b₀, o₀) n₀)) ∷ ‵ (fdies (sliceTy (tyRef (named 0) mut table-ty)) l₁) ∷ ‵ (froom performed-ty l₀ 0) ∷ ‵ (fdies performed-ty l₀) ∷ [])) (runs C Λ En mir.t-1 (atRet En Post))
       steps =
           fsplit ! $ move ! (1 ∷ []) $ fsplit ! $ move ! (1 ∷ []) $ fsplit ! $ move ! (1 ∷ []) $ fsplit ! $ move ! (1 ∷ []) $ fsplit ! $ move ! (1 ∷ []) $ fsplit ! $ move ! (1 ∷ []) $ fsplit ! $ move ! (1 ∷ []) $ fsplit ! $ move ! (1 ∷ []) $ fsplit ! $ move ! (1 ∷ []) $ drop ! $ move ! (9 ∷ []) $ fsplit ! $ move ! (1 ∷ []) $ fsplit ! $ move ! (1 ∷ []) $ fsplit ! $ move ! (1 ∷ []) $ fsplit ! $ move ! (1 ∷ []) $ fsplit ! $ move ! (1 ∷ []) $ fsplit ! $ move ! (1 ∷ []) $ fsplit ! $ move ! (1 ∷ []) $ fsplit ! $ move ! (1 ∷ []) $ fsplit ! $ move ! (1 ∷ []) $ drop ! $ nothing ! $ move ! (1 ∷ 0 ∷ []) $ fjoin ! $ move ! (3 ∷ 0 ∷ []) $ fjoin ! $ move ! (5 ∷ 0 ∷ []) $ fjoin ! $ move ! (5 ∷ 0 ∷ []) $ fjoin ! $ nothing ! $ move ! (7 ∷ 0 ∷ []) $ fjoin ! $ move ! (9 ∷ 0 ∷ []) $ fjoin ! $ move ! (11 ∷ 0 ∷ []) $ fjoin ! $ move ! (11 ∷ 0 ∷ []) $ fjoin ! $ nothing ! $ move ! (3 ∷ 0 ∷ []) $ fjoin ! $ move ! (3 ∷ 0 ∷ []) $ fjoin ! $ move ! (3 ∷ 0 ∷ []) $ fjoin ! $ move ! (3 ∷ 0 ∷ []) $ fjoin ! $ move ! (3 ∷ 0 ∷ []) $ fjoin ! $ nothing ! $ move ! (4 ∷ 0 ∷ []) $ fjoin ! $ move ! (4 ∷ 0 ∷ []) $ fjoin ! $ move ! (4 ∷ 0 ∷ []) $ fjoin ! $ move ! (4 ∷ 0 ∷ []) $ fjoin ! $ move ! (4 ∷ 0 ∷ []) $ fjoin ! $
-          assigns ! (addr ! (from ! (fld ! refl (hop ! (look-in ! 100 (sub ! 0 refl (whole !))) (stop !))))) (from ! (stop !)) (init ! 68 refl (tt, tt)) $
-          assigns ! (agg ! (and-then ! (load ! (from ! (stop !)) (look ! 68 refl)) (and-then ! (load ! (from ! (fld ! refl (stop !))) (look-in ! 100 (sub ! 1 refl (whole !)))) (no-more !)))) (from ! (stop !)) (init ! 66 refl (tt, (tt, (record { fits = g₀ .0 }, tt)))) $
-          assigns ! (addr ! (from ! (fld ! refl (hop ! (look-in ! 94 (sub ! 0 refl (whole !))) (stop !))))) (from ! (stop !)) (init ! 64 refl (tt, tt)) $
-          assigns ! (agg ! (and-then ! (load ! (from ! (stop !)) (look ! 64 refl)) (and-then ! (load ! (from ! (fld ! refl (stop !))) (look-in ! 94 (sub ! 1 refl (whole !)))) (no-more !)))) (from ! (stop !)) (init ! 62 refl (tt, (tt, (record { fits = g₃ .0 }, tt)))) $
-          assigns ! (addr ! (from ! (hop ! (look ! 92 refl) (stop !)))) (from ! (stop !)) (init ! 60 refl (tt, tt)) $
-          assigns ! (addr ! (from ! (fld ! refl (hop ! (look-in ! 88 (sub ! 0 refl (whole !))) (stop !))))) (from ! (stop !)) (init ! 58 refl (tt, tt)) $
-          assigns ! (agg ! (and-then ! (load ! (from ! (stop !)) (look ! 58 refl)) (and-then ! (load ! (from ! (fld ! refl (stop !))) (look-in ! 88 (sub ! 1 refl (whole !)))) (no-more !)))) (from ! (stop !)) (init ! 56 refl (tt, (tt, (record { fits = g₆ .0 }, tt)))) $
-          assigns ! (addr ! (from ! (fld ! refl (hop ! (look-in ! 86 (sub ! 0 refl (whole !))) (stop !))))) (from ! (stop !)) (init ! 54 refl (tt, tt)) $
-          assigns ! (agg ! (and-then ! (load ! (from ! (stop !)) (look ! 54 refl)) (and-then ! (load ! (from ! (fld ! refl (stop !))) (look-in ! 86 (sub ! 1 refl (whole !)))) (no-more !)))) (from ! (stop !)) (init ! 52 refl (tt, (tt, (record { fits = g₇ .0 }, tt)))) $
+          assigns ! (addr ! (from ! (fld ! refl (hop ! (look-in ! 102 (sub ! 0 refl (whole !))) (stop !))))) (from ! (stop !)) (init ! 70 refl (tt, tt)) $
+          assigns ! (agg ! (and-then ! (load ! (from ! (stop !)) (look ! 70 refl)) (and-then ! (load ! (from ! (fld ! refl (stop !))) (look-in ! 102 (sub ! 1 refl (whole !)))) (no-more !)))) (from ! (stop !)) (init ! 68 refl (tt, (tt, (record { fits = g₀ .0 }, tt)))) $
+          assigns ! (addr ! (from ! (fld ! refl (hop ! (look-in ! 96 (sub ! 0 refl (whole !))) (stop !))))) (from ! (stop !)) (init ! 66 refl (tt, tt)) $
+          assigns ! (agg ! (and-then ! (load ! (from ! (stop !)) (look ! 66 refl)) (and-then ! (load ! (from ! (fld ! refl (stop !))) (look-in ! 96 (sub ! 1 refl (whole !)))) (no-more !)))) (from ! (stop !)) (init ! 64 refl (tt, (tt, (record { fits = g₃ .0 }, tt)))) $
+          assigns ! (addr ! (from ! (hop ! (look ! 94 refl) (stop !)))) (from ! (stop !)) (init ! 62 refl (tt, tt)) $
+          assigns ! (addr ! (from ! (fld ! refl (hop ! (look-in ! 90 (sub ! 0 refl (whole !))) (stop !))))) (from ! (stop !)) (init ! 60 refl (tt, tt)) $
+          assigns ! (agg ! (and-then ! (load ! (from ! (stop !)) (look ! 60 refl)) (and-then ! (load ! (from ! (fld ! refl (stop !))) (look-in ! 90 (sub ! 1 refl (whole !)))) (no-more !)))) (from ! (stop !)) (init ! 58 refl (tt, (tt, (record { fits = g₆ .0 }, tt)))) $
+          assigns ! (addr ! (from ! (fld ! refl (hop ! (look-in ! 88 (sub ! 0 refl (whole !))) (stop !))))) (from ! (stop !)) (init ! 56 refl (tt, tt)) $
+          assigns ! (agg ! (and-then ! (load ! (from ! (stop !)) (look ! 56 refl)) (and-then ! (load ! (from ! (fld ! refl (stop !))) (look-in ! 88 (sub ! 1 refl (whole !)))) (no-more !)))) (from ! (stop !)) (init ! 54 refl (tt, (tt, (record { fits = g₇ .0 }, tt)))) $
           lent 5 For-creates (tt, (tt, (tt, (tt, (tt, tt))))) ([]) created.the-row 𝓤 (creates.clauses 𝓤 H A at-mem run) (x₀, (x₃, (x₄, (x₆, (x₇, tt))))) tt tt ! (fmOf 𝓤 H (W .laws) 𝓣) known-creates
           (g₀, (g₃, (tt, (g₆, (g₇, tt))))) (refl, (refl, (tt, (refl, (refl, tt))))) tt (λ αs δs. tt) (λ αs δs. id⊢ 𝓤 (emp 𝓤))
-          (λ αs δs. (and-then ! (load ! (from ! (stop !)) (look ! 66 refl)) (and-then ! (load ! (from ! (stop !)) (look ! 62 refl)) (and-then ! (load ! (from ! (stop !)) (look ! 60 refl)) (and-then ! (load ! (from ! (stop !)) (look ! 56 refl)) (and-then ! (load ! (from ! (stop !)) (look ! 52 refl)) (no-more !)))))))
+          (λ αs δs. (and-then ! (load ! (from ! (stop !)) (look ! 68 refl)) (and-then ! (load ! (from ! (stop !)) (look ! 64 refl)) (and-then ! (load ! (from ! (stop !)) (look ! 62 refl)) (and-then ! (load ! (from ! (stop !)) (look ! 58 refl)) (and-then ! (load ! (from ! (stop !)) (look ! 54 refl)) (no-more !)))))))
           (λ αs δs w₁ r₁ z₁ f₁. heard ! (made r₁ (z₁ .0) (z₁ .1 .0) (z₁ .1 .1 .0) (z₁ .1 .1 .1 .0) (z₁ .1 .1 .1 .1 .0) ≡ create-of x₀ x₃ x₄ x₆ x₇) (λ e₁. landed-by ! created.the-row created-vals created-tells r₁ w₁ (λ is₁.
-          land ! (from ! (stop !)) (init ! 80 refl (created-typed 𝓤 H A W r₁ is₁)) $
+          land ! (from ! (stop !)) (init ! 82 refl (created-typed 𝓤 H A W r₁ is₁)) $
           nothing ! $ nothing ! $
           lent 0 [] tt (created.the-row ∷ []) machine.the-row 𝓤 (begins.clauses 𝓤 H A at-mem run) tt (r₁, tt) (created-val r₁ ∷ [], tt) ! (fmOf 𝓤 H (W .laws) 𝓣) known-begins
           tt tt (created-makes 𝓤 H A r₁ _ is₁, tt) (λ αs δs. tt) (λ αs δs. id⊢ 𝓤 (emp 𝓤))
-          (λ αs δs. (and-then ! (load ! (from ! (stop !)) (look ! 82 refl)) (no-more !)))
+          (λ αs δs. (and-then ! (load ! (from ! (stop !)) (look ! 84 refl)) (no-more !)))
           (λ αs δs w₂ r₂ z₂ f₂. heard ! (r₂ ≡ machine-of r₁) (λ e₂. landed-by ! machine.the-row machine-vals machine-tells r₂ w₂ (λ is₂.
-          drop ! $ drop ! $ land ! (from ! (stop !)) (init ! 78 refl (machine-typed 𝓤 H A W r₂ is₂)) $
+          drop ! $ drop ! $ land ! (from ! (stop !)) (init ! 80 refl (machine-typed 𝓤 H A W r₂ is₂)) $
           fsplit ! $ move ! (1 ∷ []) $ fsplit ! $ move ! (1 ∷ []) $ fsplit ! $ move ! (1 ∷ []) $ fsplit ! $ move ! (1 ∷ []) $ fsplit ! $ move ! (1 ∷ []) $ drop ! $ move ! (5 ∷ []) $ fsplit ! $ move ! (1 ∷ []) $ fsplit ! $ move ! (1 ∷ []) $ fsplit ! $ move ! (1 ∷ []) $ fsplit ! $ move ! (1 ∷ []) $ fsplit ! $ move ! (1 ∷ []) $ drop ! $ move ! (10 ∷ []) $ fsplit ! $ move ! (1 ∷ []) $ fsplit ! $ move ! (1 ∷ []) $ fsplit ! $ move ! (1 ∷ []) $ fsplit ! $ move ! (1 ∷ []) $ drop ! $ move ! (14 ∷ []) $ fsplit ! $ move ! (1 ∷ []) $ fsplit ! $ move ! (1 ∷ []) $ fsplit ! $ move ! (1 ∷ []) $ fsplit ! $ move ! (1 ∷ []) $ drop ! $ nothing ! $ move ! (1 ∷ 0 ∷ []) $ fjoin ! $ move ! (8 ∷ 0 ∷ []) $ fjoin ! $ move ! (8 ∷ 0 ∷ []) $ fjoin ! $ nothing ! $ move ! (5 ∷ 0 ∷ []) $ fjoin ! $ move ! (11 ∷ 0 ∷ []) $ fjoin ! $ move ! (11 ∷ 0 ∷ []) $ fjoin ! $ nothing ! $ move ! (3 ∷ 0 ∷ []) $ fjoin ! $ move ! (8 ∷ 0 ∷ []) $ fjoin ! $ move ! (8 ∷ 0 ∷ []) $ fjoin ! $ move ! (3 ∷ 0 ∷ []) $ fjoin ! $ move ! (3 ∷ 0 ∷ []) $ fjoin ! $ move ! (6 ∷ 0 ∷ []) $ fjoin ! $ nothing ! $ move ! (4 ∷ 0 ∷ []) $ fjoin ! $ move ! (6 ∷ 0 ∷ []) $ fjoin ! $ move ! (6 ∷ 0 ∷ []) $ fjoin ! $ move ! (4 ∷ 0 ∷ []) $ fjoin ! $ move ! (4 ∷ 0 ∷ []) $ fjoin ! $ move ! (4 ∷ 0 ∷ []) $ fjoin ! $
-          assigns ! (addr ! (from ! (fld ! refl (hop ! (look-in ! 100 (sub ! 0 refl (whole !))) (stop !))))) (from ! (stop !)) (init ! 50 refl (tt, tt)) $
-          assigns ! (agg ! (and-then ! (load ! (from ! (stop !)) (look ! 50 refl)) (and-then ! (load ! (from ! (fld ! refl (stop !))) (look-in ! 100 (sub ! 1 refl (whole !)))) (no-more !)))) (from ! (stop !)) (init ! 48 refl (tt, (tt, (record { fits = g₀ .0 }, tt)))) $
-          assigns ! (addr ! (from ! (hop ! (look ! 98 refl) (stop !)))) (from ! (stop !)) (init ! 46 refl (tt, tt)) $
-          assigns ! (addr ! (from ! (fld ! refl (hop ! (look-in ! 96 (sub ! 0 refl (whole !))) (stop !))))) (from ! (stop !)) (init ! 44 refl (tt, tt)) $
-          assigns ! (agg ! (and-then ! (load ! (from ! (stop !)) (look ! 44 refl)) (and-then ! (load ! (from ! (fld ! refl (stop !))) (look-in ! 96 (sub ! 1 refl (whole !)))) (no-more !)))) (from ! (stop !)) (init ! 42 refl (tt, (tt, (record { fits = g₂ .0 }, tt)))) $
-          assigns ! (addr ! (from ! (fld ! refl (hop ! (look-in ! 94 (sub ! 0 refl (whole !))) (stop !))))) (from ! (stop !)) (init ! 40 refl (tt, tt)) $
-          assigns ! (agg ! (and-then ! (load ! (from ! (stop !)) (look ! 40 refl)) (and-then ! (load ! (from ! (fld ! refl (stop !))) (look-in ! 94 (sub ! 1 refl (whole !)))) (no-more !)))) (from ! (stop !)) (init ! 38 refl (tt, (tt, (record { fits = g₃ .0 }, tt)))) $
-          assigns ! (addr ! (from ! (hop ! (look ! 92 refl) (stop !)))) (from ! (stop !)) (init ! 36 refl (tt, tt)) $
-          assigns ! (addr ! (from ! (fld ! refl (hop ! (look-in ! 90 (sub ! 0 refl (whole !))) (stop !))))) (from ! (stop !)) (init ! 34 refl (tt, tt)) $
-          assigns ! (agg ! (and-then ! (load ! (from ! (stop !)) (look ! 34 refl)) (and-then ! (load ! (from ! (fld ! refl (stop !))) (look-in ! 90 (sub ! 1 refl (whole !)))) (no-more !)))) (from ! (stop !)) (init ! 32 refl (tt, (tt, (record { fits = g₅ .0 }, tt)))) $
-          lent 6 For-starts (tt, (tt, (tt, (tt, (tt, (tt, tt)))))) (machine.the-row ∷ u64 ∷ []) report.the-row 𝓤 (starts.clauses 𝓤 H A at-mem run) (z₁ .0, (x₁, (x₂, (z₁ .1 .0, (z₁ .1 .1 .0, (x₅, tt)))))) (r₂, (fuel, tt)) (machine-val r₂ ∷ [], (vint w64 fuel ∷ [], tt)) ! (fmOf 𝓤 H (W .laws) 𝓣) known-starts
-          (g₀, (tt, (g₂, (g₃, (tt, (g₅, tt)))))) (f₁ .0, (tt, (refl, (f₁ .1 .0, (tt, (refl, tt)))))) (machine-makes 𝓤 H A r₂ _ is₂, (uint-makes 𝓤 H A W w64 fuel _ (refl, fuel-is), tt)) (λ αs δs. tt) (λ αs δs. id⊢ 𝓤 (emp 𝓤))
-          (λ αs δs. (and-then ! (load ! (from ! (stop !)) (look ! 48 refl)) (and-then ! (load ! (from ! (stop !)) (look ! 46 refl)) (and-then ! (load ! (from ! (stop !)) (look ! 42 refl)) (and-then ! (load ! (from ! (stop !)) (look ! 38 refl)) (and-then ! (load ! (from ! (stop !)) (look ! 36 refl)) (and-then ! (load ! (from ! (stop !)) (look ! 32 refl)) (and-then ! (load ! (from ! (stop !)) (look ! 78 refl)) (and-then ! (load ! (from ! (stop !)) (look ! 82 refl)) (no-more !))))))))))
+          assigns ! (addr ! (from ! (fld ! refl (hop ! (look-in ! 102 (sub ! 0 refl (whole !))) (stop !))))) (from ! (stop !)) (init ! 52 refl (tt, tt)) $
+          assigns ! (agg ! (and-then ! (load ! (from ! (stop !)) (look ! 52 refl)) (and-then ! (load ! (from ! (fld ! refl (stop !))) (look-in ! 102 (sub ! 1 refl (whole !)))) (no-more !)))) (from ! (stop !)) (init ! 50 refl (tt, (tt, (record { fits = g₀ .0 }, tt)))) $
+          assigns ! (addr ! (from ! (hop ! (look ! 100 refl) (stop !)))) (from ! (stop !)) (init ! 48 refl (tt, tt)) $
+          assigns ! (addr ! (from ! (fld ! refl (hop ! (look-in ! 98 (sub ! 0 refl (whole !))) (stop !))))) (from ! (stop !)) (init ! 46 refl (tt, tt)) $
+          assigns ! (agg ! (and-then ! (load ! (from ! (stop !)) (look ! 46 refl)) (and-then ! (load ! (from ! (fld ! refl (stop !))) (look-in ! 98 (sub ! 1 refl (whole !)))) (no-more !)))) (from ! (stop !)) (init ! 44 refl (tt, (tt, (record { fits = g₂ .0 }, tt)))) $
+          assigns ! (addr ! (from ! (fld ! refl (hop ! (look-in ! 96 (sub ! 0 refl (whole !))) (stop !))))) (from ! (stop !)) (init ! 42 refl (tt, tt)) $
+          assigns ! (agg ! (and-then ! (load ! (from ! (stop !)) (look ! 42 refl)) (and-then ! (load ! (from ! (fld ! refl (stop !))) (look-in ! 96 (sub ! 1 refl (whole !)))) (no-more !)))) (from ! (stop !)) (init ! 40 refl (tt, (tt, (record { fits = g₃ .0 }, tt)))) $
+          assigns ! (addr ! (from ! (hop ! (look ! 94 refl) (stop !)))) (from ! (stop !)) (init ! 38 refl (tt, tt)) $
+          assigns ! (addr ! (from ! (fld ! refl (hop ! (look-in ! 92 (sub ! 0 refl (whole !))) (stop !))))) (from ! (stop !)) (init ! 36 refl (tt, tt)) $
+          assigns ! (agg ! (and-then ! (load ! (from ! (stop !)) (look ! 36 refl)) (and-then ! (load ! (from ! (fld ! refl (stop !))) (look-in ! 92 (sub ! 1 refl (whole !)))) (no-more !)))) (from ! (stop !)) (init ! 34 refl (tt, (tt, (record { fits = g₅ .0 }, tt)))) $
+          assigns ! (agg ! (and-then ! (lit ! tt) (no-more !))) (from ! (stop !)) (init ! 32 refl (start-typed 𝓤 H A W)) $
+          lent 6 For-starts (tt, (tt, (tt, (tt, (tt, (tt, tt)))))) (machine.the-row ∷ verb.the-row ∷ u64 ∷ []) report.the-row 𝓤 (starts.clauses 𝓤 H A at-mem run) (z₁ .0, (x₁, (x₂, (z₁ .1 .0, (z₁ .1 .1 .0, (x₅, tt)))))) (r₂, (Start, (fuel, tt))) (machine-val r₂ ∷ [], (start-val ∷ [], (vint w64 fuel ∷ [], tt))) ! (fmOf 𝓤 H (W .laws) 𝓣) known-starts
+          (g₀, (tt, (g₂, (g₃, (tt, (g₅, tt)))))) (f₁ .0, (tt, (refl, (f₁ .1 .0, (tt, (refl, tt)))))) (machine-makes 𝓤 H A r₂ _ is₂, (verb-makes 𝓤 H A Start _ start-is, (uint-makes 𝓤 H A W w64 fuel _ (refl, fuel-is), tt))) (λ αs δs. tt) (λ αs δs. id⊢ 𝓤 (emp 𝓤))
+          (λ αs δs. (and-then ! (load ! (from ! (stop !)) (look ! 50 refl)) (and-then ! (load ! (from ! (stop !)) (look ! 48 refl)) (and-then ! (load ! (from ! (stop !)) (look ! 44 refl)) (and-then ! (load ! (from ! (stop !)) (look ! 40 refl)) (and-then ! (load ! (from ! (stop !)) (look ! 38 refl)) (and-then ! (load ! (from ! (stop !)) (look ! 34 refl)) (and-then ! (load ! (from ! (stop !)) (look ! 80 refl)) (and-then ! (load ! (from ! (stop !)) (look ! 32 refl)) (and-then ! (load ! (from ! (stop !)) (look ! 84 refl)) (no-more !)))))))))))
           (λ αs δs w₃ r₃ z₃ f₃. heard ! (reported r₃ (z₃ .0) (z₃ .1 .0) (z₃ .1 .1 .0) (z₃ .1 .1 .1 .0) (z₃ .1 .1 .1 .1 .0) (z₃ .1 .1 .1 .1 .1 .0) ≡ start-of fuel (world r₂ (z₁ .0) x₁ x₂ (z₁ .1 .0) (z₁ .1 .1 .0) x₅)) (λ e₃. landed-by ! report.the-row report-vals report-tells r₃ w₃ (λ is₃.
-          land ! (from ! (stop !)) (init ! 76 refl (report-typed 𝓤 H A W r₃ is₃)) $
+          land ! (from ! (stop !)) (init ! 78 refl (report-typed 𝓤 H A W r₃ is₃)) $
           nothing ! $ nothing ! $
           lent 0 [] tt (report.the-row ∷ []) machine.the-row 𝓤 (chooses.clauses 𝓤 H A at-mem run) tt (r₃, tt) (report-val r₃ ∷ [], tt) ! (fmOf 𝓤 H (W .laws) 𝓣) known-chooses
           tt tt (report-makes 𝓤 H A r₃ _ is₃, tt) (λ αs δs. tt) (λ αs δs. id⊢ 𝓤 (emp 𝓤))
-          (λ αs δs. (and-then ! (load ! (from ! (stop !)) (look ! 78 refl)) (no-more !)))
+          (λ αs δs. (and-then ! (load ! (from ! (stop !)) (look ! 80 refl)) (no-more !)))
           (λ αs δs w₄ r₄ z₄ f₄. heard ! (r₄ ≡ to-save r₃) (λ e₄. landed-by ! machine.the-row machine-vals machine-tells r₄ w₄ (λ is₄.
-          drop ! $ drop ! $ land ! (from ! (stop !)) (init ! 74 refl (machine-typed 𝓤 H A W r₄ is₄)) $
-          assigns ! (addr ! (from ! (fld ! refl (hop ! (look-in ! 100 (sub ! 0 refl (whole !))) (stop !))))) (from ! (stop !)) (init ! 30 refl (tt, tt)) $
-          assigns ! (agg ! (and-then ! (load ! (from ! (stop !)) (look ! 30 refl)) (and-then ! (load ! (from ! (fld ! refl (stop !))) (look-in ! 100 (sub ! 1 refl (whole !)))) (no-more !)))) (from ! (stop !)) (init ! 28 refl (tt, (tt, (record { fits = g₀ .0 }, tt)))) $
-          assigns ! (addr ! (from ! (hop ! (look ! 98 refl) (stop !)))) (from ! (stop !)) (init ! 26 refl (tt, tt)) $
-          assigns ! (addr ! (from ! (fld ! refl (hop ! (look-in ! 96 (sub ! 0 refl (whole !))) (stop !))))) (from ! (stop !)) (init ! 24 refl (tt, tt)) $
-          assigns ! (agg ! (and-then ! (load ! (from ! (stop !)) (look ! 24 refl)) (and-then ! (load ! (from ! (fld ! refl (stop !))) (look-in ! 96 (sub ! 1 refl (whole !)))) (no-more !)))) (from ! (stop !)) (init ! 22 refl (tt, (tt, (record { fits = g₂ .0 }, tt)))) $
-          assigns ! (addr ! (from ! (fld ! refl (hop ! (look-in ! 94 (sub ! 0 refl (whole !))) (stop !))))) (from ! (stop !)) (init ! 20 refl (tt, tt)) $
-          assigns ! (agg ! (and-then ! (load ! (from ! (stop !)) (look ! 20 refl)) (and-then ! (load ! (from ! (fld ! refl (stop !))) (look-in ! 94 (sub ! 1 refl (whole !)))) (no-more !)))) (from ! (stop !)) (init ! 18 refl (tt, (tt, (record { fits = g₃ .0 }, tt)))) $
-          assigns ! (addr ! (from ! (hop ! (look ! 92 refl) (stop !)))) (from ! (stop !)) (init ! 16 refl (tt, tt)) $
-          assigns ! (addr ! (from ! (fld ! refl (hop ! (look-in ! 90 (sub ! 0 refl (whole !))) (stop !))))) (from ! (stop !)) (init ! 14 refl (tt, tt)) $
-          assigns ! (agg ! (and-then ! (load ! (from ! (stop !)) (look ! 14 refl)) (and-then ! (load ! (from ! (fld ! refl (stop !))) (look-in ! 90 (sub ! 1 refl (whole !)))) (no-more !)))) (from ! (stop !)) (init ! 12 refl (tt, (tt, (record { fits = g₅ .0 }, tt)))) $
+          drop ! $ drop ! $ land ! (from ! (stop !)) (init ! 76 refl (machine-typed 𝓤 H A W r₄ is₄)) $
+          assigns ! (addr ! (from ! (fld ! refl (hop ! (look-in ! 102 (sub ! 0 refl (whole !))) (stop !))))) (from ! (stop !)) (init ! 30 refl (tt, tt)) $
+          assigns ! (agg ! (and-then ! (load ! (from ! (stop !)) (look ! 30 refl)) (and-then ! (load ! (from ! (fld ! refl (stop !))) (look-in ! 102 (sub ! 1 refl (whole !)))) (no-more !)))) (from ! (stop !)) (init ! 28 refl (tt, (tt, (record { fits = g₀ .0 }, tt)))) $
+          assigns ! (addr ! (from ! (hop ! (look ! 100 refl) (stop !)))) (from ! (stop !)) (init ! 26 refl (tt, tt)) $
+          assigns ! (addr ! (from ! (fld ! refl (hop ! (look-in ! 98 (sub ! 0 refl (whole !))) (stop !))))) (from ! (stop !)) (init ! 24 refl (tt, tt)) $
+          assigns ! (agg ! (and-then ! (load ! (from ! (stop !)) (look ! 24 refl)) (and-then ! (load ! (from ! (fld ! refl (stop !))) (look-in ! 98 (sub ! 1 refl (whole !)))) (no-more !)))) (from ! (stop !)) (init ! 22 refl (tt, (tt, (record { fits = g₂ .0 }, tt)))) $
+          assigns ! (addr ! (from ! (fld ! refl (hop ! (look-in ! 96 (sub ! 0 refl (whole !))) (stop !))))) (from ! (stop !)) (init ! 20 refl (tt, tt)) $
+          assigns ! (agg ! (and-then ! (load ! (from ! (stop !)) (look ! 20 refl)) (and-then ! (load ! (from ! (fld ! refl (stop !))) (look-in ! 96 (sub ! 1 refl (whole !)))) (no-more !)))) (from ! (stop !)) (init ! 18 refl (tt, (tt, (record { fits = g₃ .0 }, tt)))) $
+          assigns ! (addr ! (from ! (hop ! (look ! 94 refl) (stop !)))) (from ! (stop !)) (init ! 16 refl (tt, tt)) $
+          assigns ! (addr ! (from ! (fld ! refl (hop ! (look-in ! 92 (sub ! 0 refl (whole !))) (stop !))))) (from ! (stop !)) (init ! 14 refl (tt, tt)) $
+          assigns ! (agg ! (and-then ! (load ! (from ! (stop !)) (look ! 14 refl)) (and-then ! (load ! (from ! (fld ! refl (stop !))) (look-in ! 92 (sub ! 1 refl (whole !)))) (no-more !)))) (from ! (stop !)) (init ! 12 refl (tt, (tt, (record { fits = g₅ .0 }, tt)))) $
           lent 6 For-starts (tt, (tt, (tt, (tt, (tt, (tt, tt)))))) (machine.the-row ∷ []) save-report.the-row 𝓤 (saves.clauses 𝓤 H A at-mem run) (z₃ .0, (z₃ .1 .0, (z₃ .1 .1 .0, (z₃ .1 .1 .1 .0, (z₃ .1 .1 .1 .1 .0, (z₃ .1 .1 .1 .1 .1 .0, tt)))))) (r₄, tt) (machine-val r₄ ∷ [], tt) ! (fmOf 𝓤 H (W .laws) 𝓣) known-saves
           (g₀, (tt, (g₂, (g₃, (tt, (g₅, tt)))))) (f₃ .0, (tt, (f₃ .1 .1 .0, (f₃ .1 .1 .1 .0, (tt, (f₃ .1 .1 .1 .1 .1 .0, tt)))))) (machine-makes 𝓤 H A r₄ _ is₄, tt) (λ αs δs. tt) (λ αs δs. id⊢ 𝓤 (emp 𝓤))
-          (λ αs δs. (and-then ! (load ! (from ! (stop !)) (look ! 28 refl)) (and-then ! (load ! (from ! (stop !)) (look ! 26 refl)) (and-then ! (load ! (from ! (stop !)) (look ! 22 refl)) (and-then ! (load ! (from ! (stop !)) (look ! 18 refl)) (and-then ! (load ! (from ! (stop !)) (look ! 16 refl)) (and-then ! (load ! (from ! (stop !)) (look ! 12 refl)) (and-then ! (load ! (from ! (stop !)) (look ! 74 refl)) (no-more !)))))))))
+          (λ αs δs. (and-then ! (load ! (from ! (stop !)) (look ! 28 refl)) (and-then ! (load ! (from ! (stop !)) (look ! 26 refl)) (and-then ! (load ! (from ! (stop !)) (look ! 22 refl)) (and-then ! (load ! (from ! (stop !)) (look ! 18 refl)) (and-then ! (load ! (from ! (stop !)) (look ! 16 refl)) (and-then ! (load ! (from ! (stop !)) (look ! 12 refl)) (and-then ! (load ! (from ! (stop !)) (look ! 76 refl)) (no-more !)))))))))
           (λ αs δs w₅ r₅ z₅ f₅. heard ! (saved-to r₅ (z₅ .0) (z₅ .1 .0) (z₅ .1 .1 .0) (z₅ .1 .1 .1 .0) (z₅ .1 .1 .1 .1 .0) (z₅ .1 .1 .1 .1 .1 .0) ≡ host-save (world r₄ (z₃ .0) (z₃ .1 .0) (z₃ .1 .1 .0) (z₃ .1 .1 .1 .0) (z₃ .1 .1 .1 .1 .0) (z₃ .1 .1 .1 .1 .1 .0))) (λ e₅. landed-by ! save-report.the-row save-report-vals save-report-tells r₅ w₅ (λ is₅.
-          land ! (from ! (stop !)) (init ! 72 refl (save-report-typed 𝓤 H A W r₅ is₅)) $
+          land ! (from ! (stop !)) (init ! 74 refl (save-report-typed 𝓤 H A W r₅ is₅)) $
           fsplit ! $ move ! (1 ∷ []) $ fsplit ! $ move ! (1 ∷ []) $ fsplit ! $ move ! (1 ∷ []) $ fsplit ! $ move ! (1 ∷ []) $ fsplit ! $ move ! (1 ∷ []) $ fsplit ! $ move ! (1 ∷ []) $ drop ! $ move ! (6 ∷ []) $ fsplit ! $ move ! (1 ∷ []) $ fsplit ! $ move ! (1 ∷ []) $ fsplit ! $ move ! (1 ∷ []) $ fsplit ! $ move ! (1 ∷ []) $ fsplit ! $ move ! (1 ∷ []) $ fsplit ! $ move ! (1 ∷ []) $ drop ! $ move ! (12 ∷ []) $ fsplit ! $ move ! (1 ∷ []) $ fsplit ! $ move ! (1 ∷ []) $ fsplit ! $ move ! (1 ∷ []) $ drop ! $ move ! (15 ∷ []) $ fsplit ! $ move ! (1 ∷ []) $ fsplit ! $ move ! (1 ∷ []) $ fsplit ! $ move ! (1 ∷ []) $ drop ! $ nothing ! $ move ! (2 ∷ 0 ∷ []) $ fjoin ! $ move ! (2 ∷ 0 ∷ []) $ fjoin ! $ move ! (5 ∷ 0 ∷ []) $ fjoin ! $ move ! (5 ∷ 0 ∷ []) $ fjoin ! $ move ! (5 ∷ 0 ∷ []) $ fjoin ! $ move ! (5 ∷ 0 ∷ []) $ fjoin ! $ move ! (5 ∷ 0 ∷ []) $ fjoin ! $ nothing ! $ move ! (4 ∷ 0 ∷ []) $ fjoin ! $ move ! (4 ∷ 0 ∷ []) $ fjoin ! $ move ! (5 ∷ 0 ∷ []) $ fjoin ! $ move ! (5 ∷ 0 ∷ []) $ fjoin ! $ move ! (5 ∷ 0 ∷ []) $ fjoin ! $ move ! (5 ∷ 0 ∷ []) $ fjoin ! $ move ! (5 ∷ 0 ∷ []) $ fjoin ! $ nothing ! $ move ! (3 ∷ 0 ∷ []) $ fjoin ! $ move ! (4 ∷ 0 ∷ []) $ fjoin ! $ nothing ! $ move ! (4 ∷ 0 ∷ []) $ fjoin ! $ move ! (4 ∷ 0 ∷ []) $ fjoin ! $
-          assigns ! (addr ! (from ! (fld ! refl (hop ! (look-in ! 100 (sub ! 0 refl (whole !))) (stop !))))) (from ! (stop !)) (init ! 10 refl (tt, tt)) $
-          assigns ! (agg ! (and-then ! (load ! (from ! (stop !)) (look ! 10 refl)) (and-then ! (load ! (from ! (fld ! refl (stop !))) (look-in ! 100 (sub ! 1 refl (whole !)))) (no-more !)))) (from ! (stop !)) (init ! 8 refl (tt, (tt, (record { fits = g₀ .0 }, tt)))) $
-          assigns ! (addr ! (from ! (fld ! refl (hop ! (look-in ! 84 (sub ! 0 refl (whole !))) (stop !))))) (from ! (stop !)) (init ! 6 refl (tt, tt)) $
-          assigns ! (agg ! (and-then ! (load ! (from ! (stop !)) (look ! 6 refl)) (and-then ! (load ! (from ! (fld ! refl (stop !))) (look-in ! 84 (sub ! 1 refl (whole !)))) (no-more !)))) (from ! (stop !)) (init ! 4 refl (tt, (tt, (record { fits = g₈ .0 }, tt)))) $
+          assigns ! (addr ! (from ! (fld ! refl (hop ! (look-in ! 102 (sub ! 0 refl (whole !))) (stop !))))) (from ! (stop !)) (init ! 10 refl (tt, tt)) $
+          assigns ! (agg ! (and-then ! (load ! (from ! (stop !)) (look ! 10 refl)) (and-then ! (load ! (from ! (fld ! refl (stop !))) (look-in ! 102 (sub ! 1 refl (whole !)))) (no-more !)))) (from ! (stop !)) (init ! 8 refl (tt, (tt, (record { fits = g₀ .0 }, tt)))) $
+          assigns ! (addr ! (from ! (fld ! refl (hop ! (look-in ! 86 (sub ! 0 refl (whole !))) (stop !))))) (from ! (stop !)) (init ! 6 refl (tt, tt)) $
+          assigns ! (agg ! (and-then ! (load ! (from ! (stop !)) (look ! 6 refl)) (and-then ! (load ! (from ! (fld ! refl (stop !))) (look-in ! 86 (sub ! 1 refl (whole !)))) (no-more !)))) (from ! (stop !)) (init ! 4 refl (tt, (tt, (record { fits = g₈ .0 }, tt)))) $
           lent 2 For-tells (tt, (tt, tt)) ([]) line.the-row 𝓤 (tells.clauses 𝓤 H A at-mem run) (z₅ .0, (x₈, tt)) tt tt ! (fmOf 𝓤 H (W .laws) 𝓣) known-tells
           (g₀, (g₈, tt)) (f₅ .0, (refl, tt)) tt (λ αs δs. tt) (λ αs δs. id⊢ 𝓤 (emp 𝓤))
           (λ αs δs. (and-then ! (load ! (from ! (stop !)) (look ! 8 refl)) (and-then ! (load ! (from ! (stop !)) (look ! 4 refl)) (no-more !))))
           (λ αs δs w₆ r₆ z₆ f₆. heard ! (after (lined r₆ (z₆ .1 .0)) (z₆ .0) ≡ after (task-lines (z₅ .0) x₈) (z₅ .0)) (λ e₆. landed-by ! line.the-row line-vals line-tells r₆ w₆ (λ is₆.
-          land ! (from ! (stop !)) (init ! 70 refl (line-typed 𝓤 H A W r₆ is₆)) $
+          land ! (from ! (stop !)) (init ! 72 refl (line-typed 𝓤 H A W r₆ is₆)) $
           fsplit ! $ move ! (1 ∷ []) $ fsplit ! $ move ! (1 ∷ []) $ drop ! $ move ! (2 ∷ []) $ fsplit ! $ move ! (1 ∷ []) $ fsplit ! $ move ! (1 ∷ []) $ drop ! $ move ! (4 ∷ []) $ fsplit ! $ move ! (1 ∷ []) $ fsplit ! $ move ! (1 ∷ []) $ fsplit ! $ move ! (1 ∷ []) $ fsplit ! $ move ! (1 ∷ []) $ fsplit ! $ move ! (1 ∷ []) $ fsplit ! $ move ! (1 ∷ []) $ fsplit ! $ move ! (1 ∷ []) $ drop ! $ move ! (11 ∷ []) $ fsplit ! $ move ! (1 ∷ []) $ fsplit ! $ move ! (1 ∷ []) $ fsplit ! $ move ! (1 ∷ []) $ fsplit ! $ move ! (1 ∷ []) $ fsplit ! $ move ! (1 ∷ []) $ fsplit ! $ move ! (1 ∷ []) $ fsplit ! $ move ! (1 ∷ []) $ drop ! $ nothing ! $ move ! (15 ∷ 0 ∷ []) $ fjoin ! $ move ! (1 ∷ 0 ∷ []) $ fjoin ! $ move ! (1 ∷ 0 ∷ []) $ fjoin ! $ move ! (1 ∷ 0 ∷ []) $ fjoin ! $ move ! (1 ∷ 0 ∷ []) $ fjoin ! $ move ! (1 ∷ 0 ∷ []) $ fjoin ! $ move ! (1 ∷ 0 ∷ []) $ fjoin ! $ move ! (1 ∷ 0 ∷ []) $ fjoin ! $ move ! (8 ∷ 0 ∷ []) $ fjoin ! $ nothing ! $ move ! (9 ∷ 0 ∷ []) $ fjoin ! $ move ! (2 ∷ 0 ∷ []) $ fjoin ! $ move ! (2 ∷ 0 ∷ []) $ fjoin ! $ move ! (2 ∷ 0 ∷ []) $ fjoin ! $ move ! (2 ∷ 0 ∷ []) $ fjoin ! $ move ! (2 ∷ 0 ∷ []) $ fjoin ! $ move ! (2 ∷ 0 ∷ []) $ fjoin ! $ move ! (2 ∷ 0 ∷ []) $ fjoin ! $ move ! (2 ∷ 0 ∷ []) $ fjoin ! $
           nothing ! $ nothing ! $
           lent 0 [] tt (created.the-row ∷ report.the-row ∷ save-report.the-row ∷ line.the-row ∷ []) performed.the-row 𝓤 (sums.clauses 𝓤 H A at-mem run) tt (r₁, (r₃, (r₅, (r₆, tt)))) (created-val r₁ ∷ [], (report-val r₃ ∷ [], (save-report-val r₅ ∷ [], (line-val r₆ ∷ [], tt)))) ! (fmOf 𝓤 H (W .laws) 𝓣) known-sums
           tt tt (created-makes 𝓤 H A r₁ _ is₁, (report-makes 𝓤 H A r₃ _ is₃, (save-report-makes 𝓤 H A r₅ _ is₅, (line-makes 𝓤 H A r₆ _ is₆, tt)))) (λ αs δs. tt) (λ αs δs. id⊢ 𝓤 (emp 𝓤))
-          (λ αs δs. (and-then ! (load ! (from ! (stop !)) (look ! 80 refl)) (and-then ! (load ! (from ! (stop !)) (look ! 76 refl)) (and-then ! (load ! (from ! (stop !)) (look ! 72 refl)) (and-then ! (load ! (from ! (stop !)) (look ! 70 refl)) (no-more !))))))
+          (λ αs δs. (and-then ! (load ! (from ! (stop !)) (look ! 82 refl)) (and-then ! (load ! (from ! (stop !)) (look ! 78 refl)) (and-then ! (load ! (from ! (stop !)) (look ! 74 refl)) (and-then ! (load ! (from ! (stop !)) (look ! 72 refl)) (no-more !))))))
           (λ αs δs w₇ r₇ z₇ f₇. heard ! (r₇ ≡ performed-of r₁ r₃ r₅ r₆) (λ e₇. landed-by ! performed.the-row performed-vals performed-tells r₇ w₇ (λ is₇.
-          drop ! $ drop ! $ land ! (from ! (stop !)) (init ! 100 refl (performed-typed 𝓤 H A W r₇ is₇)) $
-          returns ! (look ! 100 refl) $ forget ! 2 refl $ forget ! 4 refl $ forget ! 6 refl $ forget ! 8 refl $ forget ! 10 refl $ forget ! 12 refl $ forget ! 14 refl $ forget ! 16 refl $ forget ! 18 refl $ forget ! 20 refl $ forget ! 22 refl $ forget ! 24 refl $ forget ! 26 refl $ forget ! 28 refl $ forget ! 30 refl $ forget ! 32 refl $ forget ! 34 refl $ forget ! 36 refl $ forget ! 38 refl $ forget ! 40 refl $ forget ! 42 refl $ forget ! 44 refl $ forget ! 46 refl $ forget ! 48 refl $ forget ! 50 refl $ forget ! 52 refl $ forget ! 54 refl $ forget ! 56 refl $ forget ! 58 refl $ forget ! 60 refl $ forget ! 62 refl $ forget ! 64 refl $ forget ! 66 refl $ forget ! 68 refl $ forget ! 70 refl $ forget ! 72 refl $ forget ! 74 refl $ forget ! 76 refl $ forget ! 78 refl $ forget ! 80 refl $ forget ! 82 refl $ forget ! 84 refl $ forget ! 86 refl $ forget ! 88 refl $ forget ! 90 refl $ forget ! 92 refl $ forget ! 94 refl $ forget ! 96 refl $ forget ! 98 refl $ forget ! 100 refl $
+          drop ! $ drop ! $ land ! (from ! (stop !)) (init ! 102 refl (performed-typed 𝓤 H A W r₇ is₇)) $
+          returns ! (look ! 102 refl) $ forget ! 2 refl $ forget ! 4 refl $ forget ! 6 refl $ forget ! 8 refl $ forget ! 10 refl $ forget ! 12 refl $ forget ! 14 refl $ forget ! 16 refl $ forget ! 18 refl $ forget ! 20 refl $ forget ! 22 refl $ forget ! 24 refl $ forget ! 26 refl $ forget ! 28 refl $ forget ! 30 refl $ forget ! 32 refl $ forget ! 34 refl $ forget ! 36 refl $ forget ! 38 refl $ forget ! 40 refl $ forget ! 42 refl $ forget ! 44 refl $ forget ! 46 refl $ forget ! 48 refl $ forget ! 50 refl $ forget ! 52 refl $ forget ! 54 refl $ forget ! 56 refl $ forget ! 58 refl $ forget ! 60 refl $ forget ! 62 refl $ forget ! 64 refl $ forget ! 66 refl $ forget ! 68 refl $ forget ! 70 refl $ forget ! 72 refl $ forget ! 74 refl $ forget ! 76 refl $ forget ! 78 refl $ forget ! 80 refl $ forget ! 82 refl $ forget ! 84 refl $ forget ! 86 refl $ forget ! 88 refl $ forget ! 90 refl $ forget ! 92 refl $ forget ! 94 refl $ forget ! 96 refl $ forget ! 98 refl $ forget ! 100 refl $ forget ! 102 refl $
           ends r₇ (z₆ .0) (z₅ .1 .0) (z₅ .1 .1 .0) (z₅ .1 .1 .1 .0) (z₅ .1 .1 .1 .1 .0) (z₅ .1 .1 .1 .1 .1 .0) (z₁ .1 .1 .1 .0) (z₁ .1 .1 .1 .1 .0) (z₆ .1 .0) is₇ (f₆ .0) (f₅ .1 .1 .0) (f₅ .1 .1 .1 .0) (f₅ .1 .1 .1 .1 .1 .0) (f₁ .1 .1 .1 .0) (f₁ .1 .1 .1 .1 .0) (f₆ .1 .0) (performs fuel x₀ x₁ x₂ x₃ x₄ x₅ x₆ x₇ x₈ e₁ e₂ e₃ e₄ e₅ e₆ e₇))))))))))))))))))))))
 
     walk : (𝓣 : Tables 𝓤 H) (known-creates : Triple 𝓤 (𝓣 .C #creates) (creates-con 𝓤 H A at-mem run)) (known-begins : Triple 𝓤 (𝓣 .C #begins) (begins-con 𝓤 H A at-mem run)) (known-starts : Triple 𝓤 (𝓣 .C #starts) (starts-con 𝓤 H A at-mem run)) (known-chooses : Triple 𝓤 (𝓣 .C #chooses) (chooses-con 𝓤 H A at-mem run)) (known-saves : Triple 𝓤 (𝓣 .C #saves) (saves-con 𝓤 H A at-mem run)) (known-tells : Triple 𝓤 (𝓣 .C #tells) (tells-con 𝓤 H A at-mem run)) (known-sums : Triple 𝓤 (𝓣 .C #sums) (sums-con 𝓤 H A at-mem run)) → ent 𝓤 (onEntry 𝓤 H A f.signature κs₀ qs₀ x at) (WpFn 𝓤 H (𝓣 .C) (𝓣 .Λ) code.function (sliceVal (b₀, o₀) n₀ ∷ vptr b₁ o₁ ∷ sliceVal (b₂, o₂) n₂ ∷ sliceVal (b₃, o₃) n₃ ∷ vptr b₄ o₄ ∷ sliceVal (b₅, o₅) n₅ ∷ sliceVal (b₆, o₆) n₆ ∷ sliceVal (b₇, o₇) n₇ ∷ sliceVal (b₈, o₈) n₈ ∷ vint w64 fuel ∷ []) Post)
-    unfolding machine-ty report-ty created-ty save-report-ty line-ty performed-ty
+    unfolding machine-shut report-shut created-shut save-report-shut line-shut performed-shut verb-shut
     walk 𝓣 known-creates known-begins known-starts known-chooses known-saves known-tells known-sums =
         qed W ((‵ (flft κ₀ q₀) ⊛ ‵ (flft κ₁ q₁) ⊛ ‵ (flft κ₂ q₂) ⊛ ‵ (flft κ₃ q₃) ⊛ ‵ (flft κ₄ q₄) ⊛ ‵ (flft κ₅ q₅) ⊛ ‵ (flft κ₆ q₆) ⊛ ‵ (flft κ₇ q₇) ⊛ ‵ (flft κ₈ q₈) ⊛ ‵ ftrue) ∷ ‵ (owns (typesAt (f.signature .params) κs₀) x at) ∷ []) ∵ enter ! (𝓣 .C) (𝓣 .Λ) code.function (sliceVal (b₀, o₀) n₀ ∷ vptr b₁ o₁ ∷ sliceVal (b₂, o₂) n₂ ∷ sliceVal (b₃, o₃) n₃ ∷ vptr b₄ o₄ ∷ sliceVal (b₅, o₅) n₅ ∷ sliceVal (b₆, o₆) n₆ ∷ sliceVal (b₇, o₇) n₇ ∷ sliceVal (b₈, o₈) n₈ ∷ vint w64 fuel ∷ []) _ $
-        alloc1 ! (λ l₀. alloc1 ! (λ l₁. alloc1 ! (λ l₂. alloc1 ! (λ l₃. alloc1 ! (λ l₄. alloc1 ! (λ l₅. alloc1 ! (λ l₆. alloc1 ! (λ l₇. alloc1 ! (λ l₈. alloc1 ! (λ l₉. alloc1 ! (λ l₁₀. alloc1 ! (λ l₁₁. alloc1 ! (λ l₁₂. alloc1 ! (λ l₁₃. alloc1 ! (λ l₁₄. alloc1 ! (λ l₁₅. alloc1 ! (λ l₁₆. alloc1 ! (λ l₁₇. alloc1 ! (λ l₁₈. alloc1 ! (λ l₁₉. alloc1 ! (λ l₂₀. alloc1 ! (λ l₂₁. alloc1 ! (λ l₂₂. alloc1 ! (λ l₂₃. alloc1 ! (λ l₂₄. alloc1 ! (λ l₂₅. alloc1 ! (λ l₂₆. alloc1 ! (λ l₂₇. alloc1 ! (λ l₂₈. alloc1 ! (λ l₂₉. alloc1 ! (λ l₃₀. alloc1 ! (λ l₃₁. alloc1 ! (λ l₃₂. alloc1 ! (λ l₃₃. alloc1 ! (λ l₃₄. alloc1 ! (λ l₃₅. alloc1 ! (λ l₃₆. alloc1 ! (λ l₃₇. alloc1 ! (λ l₃₈. alloc1 ! (λ l₃₉. alloc1 ! (λ l₄₀. alloc1 ! (λ l₄₁. alloc1 ! (λ l₄₂. alloc1 ! (λ l₄₃. alloc1 ! (λ l₄₄. alloc1 ! (λ l₄₅. alloc1 ! (λ l₄₆. alloc1 ! (λ l₄₇. alloc1 ! (λ l₄₈. alloc1 ! (λ l₄₉. alloc0 ! $ params1 ! $
-        pass1 ! (init ! 96 refl (tt, (tt, (record { fits = g₀ .0 }, tt)))) $ pass1 ! (init ! 94 refl (tt, tt)) $ pass1 ! (init ! 92 refl (tt, (tt, (record { fits = g₂ .0 }, tt)))) $ pass1 ! (init ! 90 refl (tt, (tt, (record { fits = g₃ .0 }, tt)))) $ pass1 ! (init ! 88 refl (tt, tt)) $ pass1 ! (init ! 86 refl (tt, (tt, (record { fits = g₅ .0 }, tt)))) $ pass1 ! (init ! 84 refl (tt, (tt, (record { fits = g₆ .0 }, tt)))) $ pass1 ! (init ! 82 refl (tt, (tt, (record { fits = g₇ .0 }, tt)))) $ pass1 ! (init ! 80 refl (tt, (tt, (record { fits = g₈ .0 }, tt)))) $ pass1 ! (init ! 78 refl (tt, record { fits = fuel-is })) $ pass0 ! $
-        move ! (101 ∷ []) $ fsplit ! $ move ! (1 ∷ []) $ fsplit ! $ move ! (1 ∷ []) $ fsplit ! $ move ! (1 ∷ []) $ fsplit ! $ move ! (1 ∷ []) $ fsplit ! $ move ! (1 ∷ []) $ fsplit ! $ move ! (1 ∷ []) $ fsplit ! $ move ! (1 ∷ []) $ fsplit ! $ move ! (1 ∷ []) $ fsplit ! $ move ! (1 ∷ []) $ drop ! $ nothing ! $ move ! (1 ∷ 0 ∷ []) $ fjoin ! $ move ! (1 ∷ 0 ∷ []) $ fjoin ! $ move ! (1 ∷ 0 ∷ []) $ fjoin ! $ move ! (1 ∷ 0 ∷ []) $ fjoin ! $ move ! (1 ∷ 0 ∷ []) $ fjoin ! $ move ! (1 ∷ 0 ∷ []) $ fjoin ! $ move ! (1 ∷ 0 ∷ []) $ fjoin ! $ move ! (1 ∷ 0 ∷ []) $ fjoin ! $ move ! (1 ∷ 0 ∷ []) $ fjoin ! $
-        move ! (101 ∷ []) $ split ! $ move ! (1 ∷ []) $ split ! $ move ! (1 ∷ []) $ split ! $ move ! (1 ∷ []) $ split ! $ move ! (1 ∷ []) $ split ! $ move ! (1 ∷ []) $ split ! $ move ! (1 ∷ []) $ split ! $ move ! (1 ∷ []) $ split ! $ move ! (1 ∷ []) $ split ! $ move ! (1 ∷ []) $ drop ! $ nothing ! $ move ! (1 ∷ 0 ∷ []) $ fjoin ! $ move ! (1 ∷ 0 ∷ []) $ fjoin ! $ move ! (1 ∷ 0 ∷ []) $ fjoin ! $ move ! (1 ∷ 0 ∷ []) $ fjoin ! $ move ! (1 ∷ 0 ∷ []) $ fjoin ! $ move ! (1 ∷ 0 ∷ []) $ fjoin ! $ move ! (1 ∷ 0 ∷ []) $ fjoin ! $ move ! (1 ∷ 0 ∷ []) $ fjoin ! $ move ! (1 ∷ 0 ∷ []) $ fjoin ! $ move ! (1 ∷ 0 ∷ []) $
-        steps 𝓣 known-creates known-begins known-starts known-chooses known-saves known-tells known-sums l₀ l₁ l₂ l₃ l₄ l₅ l₆ l₇ l₈ l₉ l₁₀ l₁₁ l₁₂ l₁₃ l₁₄ l₁₅ l₁₆ l₁₇ l₁₈ l₁₉ l₂₀ l₂₁ l₂₂ l₂₃ l₂₄ l₂₅ l₂₆ l₂₇ l₂₈ l₂₉ l₃₀ l₃₁ l₃₂ l₃₃ l₃₄ l₃₅ l₃₆ l₃₇ l₃₈ l₃₉ l₄₀ l₄₁ l₄₂ l₄₃ l₄₄ l₄₅ l₄₆ l₄₇ l₄₈ l₄₉))))))))))))))))))))))))))))))))))))))))))))))))))
+        alloc1 ! (λ l₀. alloc1 ! (λ l₁. alloc1 ! (λ l₂. alloc1 ! (λ l₃. alloc1 ! (λ l₄. alloc1 ! (λ l₅. alloc1 ! (λ l₆. alloc1 ! (λ l₇. alloc1 ! (λ l₈. alloc1 ! (λ l₉. alloc1 ! (λ l₁₀. alloc1 ! (λ l₁₁. alloc1 ! (λ l₁₂. alloc1 ! (λ l₁₃. alloc1 ! (λ l₁₄. alloc1 ! (λ l₁₅. alloc1 ! (λ l₁₆. alloc1 ! (λ l₁₇. alloc1 ! (λ l₁₈. alloc1 ! (λ l₁₉. alloc1 ! (λ l₂₀. alloc1 ! (λ l₂₁. alloc1 ! (λ l₂₂. alloc1 ! (λ l₂₃. alloc1 ! (λ l₂₄. alloc1 ! (λ l₂₅. alloc1 ! (λ l₂₆. alloc1 ! (λ l₂₇. alloc1 ! (λ l₂₈. alloc1 ! (λ l₂₉. alloc1 ! (λ l₃₀. alloc1 ! (λ l₃₁. alloc1 ! (λ l₃₂. alloc1 ! (λ l₃₃. alloc1 ! (λ l₃₄. alloc1 ! (λ l₃₅. alloc1 ! (λ l₃₆. alloc1 ! (λ l₃₇. alloc1 ! (λ l₃₈. alloc1 ! (λ l₃₉. alloc1 ! (λ l₄₀. alloc1 ! (λ l₄₁. alloc1 ! (λ l₄₂. alloc1 ! (λ l₄₃. alloc1 ! (λ l₄₄. alloc1 ! (λ l₄₅. alloc1 ! (λ l₄₆. alloc1 ! (λ l₄₇. alloc1 ! (λ l₄₈. alloc1 ! (λ l₄₉. alloc1 ! (λ l₅₀. alloc0 ! $ params1 ! $
+        pass1 ! (init ! 98 refl (tt, (tt, (record { fits = g₀ .0 }, tt)))) $ pass1 ! (init ! 96 refl (tt, tt)) $ pass1 ! (init ! 94 refl (tt, (tt, (record { fits = g₂ .0 }, tt)))) $ pass1 ! (init ! 92 refl (tt, (tt, (record { fits = g₃ .0 }, tt)))) $ pass1 ! (init ! 90 refl (tt, tt)) $ pass1 ! (init ! 88 refl (tt, (tt, (record { fits = g₅ .0 }, tt)))) $ pass1 ! (init ! 86 refl (tt, (tt, (record { fits = g₆ .0 }, tt)))) $ pass1 ! (init ! 84 refl (tt, (tt, (record { fits = g₇ .0 }, tt)))) $ pass1 ! (init ! 82 refl (tt, (tt, (record { fits = g₈ .0 }, tt)))) $ pass1 ! (init ! 80 refl (tt, record { fits = fuel-is })) $ pass0 ! $
+        move ! (103 ∷ []) $ fsplit ! $ move ! (1 ∷ []) $ fsplit ! $ move ! (1 ∷ []) $ fsplit ! $ move ! (1 ∷ []) $ fsplit ! $ move ! (1 ∷ []) $ fsplit ! $ move ! (1 ∷ []) $ fsplit ! $ move ! (1 ∷ []) $ fsplit ! $ move ! (1 ∷ []) $ fsplit ! $ move ! (1 ∷ []) $ fsplit ! $ move ! (1 ∷ []) $ drop ! $ nothing ! $ move ! (1 ∷ 0 ∷ []) $ fjoin ! $ move ! (1 ∷ 0 ∷ []) $ fjoin ! $ move ! (1 ∷ 0 ∷ []) $ fjoin ! $ move ! (1 ∷ 0 ∷ []) $ fjoin ! $ move ! (1 ∷ 0 ∷ []) $ fjoin ! $ move ! (1 ∷ 0 ∷ []) $ fjoin ! $ move ! (1 ∷ 0 ∷ []) $ fjoin ! $ move ! (1 ∷ 0 ∷ []) $ fjoin ! $ move ! (1 ∷ 0 ∷ []) $ fjoin ! $
+        move ! (103 ∷ []) $ split ! $ move ! (1 ∷ []) $ split ! $ move ! (1 ∷ []) $ split ! $ move ! (1 ∷ []) $ split ! $ move ! (1 ∷ []) $ split ! $ move ! (1 ∷ []) $ split ! $ move ! (1 ∷ []) $ split ! $ move ! (1 ∷ []) $ split ! $ move ! (1 ∷ []) $ split ! $ move ! (1 ∷ []) $ drop ! $ nothing ! $ move ! (1 ∷ 0 ∷ []) $ fjoin ! $ move ! (1 ∷ 0 ∷ []) $ fjoin ! $ move ! (1 ∷ 0 ∷ []) $ fjoin ! $ move ! (1 ∷ 0 ∷ []) $ fjoin ! $ move ! (1 ∷ 0 ∷ []) $ fjoin ! $ move ! (1 ∷ 0 ∷ []) $ fjoin ! $ move ! (1 ∷ 0 ∷ []) $ fjoin ! $ move ! (1 ∷ 0 ∷ []) $ fjoin ! $ move ! (1 ∷ 0 ∷ []) $ fjoin ! $ move ! (1 ∷ 0 ∷ []) $
+        steps 𝓣 known-creates known-begins known-starts known-chooses known-saves known-tells known-sums l₀ l₁ l₂ l₃ l₄ l₅ l₆ l₇ l₈ l₉ l₁₀ l₁₁ l₁₂ l₁₃ l₁₄ l₁₅ l₁₆ l₁₇ l₁₈ l₁₉ l₂₀ l₂₁ l₂₂ l₂₃ l₂₄ l₂₅ l₂₆ l₂₇ l₂₈ l₂₉ l₃₀ l₃₁ l₃₂ l₃₃ l₃₄ l₃₅ l₃₆ l₃₇ l₃₈ l₃₉ l₄₀ l₄₁ l₄₂ l₄₃ l₄₄ l₄₅ l₄₆ l₄₇ l₄₈ l₄₉ l₅₀)))))))))))))))))))))))))))))))))))))))))))))))))))
 
 module _ {M : Type 1} (𝓤 : URA M) (H : Heap 𝓤) (A : Atoms 𝓤) (W : Given 𝓤 H A) (at-mem : Memory → SProp 𝓤) (run : Routine → Fun 𝓤) (𝓣 : Tables 𝓤 H) (known-creates : Triple 𝓤 (𝓣 .C #creates) (creates-con 𝓤 H A at-mem run)) (known-begins : Triple 𝓤 (𝓣 .C #begins) (begins-con 𝓤 H A at-mem run)) (known-starts : Triple 𝓤 (𝓣 .C #starts) (starts-con 𝓤 H A at-mem run)) (known-chooses : Triple 𝓤 (𝓣 .C #chooses) (chooses-con 𝓤 H A at-mem run)) (known-saves : Triple 𝓤 (𝓣 .C #saves) (saves-con 𝓤 H A at-mem run)) (known-tells : Triple 𝓤 (𝓣 .C #tells) (tells-con 𝓤 H A at-mem run)) (known-sums : Triple 𝓤 (𝓣 .C #sums) (sums-con 𝓤 H A at-mem run)) where
   walks : Walks 𝓤 H A f.ended stayed (WpFn 𝓤 H (𝓣 .C) (𝓣 .Λ) code.function) (f.clauses 𝓤 H A at-mem run)
@@ -312,7 +323,7 @@ perform-spec 𝓤 H 𝓜 𝓖 𝓡 =
     (meets 𝓤 H (𝓖 .A) (givenOf 𝓤 H 𝓜 𝓖) (𝓜 .mem) (𝓡 .run) (tablesOf 𝓤 H 𝓜 (tables 𝓤 H 𝓜 𝓡 code.env))
     (cited 𝓤 H (creates-con 𝓤 H (𝓖 .A) (𝓜 .mem) (𝓡 .run)) 𝓜 𝓡 code.env #creates creates-def.routine code.calls-creating·create (creates-thm.met 𝓤 H 𝓜 𝓖 𝓡))
     (cited 𝓤 H (begins-con 𝓤 H (𝓖 .A) (𝓜 .mem) (𝓡 .run)) 𝓜 𝓡 code.env #begins begins-def.routine code.calls-hosting·outcomes·machine-of (begins-thm.met 𝓤 H 𝓜 𝓖 𝓡))
-    (cited 𝓤 H (starts-con 𝓤 H (𝓖 .A) (𝓜 .mem) (𝓡 .run)) 𝓜 𝓡 code.env #starts starts-def.routine code.calls-calling·start (starts-thm.met 𝓤 H 𝓜 𝓖 𝓡))
+    (cited 𝓤 H (starts-con 𝓤 H (𝓖 .A) (𝓜 .mem) (𝓡 .run)) 𝓜 𝓡 code.env #starts starts-def.routine code.calls-calling·call (starts-thm.met 𝓤 H 𝓜 𝓖 𝓡))
     (cited 𝓤 H (chooses-con 𝓤 H (𝓖 .A) (𝓜 .mem) (𝓡 .run)) 𝓜 𝓡 code.env #chooses chooses-def.routine code.calls-hosting·outcomes·to-save (chooses-thm.met 𝓤 H 𝓜 𝓖 𝓡))
     (cited 𝓤 H (saves-con 𝓤 H (𝓖 .A) (𝓜 .mem) (𝓡 .run)) 𝓜 𝓡 code.env #saves saves-def.routine code.calls-saving·save (saves-thm.met 𝓤 H 𝓜 𝓖 𝓡))
     (cited 𝓤 H (tells-con 𝓤 H (𝓖 .A) (𝓜 .mem) (𝓡 .run)) 𝓜 𝓡 code.env #tells tells-def.routine code.calls-hosting·lines·put-tasks (tells-thm.met 𝓤 H 𝓜 𝓖 𝓡))
