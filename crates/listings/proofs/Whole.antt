@@ -18,7 +18,7 @@ use Rattle.listing.specs.Listing.{Read, line-of-head, line-of-count, line-of-va
 use Rattle.storage.specs.declared.Task.{Task}
 use Rattle.hosting.specs.Lines.{task-lines}
 use Rattle.hosting.specs.declared.Performed.{Performed}
-use Rattle.host.specs.Listings.{put-from, counted, counting, next-line, next, values-of, put-values, tell, listing-of, with-lengths, measured, list, with-tasks, list-run}
+use Rattle.answering.specs.Listings.{put-from, counted, counting, next-line, next, values-of, put-values, tell, listing-of, with-lengths, measured, list, with-tasks, list-run}
 use Rattle.listings.proofs.Tasks.{text-of, all-tasks, read-back}
 
 -- the largest number of 64 bits

@@ -1,6 +1,5 @@
 // The lines of a call on standard output. What is printed is no part of a contract: the kit's `io` says nothing about standard output.
 ghost use mathlib.Core.Path.{_≡_};
-use asked::Answered;
 use core::Machine;
 use inlinevec::Frames;
 use inlinevec::Loops;
@@ -12,6 +11,12 @@ use report::Word;
 use storage::Task;
 use text::LineResult;
 use vm::CreateResult;
+
+// What came of a call: the machine after it, and how it ended.
+pub struct Answered {
+    pub machine: Machine,
+    pub head: Head,
+}
 
 // Room for any value's line: a text of 65,535 bytes, 16,383 numbers, or 65,536 bytes in hex.
 fn value_room() -> [u8; 196608] {

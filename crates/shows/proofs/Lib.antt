@@ -1,1 +1,3 @@
+mod Values
+mod Bytes
 pub mod Performing

@@ -10,8 +10,8 @@ use Rattle.runs.specs.World.{World, world}
 use Rattle.vm.specs.Calls.{Reported, call}
 use Rattle.vm.specs.Creation.{Made, create}
 use Rattle.vm.specs.Reads.{SavedTo, host-save}
-use Rattle.asked.specs.declared.Answered.{Answered}
-use Rattle.asked.specs.Asked.{verb-at, fuel-at, verb-of, ran, saved, machine-of, count-of}
+use Rattle.printing.specs.declared.Answered.{Answered}
+use Rattle.shows.specs.Asked.{verb-at, fuel-at, verb-of, ran, saved, machine-of, count-of}
 
 -- ---- one call
 

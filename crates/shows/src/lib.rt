@@ -3,16 +3,19 @@ ghost use mathlib.Core.Path.{_≡_};
 ghost use Rattle.storage.specs.Tasks.{after};
 ghost use Rattle.runs.specs.World.{world};
 ghost use Rattle.shows.specs.Shows.{acted, performed, after-call, after-calls, lent, own};
-use asked::Answered;
-use asked::count_of;
-use asked::fuel_at;
-use asked::machine_after;
-use asked::machine_of;
-use asked::ran;
-use asked::saved;
-use asked::verb_at;
-use asked::verb_of;
+
+mod asked;
+
+use crate::asked::count_of;
+use crate::asked::fuel_at;
+use crate::asked::machine_after;
+use crate::asked::machine_of;
+use crate::asked::ran;
+use crate::asked::saved;
+use crate::asked::verb_at;
+use crate::asked::verb_of;
 use core::Machine;
+use printing::Answered;
 use printing::show_answer;
 use printing::show_count;
 use printing::show_creation;

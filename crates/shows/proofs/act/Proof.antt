@@ -54,16 +54,16 @@ use Rattle.vm.proofs.Verb as verb-row
 use Rattle.vm.proofs.Report as report
 use Rattle.vm.proofs.SaveReport as save-report
 use Rattle.vm.proofs.Values.{verb-shut, verb-vals, report-shut, report-vals, save-report-shut, save-report-vals}
-use Rattle.asked.specs.declared.Answered.{Answered}
-use Rattle.asked.proofs.Answered as answered
-use Rattle.asked.proofs.Values.{answered-shut, answered-vals}
-use Rattle.asked.specs.Asked.{verb-of, ran as ran-of, saved as saved-of}
+use Rattle.printing.specs.declared.Answered.{Answered}
+use Rattle.printing.proofs.Answered as answered
+use Rattle.shows.proofs.Values.{answered-shut, answered-vals}
+use Rattle.shows.specs.Asked.{verb-of, ran as ran-of, saved as saved-of}
 use Rattle.shows.specs.Shows.{acted, performed}
 use Rattle.shows.proofs.Performing.{performs-run, performs-save}
-use Rattle.asked.proofs.verb_of.Symbol.{name as #asks}
-use Rattle.asked.proofs.verb_of as asks
-use Rattle.asked.proofs.verb_of.Symbol as asks-def
-use Rattle.asked.proofs.verb_of.Met as asks-thm
+use Rattle.shows.proofs.asked.verb_of.Symbol.{name as #asks}
+use Rattle.shows.proofs.asked.verb_of as asks
+use Rattle.shows.proofs.asked.verb_of.Symbol as asks-def
+use Rattle.shows.proofs.asked.verb_of.Met as asks-thm
 use Rattle.calling.proofs.call.Symbol.{name as #calls}
 use Rattle.calling.proofs.call as calls
 use Rattle.calling.proofs.call.Symbol as calls-def
@@ -72,14 +72,14 @@ use Rattle.saving.proofs.save.Symbol.{name as #saves}
 use Rattle.saving.proofs.save as saves
 use Rattle.saving.proofs.save.Symbol as saves-def
 use Rattle.saving.proofs.save.Met as saves-thm
-use Rattle.asked.proofs.ran.Symbol.{name as #ran}
-use Rattle.asked.proofs.ran as ran
-use Rattle.asked.proofs.ran.Symbol as ran-def
-use Rattle.asked.proofs.ran.Met as ran-thm
-use Rattle.asked.proofs.saved.Symbol.{name as #saved}
-use Rattle.asked.proofs.saved as saved
-use Rattle.asked.proofs.saved.Symbol as saved-def
-use Rattle.asked.proofs.saved.Met as saved-thm
+use Rattle.shows.proofs.asked.ran.Symbol.{name as #ran}
+use Rattle.shows.proofs.asked.ran as ran
+use Rattle.shows.proofs.asked.ran.Symbol as ran-def
+use Rattle.shows.proofs.asked.ran.Met as ran-thm
+use Rattle.shows.proofs.asked.saved.Symbol.{name as #saved}
+use Rattle.shows.proofs.asked.saved as saved
+use Rattle.shows.proofs.asked.saved.Symbol as saved-def
+use Rattle.shows.proofs.asked.saved.Met as saved-thm
 use Rattle.shows.proofs.act.Key.{name as #this}
 use Rattle.shows.proofs.act as f
 use Rattle.shows.proofs.act.Statement as stated
@@ -268,8 +268,8 @@ act-spec 𝓤 H 𝓜 𝓖 𝓡 =
     entered 𝓤 H (tripleOf 𝓤 H (𝓖 .A) f.signature (f.spec 𝓤 H (𝓖 .A) (𝓜 .mem) (𝓡 .run)))
     (tables 𝓤 H 𝓜 𝓡 code.env .C) (tables 𝓤 H 𝓜 𝓡 code.env .Λ) #this code.function (code.unfolded 𝓤 H 𝓜 𝓡)
     (meets 𝓤 H (𝓖 .A) (givenOf 𝓤 H 𝓜 𝓖) (𝓜 .mem) (𝓡 .run) (tablesOf 𝓤 H 𝓜 (tables 𝓤 H 𝓜 𝓡 code.env))
-    (cited 𝓤 H (asks-con 𝓤 H (𝓖 .A) (𝓜 .mem) (𝓡 .run)) 𝓜 𝓡 code.env #asks asks-def.routine code.calls-asked·verb-of (asks-thm.met 𝓤 H 𝓜 𝓖 𝓡))
+    (cited 𝓤 H (asks-con 𝓤 H (𝓖 .A) (𝓜 .mem) (𝓡 .run)) 𝓜 𝓡 code.env #asks asks-def.routine code.calls-shows·asked·verb-of (asks-thm.met 𝓤 H 𝓜 𝓖 𝓡))
     (cited 𝓤 H (calls-con 𝓤 H (𝓖 .A) (𝓜 .mem) (𝓡 .run)) 𝓜 𝓡 code.env #calls calls-def.routine code.calls-calling·call (calls-thm.met 𝓤 H 𝓜 𝓖 𝓡))
     (cited 𝓤 H (saves-con 𝓤 H (𝓖 .A) (𝓜 .mem) (𝓡 .run)) 𝓜 𝓡 code.env #saves saves-def.routine code.calls-saving·save (saves-thm.met 𝓤 H 𝓜 𝓖 𝓡))
-    (cited 𝓤 H (ran-con 𝓤 H (𝓖 .A) (𝓜 .mem) (𝓡 .run)) 𝓜 𝓡 code.env #ran ran-def.routine code.calls-asked·ran (ran-thm.met 𝓤 H 𝓜 𝓖 𝓡))
-    (cited 𝓤 H (saved-con 𝓤 H (𝓖 .A) (𝓜 .mem) (𝓡 .run)) 𝓜 𝓡 code.env #saved saved-def.routine code.calls-asked·saved (saved-thm.met 𝓤 H 𝓜 𝓖 𝓡)))
+    (cited 𝓤 H (ran-con 𝓤 H (𝓖 .A) (𝓜 .mem) (𝓡 .run)) 𝓜 𝓡 code.env #ran ran-def.routine code.calls-shows·asked·ran (ran-thm.met 𝓤 H 𝓜 𝓖 𝓡))
+    (cited 𝓤 H (saved-con 𝓤 H (𝓖 .A) (𝓜 .mem) (𝓡 .run)) 𝓜 𝓡 code.env #saved saved-def.routine code.calls-shows·asked·saved (saved-thm.met 𝓤 H 𝓜 𝓖 𝓡)))

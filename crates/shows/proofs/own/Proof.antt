@@ -54,7 +54,7 @@ use Rattle.runs.proofs.Values.{machine-shut, machine-vals}
 use Rattle.vm.specs.Creation.{made, create as create-of}
 use Rattle.vm.proofs.CreateResult as created
 use Rattle.vm.proofs.Values.{created-shut, created-vals}
-use Rattle.asked.specs.Asked.{machine-of, count-of}
+use Rattle.shows.specs.Asked.{machine-of, count-of}
 use Rattle.shows.specs.Shows.{after-calls, lent as lent-of, own as own-of}
 use Rattle.shows.proofs.Performing.{owns-it}
 use Rattle.owned.proofs.Owned.{held-at, all-typed, array-in, lend-array, comes-back}
@@ -70,14 +70,14 @@ use Rattle.printing.proofs.show_creation.Symbol.{name as #shows-creation}
 use Rattle.printing.proofs.show_creation as shows-creation
 use Rattle.printing.proofs.show_creation.Symbol as shows-creation-def
 use Rattle.printing.proofs.show_creation.Met as shows-creation-thm
-use Rattle.asked.proofs.machine_of.Symbol.{name as #begins}
-use Rattle.asked.proofs.machine_of as begins
-use Rattle.asked.proofs.machine_of.Symbol as begins-def
-use Rattle.asked.proofs.machine_of.Met as begins-thm
-use Rattle.asked.proofs.count_of.Symbol.{name as #allows}
-use Rattle.asked.proofs.count_of as allows
-use Rattle.asked.proofs.count_of.Symbol as allows-def
-use Rattle.asked.proofs.count_of.Met as allows-thm
+use Rattle.shows.proofs.asked.machine_of.Symbol.{name as #begins}
+use Rattle.shows.proofs.asked.machine_of as begins
+use Rattle.shows.proofs.asked.machine_of.Symbol as begins-def
+use Rattle.shows.proofs.asked.machine_of.Met as begins-thm
+use Rattle.shows.proofs.asked.count_of.Symbol.{name as #allows}
+use Rattle.shows.proofs.asked.count_of as allows
+use Rattle.shows.proofs.asked.count_of.Symbol as allows-def
+use Rattle.shows.proofs.asked.count_of.Met as allows-thm
 use Rattle.shows.proofs.play.Symbol.{name as #plays}
 use Rattle.shows.proofs.play as plays
 use Rattle.shows.proofs.play.Symbol as plays-def
@@ -273,6 +273,6 @@ own-spec 𝓤 H 𝓜 𝓖 𝓡 =
     (cited 𝓤 H (blanks-con 𝓤 H (𝓖 .A) (𝓜 .mem) (𝓡 .run)) 𝓜 𝓡 code.env #blanks blanks-def.routine code.calls-storage·task-types·blank (blanks-thm.met 𝓤 H 𝓜 𝓖 𝓡))
     (cited 𝓤 H (creates-con 𝓤 H (𝓖 .A) (𝓜 .mem) (𝓡 .run)) 𝓜 𝓡 code.env #creates creates-def.routine code.calls-creating·create (creates-thm.met 𝓤 H 𝓜 𝓖 𝓡))
     (cited 𝓤 H (shows-creation-con 𝓤 H (𝓖 .A) (𝓜 .mem) (𝓡 .run)) 𝓜 𝓡 code.env #shows-creation shows-creation-def.routine code.calls-printing·show-creation (shows-creation-thm.met 𝓤 H 𝓜 𝓖 𝓡))
-    (cited 𝓤 H (begins-con 𝓤 H (𝓖 .A) (𝓜 .mem) (𝓡 .run)) 𝓜 𝓡 code.env #begins begins-def.routine code.calls-asked·machine-of (begins-thm.met 𝓤 H 𝓜 𝓖 𝓡))
-    (cited 𝓤 H (allows-con 𝓤 H (𝓖 .A) (𝓜 .mem) (𝓡 .run)) 𝓜 𝓡 code.env #allows allows-def.routine code.calls-asked·count-of (allows-thm.met 𝓤 H 𝓜 𝓖 𝓡))
+    (cited 𝓤 H (begins-con 𝓤 H (𝓖 .A) (𝓜 .mem) (𝓡 .run)) 𝓜 𝓡 code.env #begins begins-def.routine code.calls-shows·asked·machine-of (begins-thm.met 𝓤 H 𝓜 𝓖 𝓡))
+    (cited 𝓤 H (allows-con 𝓤 H (𝓖 .A) (𝓜 .mem) (𝓡 .run)) 𝓜 𝓡 code.env #allows allows-def.routine code.calls-shows·asked·count-of (allows-thm.met 𝓤 H 𝓜 𝓖 𝓡))
     (cited 𝓤 H (plays-con 𝓤 H (𝓖 .A) (𝓜 .mem) (𝓡 .run)) 𝓜 𝓡 code.env #plays plays-def.routine code.calls-shows·play (plays-thm.met 𝓤 H 𝓜 𝓖 𝓡)))

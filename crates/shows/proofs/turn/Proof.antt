@@ -47,19 +47,19 @@ use Rattle.core.specs.declared.Machine.{Machine}
 use Rattle.core.proofs.Machine as machine
 use Rattle.runs.specs.World.{world}
 use Rattle.runs.proofs.Values.{machine-shut, machine-vals}
-use Rattle.asked.proofs.Answered as answered
-use Rattle.asked.proofs.Values.{answered-shut, answered-vals}
-use Rattle.asked.specs.Asked.{verb-at, fuel-at}
+use Rattle.printing.proofs.Answered as answered
+use Rattle.shows.proofs.Values.{answered-shut, answered-vals}
+use Rattle.shows.specs.Asked.{verb-at, fuel-at}
 use Rattle.shows.specs.Shows.{acted, performed, after-call}
 use Rattle.shows.proofs.Performing.{turns}
-use Rattle.asked.proofs.verb_at.Symbol.{name as #verbs}
-use Rattle.asked.proofs.verb_at as verbs
-use Rattle.asked.proofs.verb_at.Symbol as verbs-def
-use Rattle.asked.proofs.verb_at.Met as verbs-thm
-use Rattle.asked.proofs.fuel_at.Symbol.{name as #fuels}
-use Rattle.asked.proofs.fuel_at as fuels
-use Rattle.asked.proofs.fuel_at.Symbol as fuels-def
-use Rattle.asked.proofs.fuel_at.Met as fuels-thm
+use Rattle.shows.proofs.asked.verb_at.Symbol.{name as #verbs}
+use Rattle.shows.proofs.asked.verb_at as verbs
+use Rattle.shows.proofs.asked.verb_at.Symbol as verbs-def
+use Rattle.shows.proofs.asked.verb_at.Met as verbs-thm
+use Rattle.shows.proofs.asked.fuel_at.Symbol.{name as #fuels}
+use Rattle.shows.proofs.asked.fuel_at as fuels
+use Rattle.shows.proofs.asked.fuel_at.Symbol as fuels-def
+use Rattle.shows.proofs.asked.fuel_at.Met as fuels-thm
 use Rattle.shows.proofs.act.Symbol.{name as #acts}
 use Rattle.shows.proofs.act as acts
 use Rattle.shows.proofs.act.Symbol as acts-def
@@ -76,10 +76,10 @@ use Rattle.printing.proofs.show_machine.Symbol.{name as #shows-machine}
 use Rattle.printing.proofs.show_machine as shows-machine
 use Rattle.printing.proofs.show_machine.Symbol as shows-machine-def
 use Rattle.printing.proofs.show_machine.Met as shows-machine-thm
-use Rattle.asked.proofs.machine_after.Symbol.{name as #machine-after}
-use Rattle.asked.proofs.machine_after as machine-after
-use Rattle.asked.proofs.machine_after.Symbol as machine-after-def
-use Rattle.asked.proofs.machine_after.Met as machine-after-thm
+use Rattle.shows.proofs.asked.machine_after.Symbol.{name as #machine-after}
+use Rattle.shows.proofs.asked.machine_after as machine-after
+use Rattle.shows.proofs.asked.machine_after.Symbol as machine-after-def
+use Rattle.shows.proofs.asked.machine_after.Met as machine-after-thm
 use Rattle.shows.proofs.turn.Key.{name as #this}
 use Rattle.shows.proofs.turn as f
 use Rattle.shows.proofs.turn.Statement as stated
@@ -298,10 +298,10 @@ turn-spec 𝓤 H 𝓜 𝓖 𝓡 =
     entered 𝓤 H (tripleOf 𝓤 H (𝓖 .A) f.signature (f.spec 𝓤 H (𝓖 .A) (𝓜 .mem) (𝓡 .run)))
     (tables 𝓤 H 𝓜 𝓡 code.env .C) (tables 𝓤 H 𝓜 𝓡 code.env .Λ) #this code.function (code.unfolded 𝓤 H 𝓜 𝓡)
     (meets 𝓤 H (𝓖 .A) (givenOf 𝓤 H 𝓜 𝓖) (𝓜 .mem) (𝓡 .run) (tablesOf 𝓤 H 𝓜 (tables 𝓤 H 𝓜 𝓡 code.env))
-    (cited 𝓤 H (verbs-con 𝓤 H (𝓖 .A) (𝓜 .mem) (𝓡 .run)) 𝓜 𝓡 code.env #verbs verbs-def.routine code.calls-asked·verb-at (verbs-thm.met 𝓤 H 𝓜 𝓖 𝓡))
-    (cited 𝓤 H (fuels-con 𝓤 H (𝓖 .A) (𝓜 .mem) (𝓡 .run)) 𝓜 𝓡 code.env #fuels fuels-def.routine code.calls-asked·fuel-at (fuels-thm.met 𝓤 H 𝓜 𝓖 𝓡))
+    (cited 𝓤 H (verbs-con 𝓤 H (𝓖 .A) (𝓜 .mem) (𝓡 .run)) 𝓜 𝓡 code.env #verbs verbs-def.routine code.calls-shows·asked·verb-at (verbs-thm.met 𝓤 H 𝓜 𝓖 𝓡))
+    (cited 𝓤 H (fuels-con 𝓤 H (𝓖 .A) (𝓜 .mem) (𝓡 .run)) 𝓜 𝓡 code.env #fuels fuels-def.routine code.calls-shows·asked·fuel-at (fuels-thm.met 𝓤 H 𝓜 𝓖 𝓡))
     (cited 𝓤 H (acts-con 𝓤 H (𝓖 .A) (𝓜 .mem) (𝓡 .run)) 𝓜 𝓡 code.env #acts acts-def.routine code.calls-shows·act (acts-thm.met 𝓤 H 𝓜 𝓖 𝓡))
     (cited 𝓤 H (shows-answer-con 𝓤 H (𝓖 .A) (𝓜 .mem) (𝓡 .run)) 𝓜 𝓡 code.env #shows-answer shows-answer-def.routine code.calls-printing·show-answer (shows-answer-thm.met 𝓤 H 𝓜 𝓖 𝓡))
     (cited 𝓤 H (shows-tasks-con 𝓤 H (𝓖 .A) (𝓜 .mem) (𝓡 .run)) 𝓜 𝓡 code.env #shows-tasks shows-tasks-def.routine code.calls-shows·show-tasks (shows-tasks-thm.met 𝓤 H 𝓜 𝓖 𝓡))
     (cited 𝓤 H (shows-machine-con 𝓤 H (𝓖 .A) (𝓜 .mem) (𝓡 .run)) 𝓜 𝓡 code.env #shows-machine shows-machine-def.routine code.calls-printing·show-machine (shows-machine-thm.met 𝓤 H 𝓜 𝓖 𝓡))
-    (cited 𝓤 H (machine-after-con 𝓤 H (𝓖 .A) (𝓜 .mem) (𝓡 .run)) 𝓜 𝓡 code.env #machine-after machine-after-def.routine code.calls-asked·machine-after (machine-after-thm.met 𝓤 H 𝓜 𝓖 𝓡)))
+    (cited 𝓤 H (machine-after-con 𝓤 H (𝓖 .A) (𝓜 .mem) (𝓡 .run)) 𝓜 𝓡 code.env #machine-after machine-after-def.routine code.calls-shows·asked·machine-after (machine-after-thm.met 𝓤 H 𝓜 𝓖 𝓡)))

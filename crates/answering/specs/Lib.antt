@@ -1,0 +1,3 @@
+pub mod Listings
+pub mod Numbers
+pub mod Answering
