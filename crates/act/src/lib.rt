@@ -8,6 +8,8 @@ ghost use Rattle.bytecode.specs.Operands.{extent};
 ghost use Rattle.calls.specs.Act.{went-by, created, tasked-by, created-by, bare, on-all, on-frames, on-task, cut, act};
 use bytecode::Extent;
 use bytecode::OperandResult;
+use bytecode::extents::extent;
+use bytecode::extents::operand_sizes;
 use bytecode::opcodes::CALL;
 use bytecode::opcodes::END_CALL;
 use bytecode::opcodes::PUSH_CALLDATA;
@@ -15,9 +17,6 @@ use bytecode::opcodes::T_CREATE;
 use bytecode::opcodes::T_DELETE;
 use bytecode::opcodes::T_GET_FIELD;
 use bytecode::opcodes::T_SET_FIELD;
-use bytecode::operands::extent;
-use bytecode::operands::operand_sizes;
-use bytecode::operands::prepare_u16_from_be_checked;
 use calls::Acted;
 use calls::Went;
 use calls::machines::byte_at;
@@ -33,12 +32,13 @@ use inlinevec::PopFrameResult;
 use inlinevec::PopResult;
 use opcodes::Did;
 use opcodes::stack::moved;
+use operands::prepare_u16_from_be_checked;
 use pools::BoundsResult;
 use pools::InstructionsRef;
 use pools::InternResult;
 use storage::Task;
 use t_create::op_t_create;
-use t_create::op_t_delete;
+use t_delete::op_t_delete;
 use t_fields::op_t_get_field;
 use t_fields::op_t_set_field;
 use tasks::Tasked;
@@ -115,7 +115,7 @@ fn push_calldata(
     match intern_calldata(pool, ends, machine, place) {
         InternResult::NotInterned(refusal) => Went::Refused(refusal),
         InternResult::Interned { entry, bytes } => {
-            stack[height] = values::to_calldata_val(entry.0);
+            stack[height] = boxing::to_calldata_val(entry.0);
             Went::Onto(with_entry(machine, next, entry, bytes))
         }
     }
@@ -131,7 +131,7 @@ fn enter(ends: &[u32; 1024], caller: Machine, entry: InstructionsRef) -> Went
             if end <= start {
                 return Went::Onto(caller);
             }
-            match inlinevec::push_frame(caller.frames, Frame { entry, place: 0 }) {
+            match frames::push_frame(caller.frames, Frame { entry, place: 0 }) {
                 FramesResult::NoNewFrames(refusal) => Went::Refused(refusal),
                 FramesResult::NewFrames(frames) => {
                     let mut entered = caller;
@@ -174,7 +174,7 @@ fn op_end_call(machine: Machine, next: usize) -> Went
         let registers = registers_of(machine);
         return Went::Onto(settled(machine, moved(registers, next, machine.height)));
     }
-    match inlinevec::pop_frame(machine.frames) {
+    match frames::pop_frame(machine.frames) {
         PopFrameResult::NotPoppedFrame(refusal) => Went::Refused(refusal),
         PopFrameResult::PoppedFrame { last: _, frames } => {
             let mut caller = machine;

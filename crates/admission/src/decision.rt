@@ -16,7 +16,7 @@ use crate::nodes::number_at;
 use crate::nodes::top;
 use crate::sweep::node_at;
 use crate::sweep::sweep;
-use bytecode::operands::operand_sizes;
+use bytecode::extents::operand_sizes;
 use errors::Refusal;
 
 // Two cells for each place.

@@ -37,7 +37,7 @@ pub fn vector(used: usize, size: u16, tag: u8) -> ValueResult
         if 0x2000000 <= used {
             return ValueResult::NoValue(Refusal::MSliceParamOverflow);
         }
-        return values::to_vec_val(offset_aligned(used, tag), size, tag as u64);
+        return boxing::to_vec_val(offset_aligned(used, tag), size, tag as u64);
     }
     ValueResult::NoValue(Refusal::InvalidType)
 }
@@ -49,11 +49,11 @@ fn fill(part: &mut [u8], payload: &[u8], size: usize)
 {
     let count = payload.len();
     if size <= count {
-        slices::write(&mut part[..size], &payload[..size], 0);
+        writes::write(&mut part[..size], &payload[..size], 0);
         return;
     }
-    slices::write(part, payload, 0);
-    slices::clear(&mut part[count..size]);
+    writes::write(part, payload, 0);
+    writes::clear(&mut part[count..size]);
 }
 
 // A new vector behind the length in use: padding, and then the tail of the memory is handed on to be filled.
@@ -68,7 +68,7 @@ pub fn alloc(memory: &mut [u8], payload: &[u8], used: usize, size: u16, tag: u8)
             if memory.len() < end {
                 return AllocResult::NotAllocated(Refusal::MemoryTooShort);
             }
-            slices::clear(&mut memory[used..offset]);
+            writes::clear(&mut memory[used..offset]);
             fill(&mut memory[offset..], payload, size as usize);
             AllocResult::Allocated { value, used: end }
         }

@@ -76,7 +76,7 @@ fn text_from(out: &mut [u8], text: &[u8], start: usize) -> LineResult
     if out.len() - start < text.len() {
         return LineResult::NoLine(Refusal::SaveBufferTooShort);
     }
-    slices::write(out, text, start);
+    writes::write(out, text, start);
     LineResult::Line(text.len())
 }
 
@@ -170,7 +170,7 @@ fn tell<'a>(
 ) -> LineResult
     ensures { λ r. ⌜ lined r (now (out .exit)) ≡ tell keeps (now (out .entry)) head (values-of (now (memory .entry)) (now (pool .entry)) (now (ends .entry)) entries (now (words .entry))) (now (tasks .entry)) ⌝ }
 {
-    let first = listing::head_line(out, head);
+    let first = head_line::head_line(out, head);
     let second = put_count(out, first, keeps, words.len());
     let values = put_values(out, words, memory, pool, ends, second, keeps, entries);
     put_text(out, tasks, values, keeps)

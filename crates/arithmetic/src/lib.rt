@@ -1,7 +1,7 @@
-// Opcodes that calculate with numbers: MUL, MULI, LT, GT.
+// Opcodes that multiply numbers: MUL, MULI.
 ghost use mathlib.Core.Path.{_≡_};
 ghost use Rattle.opcodes.specs.Registers.{on-stack};
-ghost use Rattle.opcodes.specs.Stack.{op-mul, op-muli, op-compare};
+ghost use Rattle.opcodes.specs.Stack.{op-mul, op-muli};
 use inlinevec::PopResult;
 use opcodes::Did;
 use opcodes::PopTwoResult;
@@ -41,26 +41,6 @@ pub fn op_muli(stack: &mut [u64; 1000], registers: Registers, next: usize, numbe
             next,
             height,
             calculations::mul_checked_i(value, number),
-        ),
-    }
-}
-
-// LT, and GT where is_lt is false: the right value is on top.
-pub fn op_compare(stack: &mut [u64; 1000], registers: Registers, next: usize, is_lt: bool) -> Did
-    ensures { λ r. ⌜ on-stack r (now (stack .exit)) ≡ op-compare (now (stack .entry)) registers next «is_lt» ⌝ }
-{
-    match pop_two(stack, registers.height) {
-        PopTwoResult::NotPoppedTwo(refusal) => Did::Refused(refusal),
-        PopTwoResult::PoppedTwo {
-            first: right,
-            second: left,
-            height,
-        } => finish(
-            stack,
-            registers,
-            next,
-            height,
-            calculations::value_cmp(left, right, is_lt),
         ),
     }
 }

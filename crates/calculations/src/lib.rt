@@ -1,19 +1,12 @@
-// Calculations on boxed values: products, comparisons, and the answer turned round.
+// Calculations on boxed values: products, and the answer turned round.
 ghost use mathlib.Core.Path.{_≡_};
 ghost use Prim.Native.Nat.{_*_};
-ghost use Rattle.values.specs.Values.{bool-not, product, mul-checked, mul-checked-i, alike, value-eq, value-neq, value-cmp};
+ghost use Rattle.values.specs.Values.{bool-not, product, mul-checked, mul-checked-i};
+use boxing::to_u32_val;
 use errors::Refusal;
-use values::TAG_CALLDATA;
-use values::TAG_FALSE;
-use values::TAG_TRUE;
-use values::TAG_U32;
 use values::ValueResult;
-use values::is_qnan;
 use values::is_u32_val;
-use values::raw_tag;
-use values::to_bool_val;
 use values::to_u32;
-use values::to_u32_val;
 
 // TRUE for FALSE, and FALSE for TRUE.
 pub fn bool_not(v: u64) -> u64
@@ -62,68 +55,6 @@ pub fn mul_checked_i(lhs: u64, rhs: u32) -> ValueResult
 {
     if is_u32_val(lhs) {
         return product(to_u32(lhs), rhs);
-    }
-    ValueResult::NoValue(Refusal::InvalidType)
-}
-
-// Two values of one tag compared.
-fn alike(tag: u64, left: u64, right: u64) -> ValueResult
-    ensures { λ r. ⌜ r ≡ alike tag left right ⌝ }
-{
-    if tag == TAG_U32 {
-        return ValueResult::Value(to_bool_val(to_u32(left) == to_u32(right)));
-    }
-    if tag == TAG_CALLDATA {
-        return ValueResult::Value(to_bool_val(to_u32(left) == to_u32(right)));
-    }
-    if tag == TAG_TRUE {
-        return ValueResult::Value(to_bool_val(left == right));
-    }
-    if tag == TAG_FALSE {
-        return ValueResult::Value(to_bool_val(left == right));
-    }
-    ValueResult::NoValue(Refusal::InvalidType)
-}
-
-// EQ of two values, of which the left is a scalar.
-pub fn value_eq(left: u64, right: u64) -> ValueResult
-    ensures { λ r. ⌜ r ≡ value-eq left right ⌝ }
-{
-    if is_qnan(left) {
-        if is_qnan(right) {
-            let tag = raw_tag(left);
-            if tag == raw_tag(right) {
-                return alike(tag, left, right);
-            }
-            return ValueResult::NoValue(Refusal::TypeMismatch);
-        }
-        return ValueResult::NoValue(Refusal::InvalidType);
-    }
-    ValueResult::NoValue(Refusal::InvalidType)
-}
-
-// NEQ of two values, of which the left is a scalar.
-pub fn value_neq(left: u64, right: u64) -> ValueResult
-    ensures { λ r. ⌜ r ≡ value-neq left right ⌝ }
-{
-    match value_eq(left, right) {
-        ValueResult::Value(v) => ValueResult::Value(bool_not(v)),
-        ValueResult::NoValue(refusal) => ValueResult::NoValue(refusal),
-    }
-}
-
-// LT of two numbers, or GT where is_lt is false.
-pub fn value_cmp(left: u64, right: u64, is_lt: bool) -> ValueResult
-    ensures { λ r. ⌜ r ≡ value-cmp left right «is_lt» ⌝ }
-{
-    if is_u32_val(left) {
-        if is_u32_val(right) {
-            if is_lt {
-                return ValueResult::Value(to_bool_val(to_u32(left) < to_u32(right)));
-            }
-            return ValueResult::Value(to_bool_val(to_u32(right) < to_u32(left)));
-        }
-        return ValueResult::NoValue(Refusal::InvalidType);
     }
     ValueResult::NoValue(Refusal::InvalidType)
 }

@@ -1,12 +1,16 @@
 // Start and continue: what they begin with, the run, and what they make of its end.
 ghost use mathlib.Core.Path.{_≡_};
+ghost use Rattle.calls.specs.Turns.{rewound};
 ghost use Rattle.vm.specs.Calls.{may-start, may-continue, fresh, beginning, allowed, phased, ended, spent, report, not-allowed, reported, call};
 ghost use Rattle.runs.specs.World.{world};
 use calls::Outcome;
 use calls::Ran;
+use calls::machines::registers_of;
+use calls::machines::settled;
 use core::Machine;
 use core::Phase;
 use errors::Refusal;
+use opcodes::stack::moved;
 use sound::sound;
 use storage::Task;
 use vm::Allowed;
@@ -77,6 +81,14 @@ fn allowed(machine: Machine, sound: bool, verb: Verb) -> Allowed
     }
 }
 
+// The machine at its code's start.
+fn rewound(machine: Machine) -> Machine
+    ensures { λ r. ⌜ r ≡ rewound machine ⌝ }
+{
+    let registers = registers_of(machine);
+    settled(machine, moved(registers, 0, machine.height))
+}
+
 // The machine in a phase.
 fn phased(machine: Machine, phase: Phase) -> Machine
     ensures { λ r. ⌜ r ≡ phased machine phase ⌝ }
@@ -102,7 +114,7 @@ fn ended(machine: Machine, outcome: Outcome) -> Machine
     ensures { λ r. ⌜ r ≡ ended machine outcome ⌝ }
 {
     match outcome {
-        Outcome::Done => phased(turns::rewound(machine), Phase::Done),
+        Outcome::Done => phased(rewound(machine), Phase::Done),
         Outcome::Paused => phased(machine, Phase::Paused),
         Outcome::Refused(_) => phased(machine, Phase::Stopped),
     }

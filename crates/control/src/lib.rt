@@ -1,18 +1,16 @@
-// Opcodes that choose where the run goes on: DO, LOOP, LOOP_INDEX, JUMP_IF_FALSE.
+// The opcodes of loops: DO, LOOP, LOOP_INDEX.
 ghost use mathlib.Core.Path.{_≡_};
 ghost use Prim.Native.Nat.{_<_};
 ghost use Rattle.inlinevec.specs.Stacks.{of-loops, to-loops, last-two, change-two, pop-two};
 ghost use Rattle.opcodes.specs.Registers.{on-stack};
-ghost use Rattle.opcodes.specs.Control.{looping, opened-to, op-do, op-loop, op-loop-index, op-jump-if-false};
+ghost use Rattle.opcodes.specs.Control.{looping, opened-to, op-do, op-loop, op-loop-index};
 use errors::Refusal;
 use inlinevec::Loop;
 use inlinevec::Loops;
 use inlinevec::LoopsResult;
-use inlinevec::PopResult;
 use opcodes::Did;
 use opcodes::PopTwoResult;
 use opcodes::Registers;
-use opcodes::stack::moved;
 use opcodes::stack::pop_two;
 use opcodes::stack::push_value;
 
@@ -55,7 +53,7 @@ pub fn op_do(stack: &[u64; 1000], registers: Registers, next: usize) -> Did
                 limit: values::to_u32(limit),
             };
             let loops = registers.loops;
-            opened_to(registers, next, height, inlinevec::push_loop(loops, opened))
+            opened_to(registers, next, height, loops::push_loop(loops, opened))
         }
     }
 }
@@ -134,21 +132,6 @@ pub fn op_loop_index(stack: &mut [u64; 1000], registers: Registers, next: usize)
         registers,
         next,
         registers.height,
-        values::to_u32_val(last.index),
+        boxing::to_u32_val(last.index),
     )
-}
-
-// JUMP_IF_FALSE, its operand being there.
-pub fn op_jump_if_false(stack: &[u64; 1000], registers: Registers, next: usize, target: u32) -> Did
-    ensures { λ r. ⌜ r ≡ op-jump-if-false (now (stack .entry)) registers next target ⌝ }
-{
-    match inlinevec::pop(stack, registers.height) {
-        PopResult::NotPopped(refusal) => Did::Refused(refusal),
-        PopResult::Popped { value, height } => {
-            if value == values::to_bool_val(false) {
-                return Did::Next(moved(registers, target as usize, height));
-            }
-            Did::Next(moved(registers, next, height))
-        }
-    }
 }

@@ -48,7 +48,7 @@ fn cut_jump(stack: &[u64; 1000], registers: Registers) -> Did
     match inlinevec::pop(stack, registers.height) {
         PopResult::NotPopped(refusal) => Did::Refused(refusal),
         PopResult::Popped { value, height } => {
-            if value == values::to_bool_val(false) {
+            if value == boxing::to_bool_val(false) {
                 return Did::Refused(Refusal::UnexpectedEOB);
             }
             Did::Next(moved(registers, registers.place + 5, height))

@@ -13,12 +13,11 @@ use crate::operated::m_sti;
 use crate::operated::muli;
 use crate::operated::push_u8;
 use crate::operated::push_u32;
-use arithmetic::op_compare;
 use arithmetic::op_mul;
 use bytecode::Extent;
+use bytecode::extents::extent;
+use bytecode::extents::operand_sizes;
 use bytecode::opcodes::*;
-use bytecode::operands::extent;
-use bytecode::operands::operand_sizes;
 use control::op_do;
 use control::op_loop;
 use control::op_loop_index;
@@ -27,9 +26,10 @@ use mutation::op_m_muta;
 use opcodes::Did;
 use opcodes::Registers;
 use opcodes::stack::moved;
+use ordering::op_compare;
+use pushes::op_dup;
+use pushes::op_push;
 use stack::op_drop;
-use stack::op_dup;
-use stack::op_push;
 use stack::op_swap;
 
 // Over the stack alone. Bytes without an opcode, and S_LOAD, do nothing.

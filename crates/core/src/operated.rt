@@ -5,13 +5,13 @@ ghost use Rattle.opcodes.specs.Registers.{on-stack, on-memory};
 ghost use Rattle.core.specs.Operated.{push-u32, push-u8, muli, jump-if-false, m-st, m-sti-of, m-sti};
 use arithmetic::op_muli;
 use bytecode::OperandResult;
-use bytecode::operands::prepare_u8;
-use bytecode::operands::prepare_u16_from_be_checked;
-use bytecode::operands::prepare_u32_from_be_checked;
-use control::op_jump_if_false;
+use jumps::op_jump_if_false;
 use opcodes::Did;
 use opcodes::Registers;
-use stack::op_push;
+use operands::prepare_u8;
+use operands::prepare_u16_from_be_checked;
+use operands::prepare_u32_from_be_checked;
+use pushes::op_push;
 use store::op_m_st;
 use store::store;
 

@@ -2,10 +2,10 @@
 ghost use mathlib.Core.Path.{_≡_};
 ghost use lib.ListN.{length};
 ghost use Rattle.creation.specs.Creation.{creation-tests};
+use capacity::has_room;
 use errors::Refusal;
 use image::ImageResult;
 use image::reading::test_image;
-use pools::has_room;
 
 // What creation's tests answer: the image's next id, its task count and S_LEN, or the refusal.
 pub enum CreationResult {

@@ -20,7 +20,7 @@ fn eq_vectors(memory: &[u8], left: u64, right: u64) -> ValueResult
         PointerResult::NoPointer(refusal) => ValueResult::NoValue(refusal),
         PointerResult::Pointer(from) => match values::to_fat_pointer(right) {
             PointerResult::NoPointer(refusal) => ValueResult::NoValue(refusal),
-            PointerResult::Pointer(to) => memory::reads::is_m_slice_eq(memory, from, to),
+            PointerResult::Pointer(to) => tested_reads::is_m_slice_eq(memory, from, to),
         },
     }
 }
@@ -33,7 +33,7 @@ fn eq_tagged(memory: &[u8], left: u64, right: u64, left_tag: u64, right_tag: u64
         if values::is_vec(left) {
             return eq_vectors(memory, left, right);
         }
-        return calculations::value_eq(left, right);
+        return comparison::value_eq(left, right);
     }
     ValueResult::NoValue(Refusal::TypeMismatch)
 }

@@ -77,31 +77,13 @@ pub fn details_of(refusal: Refusal) -> Details
     ensures { λ r. ⌜ listed r ≡ details-of refusal ⌝ }
 {
     match refusal {
-        Refusal::EmptyInstructions => Details::Nothing,
-        Refusal::UnexpectedEOB => Details::Nothing,
-        Refusal::StackUnderflow => Details::Nothing,
-        Refusal::StackOverflow => Details::Nothing,
-        Refusal::InvalidType => Details::Nothing,
-        Refusal::TypeMismatch => Details::Nothing,
-        Refusal::MultiplicationOverflowed => Details::Nothing,
-        Refusal::MaxStatesError => Details::Nothing,
         Refusal::TaskNotFound(id) => Details::One(id as usize),
         Refusal::InvalidTaskField(field) => Details::One(field as usize),
         Refusal::InvalidStatus(state) => Details::One(state as usize),
         Refusal::InvalidInstructionsIndex(index) => Details::One(index as usize),
-        Refusal::MSliceParamOverflow => Details::Nothing,
         Refusal::MSliceOutOfBounds { index, size } => Details::Two(index as usize, size as usize),
-        Refusal::BytesToStringConversionError => Details::Nothing,
-        Refusal::AlignmentMismatch => Details::Nothing,
-        Refusal::SliceSizeMismatch => Details::Nothing,
-        Refusal::TableFull => Details::Nothing,
-        Refusal::TitleTooLong => Details::Nothing,
-        Refusal::PoolFull => Details::Nothing,
-        Refusal::MemoryTooShort => Details::Nothing,
-        Refusal::SaveBufferTooShort => Details::Nothing,
         Refusal::BadImage(place) => Details::One(place),
-        Refusal::WrongPhaseOrUnsound => Details::Nothing,
         Refusal::NotAdmitted(place) => Details::One(place),
-        Refusal::ProgramTooLong => Details::Nothing,
+        _ => Details::Nothing,
     }
 }

@@ -9,14 +9,14 @@ ghost use Rattle.labels.specs.declared.Exchange.the-variants.{Adds, Turns, Gets
 ghost use Rattle.elements.specs.Found.{found-by};
 use bytecode::Extent;
 use bytecode::OperandResult;
+use bytecode::extents::extent;
 use bytecode::opcodes::*;
-use bytecode::operands::extent;
-use bytecode::operands::prepare_u32_from_be_checked;
 use elements::Found;
 use labels::Element;
 use labels::Exchange;
 use labels::Kind;
 use labels::KindResult;
+use operands::prepare_u32_from_be_checked;
 
 // The byte at a place, 0 past the end.
 fn byte_at(code: &[u8], at: usize) -> u8
@@ -32,29 +32,23 @@ fn byte_at(code: &[u8], at: usize) -> u8
 fn tag_kind(tag: u8) -> KindResult
     ensures { λ r. ⌜ r ≡ tag-kind tag ⌝ }
 {
-    if tag == 4 {
-        return KindResult::Known(Kind::Text);
+    match tag {
+        4 => KindResult::Known(Kind::Text),
+        6 => KindResult::Known(Kind::Numbers),
+        _ => KindResult::Unknown,
     }
-    if tag == 6 {
-        return KindResult::Known(Kind::Numbers);
-    }
-    KindResult::Unknown
 }
 
 // The kind of a task's field.
 fn field_kind(field: u8) -> KindResult
     ensures { λ r. ⌜ r ≡ field-kind field ⌝ }
 {
-    if field == 0 {
-        return KindResult::Known(Kind::Text);
+    match field {
+        0 => KindResult::Known(Kind::Text),
+        1 => KindResult::Known(Kind::Number),
+        2 => KindResult::Known(Kind::Calldata),
+        _ => KindResult::Unknown,
     }
-    if field == 1 {
-        return KindResult::Known(Kind::Number);
-    }
-    if field == 2 {
-        return KindResult::Known(Kind::Calldata);
-    }
-    KindResult::Unknown
 }
 
 // M_STI.
@@ -106,13 +100,11 @@ fn field_element(code: &[u8], at: usize) -> Element
     ensures { λ r. ⌜ r ≡ field-element (now (code .entry)) at ⌝ }
 {
     let behind = byte_at(code, at + 2);
-    if behind == T_GET_FIELD {
-        return get_element(byte_at(code, at + 1));
+    match behind {
+        T_GET_FIELD => get_element(byte_at(code, at + 1)),
+        T_SET_FIELD => set_element(byte_at(code, at + 1)),
+        _ => Element::Kinds(Exchange::Adds(Kind::Number)),
     }
-    if behind == T_SET_FIELD {
-        return set_element(byte_at(code, at + 1));
-    }
-    Element::Kinds(Exchange::Adds(Kind::Number))
 }
 
 // JUMP_IF_FALSE.
@@ -129,68 +121,36 @@ fn jump_element(code: &[u8], at: usize) -> Element
 fn moving_element(op: u8) -> Element
     ensures { λ r. ⌜ r ≡ moving-element op ⌝ }
 {
-    if op == DO {
-        return Element::Do;
+    match op {
+        DO => Element::Do,
+        LOOP => Element::Loop,
+        LOOP_INDEX => Element::LoopIndex,
+        DUP => Element::Kinds(Exchange::Dup),
+        SWAP => Element::Kinds(Exchange::Swap),
+        DROP => Element::Kinds(Exchange::Drop),
+        CALL => Element::NoRule,
+        T_GET_FIELD => Element::NoRule,
+        T_SET_FIELD => Element::NoRule,
+        _ => Element::Kinds(Exchange::Unchanged),
     }
-    if op == LOOP {
-        return Element::Loop;
-    }
-    if op == LOOP_INDEX {
-        return Element::LoopIndex;
-    }
-    if op == DUP {
-        return Element::Kinds(Exchange::Dup);
-    }
-    if op == SWAP {
-        return Element::Kinds(Exchange::Swap);
-    }
-    if op == DROP {
-        return Element::Kinds(Exchange::Drop);
-    }
-    if op == CALL {
-        return Element::NoRule;
-    }
-    if op == T_GET_FIELD {
-        return Element::NoRule;
-    }
-    if op == T_SET_FIELD {
-        return Element::NoRule;
-    }
-    Element::Kinds(Exchange::Unchanged)
 }
 
 // An opcode without operands.
 fn plain_element(op: u8) -> Element
     ensures { λ r. ⌜ r ≡ plain-element op ⌝ }
 {
-    if op == S_LEN {
-        return Element::Kinds(Exchange::Adds(Kind::Number));
+    match op {
+        S_LEN => Element::Kinds(Exchange::Adds(Kind::Number)),
+        MUL => Element::Kinds(Exchange::Joins(Kind::Number)),
+        T_CREATE => Element::Kinds(Exchange::Creates),
+        T_DELETE => Element::Kinds(Exchange::Takes(Kind::Number)),
+        EQ => Element::Kinds(Exchange::Compares),
+        NEQ => Element::Kinds(Exchange::Compares),
+        LT => Element::Kinds(Exchange::Joins(Kind::Boolean)),
+        GT => Element::Kinds(Exchange::Joins(Kind::Boolean)),
+        M_MUTA => Element::Kinds(Exchange::Changes),
+        _ => moving_element(op),
     }
-    if op == MUL {
-        return Element::Kinds(Exchange::Joins(Kind::Number));
-    }
-    if op == T_CREATE {
-        return Element::Kinds(Exchange::Creates);
-    }
-    if op == T_DELETE {
-        return Element::Kinds(Exchange::Takes(Kind::Number));
-    }
-    if op == EQ {
-        return Element::Kinds(Exchange::Compares);
-    }
-    if op == NEQ {
-        return Element::Kinds(Exchange::Compares);
-    }
-    if op == LT {
-        return Element::Kinds(Exchange::Joins(Kind::Boolean));
-    }
-    if op == GT {
-        return Element::Kinds(Exchange::Joins(Kind::Boolean));
-    }
-    if op == M_MUTA {
-        return Element::Kinds(Exchange::Changes);
-    }
-    moving_element(op)
 }
 
 // The element at a place where it is whole.
@@ -198,37 +158,21 @@ fn whole_element(code: &[u8], at: usize, op: u8) -> Element
     requires { ⌜ at < length (now code) ⌝ }
     ensures { λ r. ⌜ r ≡ whole-element (now (code .entry)) at op ⌝ }
 {
-    if op == PUSH_U32 {
-        return Element::Kinds(Exchange::Adds(Kind::Number));
-    }
-    if op == PUSH_STATE {
-        return Element::Kinds(Exchange::Adds(Kind::Number));
-    }
-    if op == PUSH_MAX_STATES {
-        return Element::Kinds(Exchange::Adds(Kind::Number));
-    }
-    if op == PUSH_TASK_FIELD {
-        return field_element(code, at);
-    }
-    if op == PUSH_CALLDATA {
-        return Element::Kinds(Exchange::Adds(Kind::Calldata));
-    }
-    if op == MULI {
-        return Element::Kinds(Exchange::Turns {
+    match op {
+        PUSH_U32 => Element::Kinds(Exchange::Adds(Kind::Number)),
+        PUSH_STATE => Element::Kinds(Exchange::Adds(Kind::Number)),
+        PUSH_MAX_STATES => Element::Kinds(Exchange::Adds(Kind::Number)),
+        PUSH_TASK_FIELD => field_element(code, at),
+        PUSH_CALLDATA => Element::Kinds(Exchange::Adds(Kind::Calldata)),
+        MULI => Element::Kinds(Exchange::Turns {
             taken: Kind::Number,
             given: Kind::Number,
-        });
+        }),
+        M_STI => m_sti_element(byte_at(code, at + 3)),
+        M_ST => m_st_element(byte_at(code, at + 1)),
+        JUMP_IF_FALSE => jump_element(code, at + 1),
+        _ => plain_element(op),
     }
-    if op == M_STI {
-        return m_sti_element(byte_at(code, at + 3));
-    }
-    if op == M_ST {
-        return m_st_element(byte_at(code, at + 1));
-    }
-    if op == JUMP_IF_FALSE {
-        return jump_element(code, at + 1);
-    }
-    plain_element(op)
 }
 
 // Whether PUSH_TASK_FIELD stands at a place, directly followed by T_GET_FIELD or T_SET_FIELD.

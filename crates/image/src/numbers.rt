@@ -3,7 +3,6 @@ ghost use mathlib.Core.Path.{_≡_};
 ghost use Prim.Native.Nat.{_<_};
 ghost use lib.ListN.{getD};
 ghost use Rattle.image.specs.Numbers.{number-at};
-ghost use Rattle.image.specs.Reading.{on};
 
 // A byte as a number.
 fn wide(byte: u8) -> usize
@@ -36,17 +35,4 @@ pub(crate) fn u32_at(bytes: &[u8], place: usize) -> u32
     ensures { λ r. ⌜ (r ≡ number-at 4 (now (bytes .entry)) place) × (r < 4294967296) ⌝ }
 {
     (u16_at(bytes, place) + u16_at(bytes, place + 2) * 65536) as u32
-}
-
-// A place so many bytes on, as far as there are.
-pub fn on(length: usize, place: usize, count: usize) -> usize
-    ensures { λ r. ⌜ r ≡ on length place count ⌝ }
-{
-    if length <= place {
-        return length;
-    }
-    if length - place < count {
-        return length;
-    }
-    place + count
 }

@@ -4,10 +4,10 @@ ghost use Prim.Native.Nat.{_+_, _<_, _≤_};
 ghost use lib.ListN.{length, set, take, drop};
 ghost use lib.Seq.{paste};
 ghost use Rattle.pools.specs.Pool.{new-entry, pooled, interned, part-in-use};
+use capacity::has_room;
 use errors::Refusal;
 use pools::InstructionsRef;
 use pools::InternResult;
-use pools::has_room;
 use pools::smaller;
 
 // Writes a part of the pool once more, behind it.
@@ -48,7 +48,7 @@ pub fn intern_instructions(
 {
     let size = calldata.len();
     if has_room(pool.len(), bytes, entries, size) {
-        slices::write(pool, calldata, bytes);
+        writes::write(pool, calldata, bytes);
         return new_entry(ends, entries, bytes + size);
     }
     InternResult::NotInterned(Refusal::PoolFull)

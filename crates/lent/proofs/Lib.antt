@@ -1,6 +1,9 @@
 pub mod Again
-pub mod Lent
+pub mod Chosen
+pub mod Emptied
+pub mod Freed
 pub mod Landed
+pub mod Lent
 pub mod Opened
 pub mod Rest
 pub mod Shut

@@ -1,4 +1,4 @@
-// Linear memory: what allocation, change and reads answer; a vector's part, whether it can be read, and equality of two vectors.
+// Linear memory: what allocation, change and reads answer; a vector's part, and whether it lies in the memory in use.
 pub mod reads;
 
 use errors::Refusal;

@@ -1,14 +1,11 @@
 // The pool of instructions: entries end to end in lent bytes, told apart by their ends.
 ghost use mathlib.Core.Path.{_≡_};
 ghost use Prim.Native.Nat.{min};
-ghost use Rattle.pools.specs.Pool.{start-of, end-of, bounds, entry-of, has-room, never-fall, end-to-end};
+ghost use Rattle.pools.specs.Pool.{start-of, end-of, bounds, entry-of, never-fall, end-to-end};
 use errors::Refusal;
 
-// The bytes that a pool holds at most.
-const POOL_BYTES: usize = 65536;
-
 // The entries that a pool holds at most.
-const POOL_ENTRIES: usize = 1024;
+pub const POOL_ENTRIES: usize = 1024;
 
 // Which entry of the pool.
 pub struct InstructionsRef(pub u32);
@@ -87,20 +84,6 @@ pub fn get<'a>(pool: &'a [u8], ends: &[u32; 1024], entry: InstructionsRef) -> &'
     let end = smaller(end_of(ends, index), pool.len());
     let start = smaller(start_of(ends, index), end);
     &pool[start..end]
-}
-
-// Whether a pool of the lent length takes one more entry of a size.
-pub fn has_room(lent: usize, bytes: usize, entries: usize, size: usize) -> bool
-    ensures { λ r. ⌜ r ≡ has-room lent bytes entries size ⌝ }
-{
-    let room = smaller(POOL_BYTES, lent);
-    if POOL_ENTRIES <= entries {
-        return false;
-    }
-    if room < bytes {
-        return false;
-    }
-    size <= room - bytes
 }
 
 // Whether no end is below the one before it.

@@ -1,3 +1,3 @@
-// The records of a table's image: a slot is measured and written.
+// The records of a table's image: a slot is written.
 pub mod steps;
 pub mod writing;

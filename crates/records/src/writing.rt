@@ -1,22 +1,19 @@
-// Writing: a task's record is measured, and written from a place on.
+// Writing: a task's record is written from a place on.
 ghost use mathlib.Core.Path.{_≡_};
 ghost use mathlib.Core.List.{_∷_, _++_};
 ghost use Prim.Native.Nat.{_%_};
 ghost use Rattle.image.specs.Numbers.{little-endian};
 ghost use Rattle.image.specs.Image.{framed, body, header};
 ghost use Rattle.image.specs.Slots.{saved-task};
-ghost use Rattle.image.specs.Writing.{put, puts, size-of, measure};
-use errors::Refusal;
-use image::SizeResult;
-use image::numbers::on;
-use pools::BoundsResult;
+ghost use Rattle.image.specs.Writing.{put, puts};
+use places::on;
 use storage::Task;
 
 // Writes bytes from a place on, as far as the buffer reaches, and answers the place behind them.
 fn put(save: &mut [u8], bytes: &[u8], at: usize) -> usize
     ensures { λ r. ⌜ put r (now (save .exit)) ≡ puts (now (save .entry)) at (now (bytes .entry)) ⌝ }
 {
-    slices::write(save, bytes, at);
+    writes::write(save, bytes, at);
     on(save.len(), at, bytes.len())
 }
 
@@ -92,30 +89,4 @@ pub fn write_header(save: &mut [u8], next_id: u32, count: usize) -> usize
 {
     let first = heading(next_id as usize, count);
     put(save, &first, 0)
-}
-
-// The size of a task's record, where its title is UTF-8.
-fn size_of(instructions: &[u8], task: Task) -> SizeResult
-    ensures { λ r. ⌜ r ≡ size-of (saved-task task (now (instructions .entry))) ⌝ }
-{
-    let held = task.title;
-    let title = slices::part(&held, 0, task.title_len);
-    let size = 14 + title.len() + instructions.len();
-    if utf8::is_utf8(title) {
-        return SizeResult::Size(size);
-    }
-    SizeResult::NoSize(Refusal::BytesToStringConversionError)
-}
-
-// The size of a task's record: 12 where its reference names no entry, then 15 where its title is not UTF-8.
-pub fn measure(pool: &[u8], ends: &[u32; 1024], entries: usize, task: Task) -> SizeResult
-    ensures { λ r. ⌜ r ≡ measure (now (pool .entry)) (now (ends .entry)) entries task ⌝ }
-{
-    let reference = task.instructions_ref;
-    match pools::bounds(ends, entries, reference) {
-        BoundsResult::NoBounds(refusal) => SizeResult::NoSize(refusal),
-        BoundsResult::Bounds { start: _, end: _ } => {
-            size_of(pools::get(pool, ends, reference), task)
-        }
-    }
 }

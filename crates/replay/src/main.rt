@@ -191,7 +191,7 @@ fn fitting(room: &[u8], size: usize) -> usize
 
 // Copies bytes to the front of a room.
 fn copy(room: &mut [u8], bytes: &[u8]) {
-    slices::write(room, bytes, 0);
+    writes::write(room, bytes, 0);
 }
 
 // Performs a case.

@@ -1,9 +1,8 @@
 // What `replay` prints beside the listing, a line at a time into a lent buffer.
 ghost use mathlib.Core.Path.{_≡_};
 ghost use Rattle.text.specs.Lines.{said, lined, put-line};
-ghost use Rattle.report.specs.Reports.{line-of-report, text-of-word};
+ghost use Rattle.report.specs.Reports.{line-of-report};
 use core::Machine;
-use errors::Refusal;
 use inlinevec::Frame;
 use inlinevec::Loop;
 use text::Form;
@@ -22,7 +21,7 @@ pub enum Report {
     BadBatch(usize),
 }
 
-// The words around bytes in hex.
+// The words around bytes in hex, which `report_words` puts there.
 pub enum Word {
     Memory,
     Image,
@@ -79,27 +78,5 @@ pub fn report_line(out: &mut [u8], report: Report) -> LineResult
             )
         }
         Report::BadBatch(at) => say(out, b"bad batch at #", &[at as u64]),
-    }
-}
-
-// Bytes as they are at the buffer's start.
-fn put_bytes(out: &mut [u8], bytes: &[u8]) -> LineResult
-    ensures { λ r. ⌜ lined r (now (out .exit)) ≡ put-line (now (out .entry)) (now (bytes .entry)) ⌝ }
-{
-    if bytes.len() <= out.len() {
-        slices::write(out, bytes, 0);
-        return LineResult::Line(bytes.len());
-    }
-    LineResult::NoLine(Refusal::SaveBufferTooShort)
-}
-
-// A word before bytes in hex, or the line feed behind them.
-pub fn put_word(out: &mut [u8], word: Word) -> LineResult
-    ensures { λ r. ⌜ lined r (now (out .exit)) ≡ put-line (now (out .entry)) (text-of-word word) ⌝ }
-{
-    match word {
-        Word::Memory => put_bytes(out, b"memory "),
-        Word::Image => put_bytes(out, b"image "),
-        Word::LineEnd => put_bytes(out, b"\n"),
     }
 }

@@ -1,4 +1,6 @@
 // The run of a machine over everything lent to it: the functions that carry the lent table of tasks from instruction to instruction.
+mod gone;
+
 ghost use mathlib.Core.Path.{_≡_};
 ghost use Rattle.tasks.specs.Changes.{applied};
 ghost use Rattle.runs.specs.World.{world};
@@ -40,7 +42,7 @@ fn act_turn(
     let task = table::get(table, gone.slot);
     let acted = act(stack, memory, pool, ends, gone.machine, task);
     apply(table, gone.slot, acted.change);
-    turns::turned(gone.machine, gone.left, acted.went)
+    crate::gone::turned(gone.machine, gone.left, acted.went)
 }
 
 // S_SAVE, at hand.
@@ -61,7 +63,7 @@ fn save_turn(
         gone.machine.entries,
         gone.machine.next_id,
     );
-    turns::saved(gone.machine, gone.left, result)
+    crate::gone::saved(gone.machine, gone.left, result)
 }
 
 // The instruction at hand; a machine that is at its outcome stays as it is.
@@ -98,11 +100,11 @@ pub fn drive(
 ) -> Ran
     ensures { λ r. ⌜ ran-to r (now (table .exit)) (now (stack .exit)) (now (memory .exit)) (now (pool .exit)) (now (ends .exit)) (now (save .exit)) ≡ run fuel (world machine (now (table .entry)) (now (stack .entry)) (now (memory .entry)) (now (pool .entry)) (now (ends .entry)) (now (save .entry))) ⌝ }
 {
-    let mut gone = turns::begun(machine, fuel);
+    let mut gone = crate::gone::begun(machine, fuel);
     while gone.running {
         gone = advance(stack, memory, pool, ends, gone.machine, gone.left);
         let next = turn(table, stack, memory, pool, ends, save, gone);
         gone = next;
     }
-    turns::ran(gone)
+    crate::gone::ran(gone)
 }

@@ -14,12 +14,12 @@ use crate::asked::ran;
 use crate::asked::saved;
 use crate::asked::verb_at;
 use crate::asked::verb_of;
+use answer_lines::show_answer;
 use core::Machine;
+use machine_lines::show_machine;
 use printing::Answered;
-use printing::show_answer;
 use printing::show_count;
 use printing::show_creation;
-use printing::show_machine;
 use printing::show_task;
 use storage::Task;
 

@@ -1,5 +1,4 @@
 pub mod Records
 pub mod Titles
-pub mod Setting
 pub mod Laws
 pub mod Soundness

@@ -1,6 +1,6 @@
-// T_CREATE and T_DELETE.
+// T_CREATE.
 ghost use mathlib.Core.Path.{_≡_};
-ghost use Rattle.tasks.specs.Create.{new, titled, op-t-create, op-t-delete};
+ghost use Rattle.tasks.specs.Create.{new, titled, op-t-create};
 use inlinevec::PopResult;
 use memory::ReadResult;
 use opcodes::Did;
@@ -10,7 +10,6 @@ use opcodes::stack::moved;
 use opcodes::stack::pop_two;
 use pools::InstructionsRef;
 use storage::DefaultResult;
-use storage::FindResult;
 use storage::RoomResult;
 use storage::Task;
 use storage::TaskId;
@@ -18,7 +17,7 @@ use storage::TaskState;
 use tasks::Tasked;
 use tasks::changes::put;
 use tasks::changes::refused;
-use tasks::titles::within;
+use titles::within;
 use values::FatPointer;
 use values::PointerResult;
 
@@ -95,7 +94,7 @@ pub fn op_t_create(
             first: reference,
             second: count,
             height,
-        } => match storage::task_types::default_state((values::to_u32(count) % 256) as u8) {
+        } => match states::default_state((values::to_u32(count) % 256) as u8) {
             DefaultResult::NoState(refusal) => refused(task, refusal),
             DefaultResult::State(state) => titled(
                 stack,
@@ -107,23 +106,5 @@ pub fn op_t_create(
                 task,
             ),
         },
-    }
-}
-
-// T_DELETE: the id is on top; the task of its slot is given.
-pub fn op_t_delete(stack: &[u64; 1000], registers: Registers, next: usize, task: Task) -> Tasked
-    ensures { λ r. ⌜ r ≡ op-t-delete (now (stack .entry)) registers next task ⌝ }
-{
-    match inlinevec::pop(stack, registers.height) {
-        PopResult::NotPopped(refusal) => refused(task, refusal),
-        PopResult::Popped { value, height } => {
-            match ids::find(task, TaskId(values::to_u32(value))) {
-                FindResult::NotFound(refusal) => refused(task, refusal),
-                FindResult::Found => Tasked {
-                    did: Did::Next(moved(registers, next, height)),
-                    change: put(storage::task_types::blank()),
-                },
-            }
-        }
     }
 }

@@ -20,8 +20,8 @@ use tasks::Tasked;
 use tasks::changes::put;
 use tasks::changes::refused;
 use tasks::changes::restate;
-use tasks::titles::title_length;
-use tasks::titles::within;
+use titles::title_length;
+use titles::within;
 use values::FatPointer;
 use values::PointerResult;
 
@@ -90,10 +90,10 @@ fn get_field(
         );
     }
     if field == 1 {
-        let state = values::to_u32_val(task.state.state as u32);
+        let state = boxing::to_u32_val(task.state.state as u32);
         return push_value(stack, registers, next, height, state);
     }
-    let calldata = values::to_calldata_val(task.instructions_ref.0);
+    let calldata = boxing::to_calldata_val(task.instructions_ref.0);
     push_value(stack, registers, next, height, calldata)
 }
 
@@ -144,7 +144,7 @@ fn set_title(memory: &[u8], after: Registers, pointer: FatPointer, task: Task) -
 fn set_state(after: Registers, state: u32, task: Task) -> Tasked
     ensures { λ r. ⌜ r ≡ set-state after state task ⌝ }
 {
-    let stated = storage::task_types::with_state(task.state, state);
+    let stated = states::with_state(task.state, state);
     let answer = stated.answer;
     match answer {
         StateResult::NotSet(refusal) => refused(task, refusal),

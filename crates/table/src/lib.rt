@@ -38,7 +38,7 @@ pub fn set_state_at(table: &mut [Task], slot: usize, new_state: u32) -> StateRes
     ensures { λ r. ⌜ after r (now (table .exit)) ≡ set-state-at (now (table .entry)) slot «new_state» ⌝ }
 {
     if slot < table.len() {
-        return task_types::set_state(&mut table[slot], new_state);
+        return states::set_state(&mut table[slot], new_state);
     }
-    task_types::no_such_state(new_state)
+    states::no_such_state(new_state)
 }

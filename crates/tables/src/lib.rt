@@ -79,7 +79,7 @@ fn measure_next(
             count,
         },
         SizeResult::Size(so_far) => MeasuredTable {
-            size: steps::measure_slot(pool, ends, task, entries, limit, so_far),
+            size: sizes::measure_slot(pool, ends, task, entries, limit, so_far),
             count,
         },
     }

@@ -1,6 +1,5 @@
-// What the opcodes that need a task answer, what they change in its slot, and the titles that they read.
+// What the opcodes that need a task answer, and what they change in its slot.
 pub mod changes;
-pub mod titles;
 
 use errors::Refusal;
 use opcodes::Did;

@@ -26,7 +26,7 @@ fn unbox_text(memory: &[u8], value: u64) -> Return
 {
     match values::to_fat_pointer(value) {
         PointerResult::NoPointer(refusal) => Return::NoReturn(refusal),
-        PointerResult::Pointer(pointer) => match memory::reads::get_slice_as_str(memory, pointer) {
+        PointerResult::Pointer(pointer) => match tested_reads::get_slice_as_str(memory, pointer) {
             ReadResult::NotReadable(refusal) => Return::NoReturn(refusal),
             ReadResult::Readable => Return::String(pointer),
         },
@@ -39,7 +39,7 @@ fn unbox_numbers(memory: &[u8], value: u64) -> Return
 {
     match values::to_fat_pointer(value) {
         PointerResult::NoPointer(refusal) => Return::NoReturn(refusal),
-        PointerResult::Pointer(pointer) => match memory::reads::get_slice_as_u32(memory, pointer) {
+        PointerResult::Pointer(pointer) => match tested_reads::get_slice_as_u32(memory, pointer) {
             ReadResult::NotReadable(refusal) => Return::NoReturn(refusal),
             ReadResult::Readable => Return::VecU32(pointer),
         },
@@ -61,11 +61,11 @@ fn unbox_calldata(ends: &[u32; 1024], entries: usize, value: u64) -> Return
 pub fn unbox_value(memory: &[u8], ends: &[u32; 1024], entries: usize, value: u64) -> Return
     ensures { λ r. ⌜ r ≡ unbox-value (now (memory .entry)) (now (ends .entry)) entries value ⌝ }
 {
-    match values::get_value_type(value) {
+    match kinds::get_value_type(value) {
         ValueType::U32 => Return::U32(values::to_u32(value)),
         ValueType::String => unbox_text(memory, value),
         ValueType::CallData => unbox_calldata(ends, entries, value),
-        ValueType::Boolean => Return::Boolean(value == values::to_bool_val(true)),
+        ValueType::Boolean => Return::Boolean(value == boxing::to_bool_val(true)),
         ValueType::VecU32 => unbox_numbers(memory, value),
         ValueType::Null => Return::Null,
         ValueType::NoType => Return::NoReturn(Refusal::InvalidType),

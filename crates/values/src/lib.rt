@@ -1,6 +1,6 @@
-// Boxed values: scalars and vectors in one word of 64 bits, written as sums, products of powers of two, quotients and remainders.
+// Boxed values: scalars and vectors in one word of 64 bits, and what is read of one, as quotients and remainders by powers of two.
 ghost use mathlib.Core.Path.{_≡_};
-ghost use Rattle.values.specs.Values.{make-scalar-tagged, make-vec-tagged, to-vec-val, to-u32-val, to-calldata-val, to-bool-val, is-qnan, is-scalar, is-vec, raw-tag, tag-of, is-u32-val, to-u32, fat-pointer, to-fat-pointer, vec-type, scalar-type, get-value-type};
+ghost use Rattle.values.specs.Values.{is-qnan, is-scalar, is-vec, raw-tag, tag-of, is-u32-val, to-u32, fat-pointer, to-fat-pointer};
 use errors::Refusal;
 
 pub const TAG_NULL: u64 = 1;
@@ -14,10 +14,6 @@ pub const TAG_STRING: u64 = 4;
 pub const TAG_CALLDATA: u64 = 5;
 
 pub const TAG_U32: u64 = 6;
-
-const QNAN: u64 = 0x7FFC000000000000;
-
-const SIGN_BIT: u64 = 0x8000000000000000;
 
 // Where a vector lies in memory: its first byte, and its size in bytes.
 pub struct FatPointer {
@@ -54,54 +50,6 @@ pub enum ValueType {
     NoType,
 }
 
-// A scalar: its tag, and its payload from bit 18.
-fn make_scalar_tagged(tag: u64, payload: u32) -> u64
-    ensures { λ r. ⌜ r ≡ make-scalar-tagged tag payload ⌝ }
-{
-    QNAN + (payload as u64) * 0x40000 + tag % 8
-}
-
-// A vector: its tag, its size from bit 9, its offset from bit 25.
-fn make_vec_tagged(offset: u32, size: u16, tag: u64) -> u64
-    ensures { λ r. ⌜ r ≡ make-vec-tagged offset size tag ⌝ }
-{
-    SIGN_BIT + QNAN + (offset % 0x2000000) as u64 * 0x2000000 + (size as u64) * 0x200 + tag % 8
-}
-
-// The box of a vector, whose offset must be below 2^25.
-pub fn to_vec_val(offset: usize, size: u16, tag: u64) -> ValueResult
-    ensures { λ r. ⌜ r ≡ to-vec-val offset size tag ⌝ }
-{
-    if offset < 0x2000000 {
-        return ValueResult::Value(make_vec_tagged(offset as u32, size, tag));
-    }
-    ValueResult::NoValue(Refusal::MSliceParamOverflow)
-}
-
-// The box of a number.
-pub fn to_u32_val(number: u32) -> u64
-    ensures { λ r. ⌜ r ≡ to-u32-val number ⌝ }
-{
-    make_scalar_tagged(TAG_U32, number)
-}
-
-// The box of a reference to an entry of the pool.
-pub fn to_calldata_val(index: u32) -> u64
-    ensures { λ r. ⌜ r ≡ to-calldata-val index ⌝ }
-{
-    make_scalar_tagged(TAG_CALLDATA, index)
-}
-
-// TRUE or FALSE.
-pub fn to_bool_val(b: bool) -> u64
-    ensures { λ r. ⌜ r ≡ to-bool-val b ⌝ }
-{
-    if b {
-        return make_scalar_tagged(TAG_TRUE, 0);
-    }
-    make_scalar_tagged(TAG_FALSE, 0)
-}
-
 // Whether a word is a boxed value.
 pub fn is_qnan(v: u64) -> bool
     ensures { λ r. ⌜ r ≡ is-qnan v ⌝ }
@@ -110,7 +58,7 @@ pub fn is_qnan(v: u64) -> bool
 }
 
 // Whether a word is a boxed scalar.
-fn is_scalar(v: u64) -> bool
+pub fn is_scalar(v: u64) -> bool
     ensures { λ r. ⌜ r ≡ is-scalar v ⌝ }
 {
     v / 0x4000000000000 == 0x1FFF
@@ -175,55 +123,4 @@ pub fn to_fat_pointer(v: u64) -> PointerResult
         return PointerResult::Pointer(fat_pointer(v));
     }
     PointerResult::NoPointer(Refusal::InvalidType)
-}
-
-// The type of a vector.
-fn vec_type(tag: u64) -> ValueType
-    ensures { λ r. ⌜ r ≡ vec-type tag ⌝ }
-{
-    if tag == TAG_U32 {
-        return ValueType::VecU32;
-    }
-    if tag == TAG_STRING {
-        return ValueType::String;
-    }
-    ValueType::NoType
-}
-
-// The type of a scalar.
-fn scalar_type(tag: u64) -> ValueType
-    ensures { λ r. ⌜ r ≡ scalar-type tag ⌝ }
-{
-    if tag == TAG_U32 {
-        return ValueType::U32;
-    }
-    if tag == TAG_CALLDATA {
-        return ValueType::CallData;
-    }
-    if tag == TAG_STRING {
-        return ValueType::String;
-    }
-    if tag == TAG_TRUE {
-        return ValueType::Boolean;
-    }
-    if tag == TAG_FALSE {
-        return ValueType::Boolean;
-    }
-    if tag == TAG_NULL {
-        return ValueType::Null;
-    }
-    ValueType::NoType
-}
-
-// The type of a value, if it has one.
-pub fn get_value_type(v: u64) -> ValueType
-    ensures { λ r. ⌜ r ≡ get-value-type v ⌝ }
-{
-    if is_vec(v) {
-        return vec_type(raw_tag(v));
-    }
-    if is_scalar(v) {
-        return scalar_type(raw_tag(v));
-    }
-    ValueType::NoType
 }

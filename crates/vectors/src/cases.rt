@@ -118,11 +118,11 @@ fn case_box(case: &[u8]) {
     let a = number(case, 2) as u32;
     let op = byte(case, 1);
     match op {
-        0 => say_value(ValueResult::Value(values::to_u32_val(a))),
-        1 => say_value(ValueResult::Value(values::to_calldata_val(a))),
-        2 => say_value(ValueResult::Value(values::to_bool_val(a == 1))),
-        3 => say_value(values::to_vec_val(a as usize, half(case, 6) as u16, 4)),
-        _ => say_value(values::to_vec_val(a as usize, half(case, 6) as u16, 6)),
+        0 => say_value(ValueResult::Value(boxing::to_u32_val(a))),
+        1 => say_value(ValueResult::Value(boxing::to_calldata_val(a))),
+        2 => say_value(ValueResult::Value(boxing::to_bool_val(a == 1))),
+        3 => say_value(boxing::to_vec_val(a as usize, half(case, 6) as u16, 4)),
+        _ => say_value(boxing::to_vec_val(a as usize, half(case, 6) as u16, 6)),
     }
 }
 
@@ -161,7 +161,7 @@ fn case_word(case: &[u8]) {
         PointerResult::NoPointer(refusal) => say_refusal(refusal),
     }
     say(b"type ");
-    say_type(values::get_value_type(v));
+    say_type(kinds::get_value_type(v));
 }
 
 // c: two words calculated with.
@@ -173,13 +173,13 @@ fn case_pair(case: &[u8]) {
     say(b"muli ");
     say_value(calculations::mul_checked_i(a, values::to_u32(b)));
     say(b"eq ");
-    say_value(calculations::value_eq(a, b));
+    say_value(comparison::value_eq(a, b));
     say(b"neq ");
-    say_value(calculations::value_neq(a, b));
+    say_value(comparison::value_neq(a, b));
     say(b"lt ");
-    say_value(calculations::value_cmp(a, b, true));
+    say_value(comparison::value_cmp(a, b, true));
     say(b"gt ");
-    say_value(calculations::value_cmp(a, b, false));
+    say_value(comparison::value_cmp(a, b, false));
 }
 
 // p: where an allocation would go, at any length in use.

@@ -6,7 +6,7 @@ use Rattle.act.proofs.enter.Statement.{statement}
 use Rattle.act.proofs.enter.Tie as tie
 use Rattle.act.proofs.enter.Reads as reads
 use Rattle.act.proofs.enter.Lts as lts
-use Rattle.inlinevec.proofs.push_frame.Reads as push-frame-reads
+use Rattle.frames.proofs.push_frame.Reads as push-frame-reads
 use Rattle.pools.proofs.bounds.Reads as bounds-reads
 
 bounds-requires : tie.Need-bounds-requires

@@ -5,7 +5,7 @@ use Rattle.act.proofs.intern_calldata.Statement.{statement}
 use Rattle.act.proofs.intern_calldata.Tie as tie
 use Rattle.act.proofs.intern_calldata.Reads as reads
 use Rattle.act.proofs.intern_calldata.Lts as lts
-use Rattle.bytecode.proofs.operands.prepare_u16_from_be_checked.Reads as prepare-u16-from-be-checked-reads
+use Rattle.operands.proofs.prepare_u16_from_be_checked.Reads as prepare-u16-from-be-checked-reads
 use Rattle.act.proofs.start_of.Reads as start-of-reads
 use Rattle.calls.proofs.machines.code_of.Reads as code-of-reads
 use Rattle.calls.proofs.machines.current.Reads as current-reads

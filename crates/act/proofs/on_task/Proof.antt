@@ -13,7 +13,7 @@ use Rattle.calls.proofs.machines.settled.Reads as settled-reads
 use Rattle.opcodes.proofs.stack.moved.Reads as moved-reads
 use Rattle.tasks.proofs.changes.keep.Reads as keep-reads
 use Rattle.t_create.proofs.op_t_create.Reads as op-t-create-reads
-use Rattle.t_create.proofs.op_t_delete.Reads as op-t-delete-reads
+use Rattle.t_delete.proofs.op_t_delete.Reads as op-t-delete-reads
 use Rattle.t_fields.proofs.op_t_set_field.Reads as op-t-set-field-reads
 
 registers-of-requires : tie.Need-registers-of-requires

@@ -8,7 +8,7 @@ use Rattle.act.proofs.op_end_call.Reads as reads
 use Rattle.act.proofs.op_end_call.Lts as lts
 use Rattle.calls.proofs.machines.registers_of.Reads as registers-of-reads
 use Rattle.calls.proofs.machines.settled.Reads as settled-reads
-use Rattle.inlinevec.proofs.pop_frame.Reads as pop-frame-reads
+use Rattle.frames.proofs.pop_frame.Reads as pop-frame-reads
 use Rattle.opcodes.proofs.stack.moved.Reads as moved-reads
 
 registers-of-requires : tie.Need-registers-of-requires

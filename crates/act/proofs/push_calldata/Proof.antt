@@ -8,7 +8,7 @@ use Rattle.act.proofs.push_calldata.Reads as reads
 use Rattle.act.proofs.push_calldata.Lts as lts
 use Rattle.act.proofs.intern_calldata.Reads as intern-calldata-reads
 use Rattle.act.proofs.with_entry.Reads as with-entry-reads
-use Rattle.values.proofs.to_calldata_val.Reads as to-calldata-val-reads
+use Rattle.boxing.proofs.to_calldata_val.Reads as to-calldata-val-reads
 
 returns : tie.Need-returns
 unfolding push-calldata calldata-pushed

@@ -12,8 +12,8 @@ use Rattle.act.proofs.reach.Tie as tie
 use Rattle.act.proofs.reach.Reads as reads
 use Rattle.act.proofs.reach.Lts as lts
 use Rattle.act.proofs.bare.Reads as bare-reads
-use Rattle.bytecode.proofs.operands.extent.Reads as extent-reads
-use Rattle.bytecode.proofs.operands.operand_sizes.Reads as operand-sizes-reads
+use Rattle.bytecode.proofs.extents.extent.Reads as extent-reads
+use Rattle.bytecode.proofs.extents.operand_sizes.Reads as operand-sizes-reads
 
 bare-requires : tie.Need-bare-requires
 bare-requires c κs = search needs

@@ -5,7 +5,7 @@ use Rattle.calling.proofs.ended.Statement.{statement}
 use Rattle.calling.proofs.ended.Tie as tie
 use Rattle.calling.proofs.ended.Reads as reads
 use Rattle.calling.proofs.ended.Lts as lts
-use Rattle.turns.proofs.rewound.Reads as rewound-reads
+use Rattle.calling.proofs.rewound.Reads as rewound-reads
 use Rattle.calling.proofs.phased.Reads as phased-reads
 
 enum-told : tie.Need-enum-told

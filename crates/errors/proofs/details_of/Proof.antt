@@ -1,31 +1,49 @@
 -- `errors::details_of` meets its contract.
+use Prim.Native.Nat.{ℕ}
+use mathlib.Core.List.{List, [], _∷_}
+use mathlib.Core.Path.{_≡_, refl}
 use borrow.Author.Needs.{needs}
+use denote.Enum.Declared.{tagOf}
+use types.Run.{OneOf, miss}
+use Rattle.errors.specs.declared.Refusal.{Refusal}
+use Rattle.errors.specs.declared.Refusal.the-variants.{EmptyInstructions, UnexpectedEOB, StackUnderflow, StackOverflow, InvalidType, TypeMismatch, MultiplicationOverflowed, MaxStatesError, TaskNotFound, InvalidTaskField, InvalidStatus, InvalidInstructionsIndex, MSliceParamOverflow, MSliceOutOfBounds, BytesToStringConversionError, AlignmentMismatch, SliceSizeMismatch, TableFull, TitleTooLong, PoolFull, MemoryTooShort, SaveBufferTooShort, BadImage, WrongPhaseOrUnsound, NotAdmitted, ProgramTooLong}
+use Rattle.errors.specs.Refusals.{details-of}
+use Rattle.errors.proofs.Refusal.{the-type}
 use Rattle.errors.proofs.details_of.Statement.{statement}
 use Rattle.errors.proofs.details_of.Tie as tie
 
-enum-told : tie.Need-enum-told
-enum-told c = search needs
+-- the places of the refusals without details among all
+abbrev plain : List ℕ
+plain = 0 ∷ 1 ∷ 2 ∷ 3 ∷ 4 ∷ 5 ∷ 6 ∷ 7 ∷ 12 ∷ 14 ∷ 15 ∷ 16 ∷ 17 ∷ 18 ∷ 19 ∷ 20 ∷ 21 ∷ 23 ∷ 25 ∷ []
 
-enum-told-2 : tie.Need-enum-told-2
-enum-told-2 c = search needs
-
-enum-told-3 : tie.Need-enum-told-3
-enum-told-3 c = search needs
-
-enum-told-4 : tie.Need-enum-told-4
-enum-told-4 c = search needs
-
-enum-told-5 : tie.Need-enum-told-5
-enum-told-5 c = search needs
-
-enum-told-6 : tie.Need-enum-told-6
-enum-told-6 c = search needs
-
-enum-told-7 : tie.Need-enum-told-7
-enum-told-7 c = search needs
-
-enum-told-8 : tie.Need-enum-told-8
-enum-told-8 c = search needs
+-- these have none
+nothing : (refusal : Refusal) → OneOf plain (tagOf the-type refusal) → [] ≡ details-of refusal
+nothing EmptyInstructions told = refl
+nothing UnexpectedEOB told = refl
+nothing StackUnderflow told = refl
+nothing StackOverflow told = refl
+nothing InvalidType told = refl
+nothing TypeMismatch told = refl
+nothing MultiplicationOverflowed told = refl
+nothing MaxStatesError told = refl
+nothing (TaskNotFound id) told = absurd (miss plain 8 tt told)
+nothing (InvalidTaskField field) told = absurd (miss plain 9 tt told)
+nothing (InvalidStatus state) told = absurd (miss plain 10 tt told)
+nothing (InvalidInstructionsIndex index) told = absurd (miss plain 11 tt told)
+nothing MSliceParamOverflow told = refl
+nothing (MSliceOutOfBounds index size) told = absurd (miss plain 13 tt told)
+nothing BytesToStringConversionError told = refl
+nothing AlignmentMismatch told = refl
+nothing SliceSizeMismatch told = refl
+nothing TableFull told = refl
+nothing TitleTooLong told = refl
+nothing PoolFull told = refl
+nothing MemoryTooShort told = refl
+nothing SaveBufferTooShort told = refl
+nothing (BadImage place) told = absurd (miss plain 22 tt told)
+nothing WrongPhaseOrUnsound told = refl
+nothing (NotAdmitted place) told = absurd (miss plain 24 tt told)
+nothing ProgramTooLong told = refl
 
 enum-known-refusal : tie.Need-enum-known-refusal
 enum-known-refusal c = search needs
@@ -51,9 +69,6 @@ enum-known-refusal-4 c = search needs
 cast-t14 : tie.Need-cast-t14
 cast-t14 c = search needs
 
-enum-told-9 : tie.Need-enum-told-9
-enum-told-9 c = search needs
-
 enum-known-refusal-5 : tie.Need-enum-known-refusal-5
 enum-known-refusal-5 c = search needs
 
@@ -63,158 +78,48 @@ cast-t15 c = search needs
 cast-t16 : tie.Need-cast-t16
 cast-t16 c = search needs
 
-enum-told-10 : tie.Need-enum-told-10
-enum-told-10 c = search needs
-
-enum-told-11 : tie.Need-enum-told-11
-enum-told-11 c = search needs
-
-enum-told-12 : tie.Need-enum-told-12
-enum-told-12 c = search needs
-
-enum-told-13 : tie.Need-enum-told-13
-enum-told-13 c = search needs
-
-enum-told-14 : tie.Need-enum-told-14
-enum-told-14 c = search needs
-
-enum-told-15 : tie.Need-enum-told-15
-enum-told-15 c = search needs
-
-enum-told-16 : tie.Need-enum-told-16
-enum-told-16 c = search needs
-
-enum-told-17 : tie.Need-enum-told-17
-enum-told-17 c = search needs
-
 enum-known-refusal-6 : tie.Need-enum-known-refusal-6
 enum-known-refusal-6 c = search needs
-
-enum-told-18 : tie.Need-enum-told-18
-enum-told-18 c = search needs
 
 enum-known-refusal-7 : tie.Need-enum-known-refusal-7
 enum-known-refusal-7 c = search needs
 
-enum-told-19 : tie.Need-enum-told-19
-enum-told-19 c = search needs
-
 returns : tie.Need-returns
 returns c =
-    simp (c .enum-told .given .1)
+    simp (c .before .refusal .given .1)
 
 returns-2 : tie.Need-returns-2
 returns-2 c =
-    simp (c .enum-told2 .given .1)
+    simp (c .before .refusal2 .given .1)
 
 returns-3 : tie.Need-returns-3
 returns-3 c =
-    simp (c .enum-told3 .given .1)
+    simp (c .before .refusal3 .given .1)
 
 returns-4 : tie.Need-returns-4
 returns-4 c =
-    simp (c .enum-told4 .given .1)
+    simp (c .before .refusal4 .given .1)
 
 returns-5 : tie.Need-returns-5
 returns-5 c =
-    simp (c .enum-told5 .given .1)
+    simp (c .before .refusal5 .given .1)
 
 returns-6 : tie.Need-returns-6
 returns-6 c =
-    simp (c .enum-told6 .given .1)
+    simp (c .before .refusal6 .given .1)
 
 returns-7 : tie.Need-returns-7
 returns-7 c =
-    simp (c .enum-told7 .given .1)
+    simp (c .before .refusal7 .given .1)
 
 returns-8 : tie.Need-returns-8
 returns-8 c =
-    simp (c .enum-told8 .given .1)
-
-returns-9 : tie.Need-returns-9
-returns-9 c =
-    simp (c .before .refusal .given .1)
-
-returns-10 : tie.Need-returns-10
-returns-10 c =
-    simp (c .before .refusal2 .given .1)
-
-returns-11 : tie.Need-returns-11
-returns-11 c =
-    simp (c .before .refusal3 .given .1)
-
-returns-12 : tie.Need-returns-12
-returns-12 c =
-    simp (c .before .refusal4 .given .1)
-
-returns-13 : tie.Need-returns-13
-returns-13 c =
-    simp (c .enum-told9 .given .1)
-
-returns-14 : tie.Need-returns-14
-returns-14 c =
-    simp (c .before .refusal5 .given .1)
-
-returns-15 : tie.Need-returns-15
-returns-15 c =
-    simp (c .enum-told10 .given .1)
-
-returns-16 : tie.Need-returns-16
-returns-16 c =
-    simp (c .enum-told11 .given .1)
-
-returns-17 : tie.Need-returns-17
-returns-17 c =
-    simp (c .enum-told12 .given .1)
-
-returns-18 : tie.Need-returns-18
-returns-18 c =
-    simp (c .enum-told13 .given .1)
-
-returns-19 : tie.Need-returns-19
-returns-19 c =
-    simp (c .enum-told14 .given .1)
-
-returns-20 : tie.Need-returns-20
-returns-20 c =
-    simp (c .enum-told15 .given .1)
-
-returns-21 : tie.Need-returns-21
-returns-21 c =
-    simp (c .enum-told16 .given .1)
-
-returns-22 : tie.Need-returns-22
-returns-22 c =
-    simp (c .enum-told17 .given .1)
-
-returns-23 : tie.Need-returns-23
-returns-23 c =
-    simp (c .before .refusal6 .given .1)
-
-returns-24 : tie.Need-returns-24
-returns-24 c =
-    simp (c .enum-told18 .given .1)
-
-returns-25 : tie.Need-returns-25
-returns-25 c =
-    simp (c .before .refusal7 .given .1)
-
-returns-26 : tie.Need-returns-26
-returns-26 c =
-    simp (c .enum-told19 .given .1)
+    nothing (c .before .args .refusal) (c .match .keys8)
 
 pub details-of-spec : {M : Type 1} → statement M
 details-of-spec =
     tie.close
     (tie.spec
-    enum-told
-    enum-told-2
-    enum-told-3
-    enum-told-4
-    enum-told-5
-    enum-told-6
-    enum-told-7
-    enum-told-8
     enum-known-refusal
     cast-t11
     enum-known-refusal-2
@@ -223,22 +128,11 @@ details-of-spec =
     cast-t13
     enum-known-refusal-4
     cast-t14
-    enum-told-9
     enum-known-refusal-5
     cast-t15
     cast-t16
-    enum-told-10
-    enum-told-11
-    enum-told-12
-    enum-told-13
-    enum-told-14
-    enum-told-15
-    enum-told-16
-    enum-told-17
     enum-known-refusal-6
-    enum-told-18
     enum-known-refusal-7
-    enum-told-19
     returns
     returns-2
     returns-3
@@ -246,22 +140,4 @@ details-of-spec =
     returns-5
     returns-6
     returns-7
-    returns-8
-    returns-9
-    returns-10
-    returns-11
-    returns-12
-    returns-13
-    returns-14
-    returns-15
-    returns-16
-    returns-17
-    returns-18
-    returns-19
-    returns-20
-    returns-21
-    returns-22
-    returns-23
-    returns-24
-    returns-25
-    returns-26)
+    returns-8)

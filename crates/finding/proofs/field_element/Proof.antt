@@ -1,5 +1,5 @@
 -- `finding::field_element` meets its contract.
-use borrow.Author.Tests.{eq-eqb, ne-eqb}
+use borrow.Author.Tests.{ne-eqb}
 use Rattle.labels.specs.Elements.{field-element}
 use borrow.Author.Needs.{needs}
 use Rattle.finding.proofs.field_element.Statement.{statement}
@@ -23,7 +23,7 @@ get-element-requires c κs = search needs
 returns : tie.Need-returns
 unfolding field-element
 returns c =
-    simp (← c .get-element .ensures, ← c .before .byte-at2 .ensures, eq-eqb _ _ (c .before .before .if1 .taken), ← c .before .before .before .byte-at .ensures)
+    simp (← c .get-element .ensures, ← c .before .byte-at2 .ensures, c .before .before .match .keys1, ← c .before .before .before .byte-at .ensures)
 
 add-byte-at-3 : tie.Need-add-byte-at-3
 add-byte-at-3 c = search needs
@@ -37,12 +37,12 @@ set-element-requires c κs = search needs
 returns-2 : tie.Need-returns-2
 unfolding field-element
 returns-2 c =
-    simp (← c .set-element .ensures, ← c .before .byte-at3 .ensures, eq-eqb _ _ (c .before .before .if2 .taken), ne-eqb _ _ (c .before .before .before .if1 .left), ← c .before .before .before .before .byte-at .ensures)
+    simp (← c .set-element .ensures, ← c .before .byte-at3 .ensures, c .before .before .match .keys2, ← c .before .before .before .byte-at .ensures)
 
 returns-3 : tie.Need-returns-3
 unfolding field-element
 returns-3 c =
-    simp (ne-eqb _ _ (c .if2 .left), ne-eqb _ _ (c .before .if1 .left), ← c .before .before .byte-at .ensures)
+    simp (ne-eqb _ _ (c .match .rest .1), ne-eqb _ _ (c .match .rest .0 .1), ← c .before .byte-at .ensures)
 
 pub field-element-spec : {M : Type 1} → statement M
 field-element-spec =
@@ -53,9 +53,9 @@ field-element-spec =
     add-byte-at-2
     byte-at-requires-2
     get-element-requires
-    returns
     add-byte-at-3
     byte-at-requires-3
     set-element-requires
+    returns
     returns-2
     returns-3)

@@ -36,6 +36,7 @@ use denote.Triple.Statement.{Contract, Triple}
 use denote.Triple.Table.{entered, cited}
 use denote.Triple.Walked.{says, Stays, stay-slice, stay-ref, stay-none, walkOf, goes-slice, goes-ref, goes-none, Walks, ends-at, walked, walk-meets}
 use Rattle.lent.proofs.Lent.{Thing, part, whole as whole-of, have, tokens, lent}
+use Rattle.lent.proofs.Emptied.{emptied}
 use Rattle.lent.proofs.Landed.{landed, landed-by}
 use Rattle.lent.proofs.Shut.{Shut}
 use Rattle.storage.specs.declared.Task.{Task}
@@ -53,7 +54,7 @@ use Rattle.runs.proofs.Turns.{act-turns}
 use Rattle.table.proofs.get.Symbol.{name as #get}
 use Rattle.act.proofs.act.Symbol.{name as #act}
 use Rattle.runs.proofs.apply.Symbol.{name as #apply}
-use Rattle.turns.proofs.turned.Symbol.{name as #turned}
+use Rattle.runs.proofs.gone.turned.Symbol.{name as #turned}
 use Rattle.runs.proofs.act_turn.Key.{name as #this}
 use Rattle.storage.proofs.Task as task
 use Rattle.storage.proofs.Task.Laws as task-laws
@@ -71,9 +72,9 @@ use Rattle.act.proofs.act.Met as act-thm
 use Rattle.runs.proofs.apply as apply
 use Rattle.runs.proofs.apply.Symbol as apply-def
 use Rattle.runs.proofs.apply.Met as apply-thm
-use Rattle.turns.proofs.turned as turned
-use Rattle.turns.proofs.turned.Symbol as turned-def
-use Rattle.turns.proofs.turned.Met as turned-thm
+use Rattle.runs.proofs.gone.turned as turned
+use Rattle.runs.proofs.gone.turned.Symbol as turned-def
+use Rattle.runs.proofs.gone.turned.Met as turned-thm
 use Rattle.runs.proofs.act_turn as f
 use Rattle.runs.proofs.act_turn.Statement as stated
 use Rattle.runs.proofs.act_turn.Code as code
@@ -174,7 +175,7 @@ module _ {M : Type 1} (𝓤 : URA M) (H : Heap 𝓤) (A : Atoms 𝓤) (W : Given
           (λ αs δs. (and-then ! (take-machine ! 6 32 g refl refl) (and-then ! (take-left ! 6 32 g refl refl) (and-then ! (take-went ! 8 28 a refl refl) (no-more !)))))
           (λ αs δs w₄ r₄ z₄ f₄. heard ! (r₄ ≡ turned-of (g .machine) (g .left) (a .went)) (λ e₄. landed-by ! gone.the-row gone-vals gone-tells r₄ w₄ (λ is₄.
           drop ! $ drop ! $ land ! (from ! (stop !)) (init ! 42 refl (gone-typed 𝓤 H A W r₄ is₄)) $
-          returns ! (look ! 42 refl) $ forget ! 26 refl $ forget ! 30 refl $ forget ! 32 refl $ forget ! 34 refl $ forget ! 36 refl $ forget ! 38 refl $ forget ! 40 refl $ forget ! 42 refl $
+          returns ! (look ! 42 refl) $ emptied ! refl $
           ends r₄ ts st me po en is₄ m₀ m₂ m₃ (done-so r₄ e₄))))
 
       -- the slot is changed
@@ -249,4 +250,4 @@ act-turn-spec 𝓤 H 𝓜 𝓖 𝓡 =
     (cited 𝓤 H (get-con 𝓤 H (𝓖 .A) (𝓜 .mem) (𝓡 .run)) 𝓜 𝓡 code.env #get get-def.routine code.calls-table·get (get-thm.met 𝓤 H 𝓜 𝓖 𝓡))
     (cited 𝓤 H (act-con 𝓤 H (𝓖 .A) (𝓜 .mem) (𝓡 .run)) 𝓜 𝓡 code.env #act act-def.routine code.calls-act·act (act-thm.met 𝓤 H 𝓜 𝓖 𝓡))
     (cited 𝓤 H (apply-con 𝓤 H (𝓖 .A) (𝓜 .mem) (𝓡 .run)) 𝓜 𝓡 code.env #apply apply-def.routine code.calls-runs·apply (apply-thm.met 𝓤 H 𝓜 𝓖 𝓡))
-    (cited 𝓤 H (turned-con 𝓤 H (𝓖 .A) (𝓜 .mem) (𝓡 .run)) 𝓜 𝓡 code.env #turned turned-def.routine code.calls-turns·turned (turned-thm.met 𝓤 H 𝓜 𝓖 𝓡)))
+    (cited 𝓤 H (turned-con 𝓤 H (𝓖 .A) (𝓜 .mem) (𝓡 .run)) 𝓜 𝓡 code.env #turned turned-def.routine code.calls-runs·gone·turned (turned-thm.met 𝓤 H 𝓜 𝓖 𝓡)))

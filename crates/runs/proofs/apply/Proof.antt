@@ -35,6 +35,7 @@ use denote.Triple.Spec.{Meets, tripleOf}
 use denote.Triple.Statement.{Contract, Triple}
 use denote.Triple.Table.{entered, cited}
 use denote.Triple.Walked.{says, Stays, stay-slice, stay-none, walkOf, goes-slice, goes-none, Walks, ends-at, walked, walk-meets}
+use Rattle.lent.proofs.Freed.{rooms, freed}
 use Rattle.lent.proofs.Lent.{Thing, part, have, tokens, lent}
 use Rattle.lent.proofs.Shut.{Shut}
 use Rattle.storage.specs.declared.Task.{Task}
@@ -124,11 +125,11 @@ module _ {M : Type 1} (𝓤 : URA M) (H : Heap 𝓤) (A : Atoms 𝓤) (W : Given
 
       -- the locals, given up
       abbrev Bare : List (Item 𝓤)
-      Bare = ‵ (froom (sliceTy (tyRef erased mut table-ty)) l₁₀ 0) ∷ ‵ (fdies (sliceTy (tyRef erased mut table-ty)) l₁₀) ∷ ‵ (froom (tyRef erased mut table-ty) l₉ 0) ∷ ‵ (fdies (tyRef erased mut table-ty) l₉) ∷ ‵ (froom (sliceTy (tyRef erased mut table-ty)) l₈ 0) ∷ ‵ (fdies (sliceTy (tyRef erased mut table-ty)) l₈) ∷ ‵ (froom (tyRef erased mut table-ty) l₇ 0) ∷ ‵ (fdies (tyRef erased mut table-ty) l₇) ∷ ‵ (froom tyUnit l₆ 0) ∷ ‵ (fdies tyUnit l₆) ∷ ‵ (froom tyBool l₅ 0) ∷ ‵ (fdies tyBool l₅) ∷ ‵ (froom answer-laws.mir l₄ 0) ∷ ‵ (fdies answer-laws.mir l₄) ∷ ‵ (froom change-ty l₃ 0) ∷ ‵ (fdies change-ty l₃) ∷ ‵ (froom (tyInt w64) l₂ 0) ∷ ‵ (fdies (tyInt w64) l₂) ∷ ‵ (froom (sliceTy (tyRef (named 0) mut table-ty)) l₁ 0) ∷ ‵ (fdies (sliceTy (tyRef (named 0) mut table-ty)) l₁) ∷ ‵ (froom tyUnit l₀ 0) ∷ ‵ (fdies tyUnit l₀) ∷ []
+      Bare = rooms 𝓤 H En []
 
       ends : (ts : List Task) → ts ≡ applied x₀ slot c → length ts ≡ n₀ → Sq W (Has ts Bare) (frees En (prop (Post vunit)))
       ends ts e count =
-          move ! (22 ∷ 23 ∷ []) $ free1 ! $ move ! (20 ∷ 21 ∷ []) $ free1 ! $ move ! (18 ∷ 19 ∷ []) $ free1 ! $ move ! (16 ∷ 17 ∷ []) $ free1 ! $ move ! (14 ∷ 15 ∷ []) $ free1 ! $ move ! (12 ∷ 13 ∷ []) $ free1 ! $ move ! (10 ∷ 11 ∷ []) $ free1 ! $ move ! (8 ∷ 9 ∷ []) $ free1 ! $ move ! (6 ∷ 7 ∷ []) $ free1 ! $ move ! (4 ∷ 5 ∷ []) $ free1 ! $ move ! (2 ∷ 3 ∷ []) $ free1 ! $ free0 ! $ by ! (exits ts e count)
+          freed ! $ by ! (exits ts e count)
 
       states : c .puts ≡ false → Sq W (Has x₀ (‵ (froom (sliceTy (tyRef erased mut table-ty)) l₁₀ 0) ∷ ‵ (fdies (sliceTy (tyRef erased mut table-ty)) l₁₀) ∷ ‵ (froom (tyRef erased mut table-ty) l₉ 0) ∷ ‵ (fdies (tyRef erased mut table-ty) l₉) ∷ ‵ (froom (sliceTy (tyRef erased mut table-ty)) l₈ 0) ∷ ‵ (fdies (sliceTy (tyRef erased mut table-ty)) l₈) ∷ ‵ (froom (tyRef erased mut table-ty) l₇ 0) ∷ ‵ (fdies (tyRef erased mut table-ty) l₇) ∷ ‵ (froom tyUnit l₆ 0) ∷ ‵ (fdies tyUnit l₆) ∷ ‵ (fat fullShare tyBool l₅ 0 (vbool (c .puts))) ∷ ‵ (fdies tyBool l₅) ∷ ‵ (froom answer-laws.mir l₄ 0) ∷ ‵ (fdies answer-laws.mir l₄) ∷ ‵ (fat fullShare change-ty l₃ 0 (change-val c)) ∷ ‵ (fdies change-ty l₃) ∷ ‵ (fat fullShare (tyInt w64) l₂ 0 (vint w64 slot)) ∷ ‵ (fdies (tyInt w64) l₂) ∷ ‵ (fat fullShare (sliceTy (tyRef (named 0) mut table-ty)) l₁ 0 (sliceVal (b₀, o₀) n₀)) ∷ ‵ (fdies (sliceTy (tyRef (named 0) mut table-ty)) l₁) ∷ ‵ (froom tyUnit l₀ 0) ∷ ‵ (fdies tyUnit l₀) ∷ [])) (runs C Λ En mir.t-3 (atRet En Post))
       states puts =
@@ -169,11 +170,13 @@ module _ {M : Type 1} (𝓤 : URA M) (H : Heap 𝓤) (A : Atoms 𝓤) (W : Given
     walk : (𝓣 : Tables 𝓤 H) (known-put : Triple 𝓤 (𝓣 .C #put) (put-con 𝓤 H A at-mem run)) (known-state : Triple 𝓤 (𝓣 .C #state) (state-con 𝓤 H A at-mem run)) → ent 𝓤 (onEntry 𝓤 H A f.signature κs₀ qs₀ x at) (WpFn 𝓤 H (𝓣 .C) (𝓣 .Λ) code.function (sliceVal (b₀, o₀) n₀ ∷ vint w64 slot ∷ change-val c ∷ []) Post)
     unfolding change-shut
     walk 𝓣 known-put known-state =
-        qed W ((‵ (flft κ₀ q₀) ⊛ ‵ ftrue) ∷ ‵ (owns (typesAt (f.signature .params) κs₀) x at) ∷ []) ∵ enter ! (𝓣 .C) (𝓣 .Λ) code.function (sliceVal (b₀, o₀) n₀ ∷ vint w64 slot ∷ change-val c ∷ []) _ $
+        qed W ((‵ (flft κ₀ q₀) ⊛ ‵ ftrue) ∷ ‵ (owns (typesAt (f.signature .params) κs₀) x at) ∷ []) ∵
+        move ! (1 ∷ []) $ fsplit ! $ move ! (1 ∷ []) $ drop ! $ nothing ! $ move ! (1 ∷ 0 ∷ []) $ fjoin ! $
+        move ! (1 ∷ []) $ split ! $ move ! (1 ∷ []) $ drop ! $ nothing ! $ move ! (1 ∷ 0 ∷ []) $ fjoin ! $ move ! (1 ∷ 0 ∷ []) $
+        enter ! (𝓣 .C) (𝓣 .Λ) code.function (sliceVal (b₀, o₀) n₀ ∷ vint w64 slot ∷ change-val c ∷ []) _ $
         alloc1 ! (λ l₀. alloc1 ! (λ l₁. alloc1 ! (λ l₂. alloc1 ! (λ l₃. alloc1 ! (λ l₄. alloc1 ! (λ l₅. alloc1 ! (λ l₆. alloc1 ! (λ l₇. alloc1 ! (λ l₈. alloc1 ! (λ l₉. alloc1 ! (λ l₁₀. alloc0 ! $ params1 ! $
         pass1 ! (init ! 18 refl (tt, (tt, (record { fits = g₀ .0 }, tt)))) $ pass1 ! (init ! 16 refl (tt, record { fits = fits })) $ pass1 ! (init ! 14 refl (change-typed 𝓤 H A W c c-is)) $ pass0 ! $
-        move ! (23 ∷ []) $ fsplit ! $ move ! (1 ∷ []) $ drop ! $ nothing ! $ move ! (1 ∷ 0 ∷ []) $ fjoin ! $
-        move ! (23 ∷ []) $ split ! $ move ! (1 ∷ []) $ drop ! $ nothing ! $ move ! (1 ∷ 0 ∷ []) $ fjoin ! $ move ! (1 ∷ 0 ∷ []) $
+        move ! (22 ∷ 23 ∷ []) $
         assigns ! (of-opd ! (take-puts ! 3 16 c refl refl)) (from ! (stop !)) (init ! 12 refl (tt, tt)) $
         tests 𝓣 known-put known-state l₀ l₁ l₂ l₃ l₄ l₅ l₆ l₇ l₈ l₉ l₁₀)))))))))))
 

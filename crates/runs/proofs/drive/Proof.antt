@@ -38,7 +38,9 @@ use denote.Triple.Spec.{Meets, tripleOf}
 use denote.Triple.Statement.{Contract, Triple}
 use denote.Triple.Table.{entered, cited}
 use denote.Triple.Walked.{says, Stays, stay-slice, stay-ref, stay-none, walkOf, goes-slice, goes-ref, goes-none, Walks, ends-at, walked, walk-meets}
+use Rattle.lent.proofs.Freed.{freed}
 use Rattle.lent.proofs.Lent.{Thing, part, whole as whole-of, have, tokens, lent}
+use Rattle.lent.proofs.Emptied.{emptied}
 use Rattle.lent.proofs.Landed.{landed-by}
 use Rattle.lent.proofs.Rest.{past}
 use Rattle.lent.proofs.Shut.{Shut}
@@ -57,26 +59,26 @@ use Rattle.runs.proofs.Values.{machine-shut, machine-vals, gone-shut, g
 use Rattle.runs.proofs.Fields.{machine-is, left-fits, take-machine, take-left, take-running, is-true, is-false}
 use Rattle.runs.proofs.Runs.{comes-to, turns-left}
 use Rattle.runs.proofs.Turns.{begins-same, goes-at, goes-same, goes-fewer, ends-run}
-use Rattle.turns.proofs.begun.Symbol.{name as #begins}
+use Rattle.runs.proofs.gone.begun.Symbol.{name as #begins}
 use Rattle.advance.proofs.advance.Symbol.{name as #advance}
 use Rattle.runs.proofs.turn.Symbol.{name as #turn}
-use Rattle.turns.proofs.ran.Symbol.{name as #ends}
+use Rattle.runs.proofs.gone.ran.Symbol.{name as #ends}
 use Rattle.runs.proofs.drive.Key.{name as #this}
 use Rattle.core.proofs.Machine as machine
 use Rattle.calls.proofs.Gone as gone
 use Rattle.calls.proofs.Ran as ran
-use Rattle.turns.proofs.begun as begins
-use Rattle.turns.proofs.begun.Symbol as begins-def
-use Rattle.turns.proofs.begun.Met as begins-thm
+use Rattle.runs.proofs.gone.begun as begins
+use Rattle.runs.proofs.gone.begun.Symbol as begins-def
+use Rattle.runs.proofs.gone.begun.Met as begins-thm
 use Rattle.advance.proofs.advance as advance
 use Rattle.advance.proofs.advance.Symbol as advance-def
 use Rattle.advance.proofs.advance.Met as advance-thm
 use Rattle.runs.proofs.turn as turn
 use Rattle.runs.proofs.turn.Symbol as turn-def
 use Rattle.runs.proofs.turn.Met as turn-thm
-use Rattle.turns.proofs.ran as ends
-use Rattle.turns.proofs.ran.Symbol as ends-def
-use Rattle.turns.proofs.ran.Met as ends-thm
+use Rattle.runs.proofs.gone.ran as ends
+use Rattle.runs.proofs.gone.ran.Symbol as ends-def
+use Rattle.runs.proofs.gone.ran.Met as ends-thm
 use Rattle.runs.proofs.drive as f
 use Rattle.runs.proofs.drive.Statement as stated
 use Rattle.runs.proofs.drive.Code as code
@@ -214,8 +216,8 @@ module _ {M : Type 1} (𝓤 : URA M) (H : Heap 𝓤) (A : Atoms 𝓤) (W : Given
           (λ αs δs. (and-then ! (load ! (from ! (stop !)) (look ! 40 refl)) (no-more !)))
           (λ αs δs w₁ r₁ z₁ f₁. heard ! (r₁ ≡ ran-of (s .g)) (λ e₁. landed-by ! ran.the-row ran-vals ran-tells r₁ w₁ (λ is₁.
           drop ! $ drop ! $ land ! (from ! (stop !)) (init ! 56 refl (ran-typed 𝓤 H A W r₁ is₁)) $
-          returns ! (look ! 56 refl) $ forget ! 38 refl $ forget ! 40 refl $ forget ! 42 refl $ forget ! 44 refl $ forget ! 46 refl $ forget ! 48 refl $ forget ! 50 refl $ forget ! 52 refl $ forget ! 54 refl $ forget ! 56 refl $
-          move ! (56 ∷ 57 ∷ []) $ free1 ! $ move ! (54 ∷ 55 ∷ []) $ free1 ! $ move ! (52 ∷ 53 ∷ []) $ free1 ! $ move ! (50 ∷ 51 ∷ []) $ free1 ! $ move ! (48 ∷ 49 ∷ []) $ free1 ! $ move ! (46 ∷ 47 ∷ []) $ free1 ! $ move ! (44 ∷ 45 ∷ []) $ free1 ! $ move ! (42 ∷ 43 ∷ []) $ free1 ! $ move ! (40 ∷ 41 ∷ []) $ free1 ! $ move ! (38 ∷ 39 ∷ []) $ free1 ! $ move ! (36 ∷ 37 ∷ []) $ free1 ! $ move ! (34 ∷ 35 ∷ []) $ free1 ! $ move ! (32 ∷ 33 ∷ []) $ free1 ! $ move ! (30 ∷ 31 ∷ []) $ free1 ! $ move ! (28 ∷ 29 ∷ []) $ free1 ! $ move ! (26 ∷ 27 ∷ []) $ free1 ! $ move ! (24 ∷ 25 ∷ []) $ free1 ! $ move ! (22 ∷ 23 ∷ []) $ free1 ! $ move ! (20 ∷ 21 ∷ []) $ free1 ! $ move ! (18 ∷ 19 ∷ []) $ free1 ! $ move ! (16 ∷ 17 ∷ []) $ free1 ! $ move ! (14 ∷ 15 ∷ []) $ free1 ! $ move ! (12 ∷ 13 ∷ []) $ free1 ! $ move ! (10 ∷ 11 ∷ []) $ free1 ! $ move ! (8 ∷ 9 ∷ []) $ free1 ! $ move ! (6 ∷ 7 ∷ []) $ free1 ! $ move ! (4 ∷ 5 ∷ []) $ free1 ! $ move ! (2 ∷ 3 ∷ []) $ free1 ! $ free0 ! $
+          returns ! (look ! 56 refl) $ emptied ! refl $
+          freed ! $
           by ! (exits r₁ (s .ts) (s .st) (s .me) (s .po) (s .en) (s .sv) is₁ (s .ts-len) (s .me-len) (s .po-len) (s .sv-len) (ends-run (now-at s) out e₁ (s .so-far))))))
 
       -- the instruction that the code comes to
@@ -301,11 +303,13 @@ module _ {M : Type 1} (𝓤 : URA M) (H : Heap 𝓤) (A : Atoms 𝓤) (W : Given
     walk : (𝓣 : Tables 𝓤 H) (known-begins : Triple 𝓤 (𝓣 .C #begins) (begins-con 𝓤 H A at-mem run)) (known-advance : Triple 𝓤 (𝓣 .C #advance) (advance-con 𝓤 H A at-mem run)) (known-turn : Triple 𝓤 (𝓣 .C #turn) (turn-con 𝓤 H A at-mem run)) (known-ends : Triple 𝓤 (𝓣 .C #ends) (ends-con 𝓤 H A at-mem run)) → ent 𝓤 (onEntry 𝓤 H A f.signature κs₀ qs₀ x at) (WpFn 𝓤 H (𝓣 .C) (𝓣 .Λ) code.function (sliceVal (b₀, o₀) n₀ ∷ vptr b₁ o₁ ∷ sliceVal (b₂, o₂) n₂ ∷ sliceVal (b₃, o₃) n₃ ∷ vptr b₄ o₄ ∷ sliceVal (b₅, o₅) n₅ ∷ machine-val m ∷ vint w64 fuel ∷ []) Post)
     unfolding gone-shut machine-shut ran-shut
     walk 𝓣 known-begins known-advance known-turn known-ends =
-        qed W ((‵ (flft κ₀ q₀) ⊛ ‵ (flft κ₁ q₁) ⊛ ‵ (flft κ₂ q₂) ⊛ ‵ (flft κ₃ q₃) ⊛ ‵ (flft κ₄ q₄) ⊛ ‵ (flft κ₅ q₅) ⊛ ‵ ftrue) ∷ ‵ (owns (typesAt (f.signature .params) κs₀) x at) ∷ []) ∵ enter ! (𝓣 .C) (𝓣 .Λ) code.function (sliceVal (b₀, o₀) n₀ ∷ vptr b₁ o₁ ∷ sliceVal (b₂, o₂) n₂ ∷ sliceVal (b₃, o₃) n₃ ∷ vptr b₄ o₄ ∷ sliceVal (b₅, o₅) n₅ ∷ machine-val m ∷ vint w64 fuel ∷ []) _ $
+        qed W ((‵ (flft κ₀ q₀) ⊛ ‵ (flft κ₁ q₁) ⊛ ‵ (flft κ₂ q₂) ⊛ ‵ (flft κ₃ q₃) ⊛ ‵ (flft κ₄ q₄) ⊛ ‵ (flft κ₅ q₅) ⊛ ‵ ftrue) ∷ ‵ (owns (typesAt (f.signature .params) κs₀) x at) ∷ []) ∵
+        move ! (1 ∷ []) $ fsplit ! $ move ! (1 ∷ []) $ fsplit ! $ move ! (1 ∷ []) $ fsplit ! $ move ! (1 ∷ []) $ fsplit ! $ move ! (1 ∷ []) $ fsplit ! $ move ! (1 ∷ []) $ fsplit ! $ move ! (1 ∷ []) $ drop ! $ nothing ! $ move ! (1 ∷ 0 ∷ []) $ fjoin ! $ move ! (1 ∷ 0 ∷ []) $ fjoin ! $ move ! (1 ∷ 0 ∷ []) $ fjoin ! $ move ! (1 ∷ 0 ∷ []) $ fjoin ! $ move ! (1 ∷ 0 ∷ []) $ fjoin ! $ move ! (1 ∷ 0 ∷ []) $ fjoin ! $
+        move ! (1 ∷ []) $ split ! $ move ! (1 ∷ []) $ split ! $ move ! (1 ∷ []) $ split ! $ move ! (1 ∷ []) $ split ! $ move ! (1 ∷ []) $ split ! $ move ! (1 ∷ []) $ split ! $ move ! (1 ∷ []) $ drop ! $ nothing ! $ move ! (1 ∷ 0 ∷ []) $ fjoin ! $ move ! (1 ∷ 0 ∷ []) $ fjoin ! $ move ! (1 ∷ 0 ∷ []) $ fjoin ! $ move ! (1 ∷ 0 ∷ []) $ fjoin ! $ move ! (1 ∷ 0 ∷ []) $ fjoin ! $ move ! (1 ∷ 0 ∷ []) $ fjoin ! $ move ! (1 ∷ 0 ∷ []) $
+        enter ! (𝓣 .C) (𝓣 .Λ) code.function (sliceVal (b₀, o₀) n₀ ∷ vptr b₁ o₁ ∷ sliceVal (b₂, o₂) n₂ ∷ sliceVal (b₃, o₃) n₃ ∷ vptr b₄ o₄ ∷ sliceVal (b₅, o₅) n₅ ∷ machine-val m ∷ vint w64 fuel ∷ []) _ $
         alloc1 ! (λ l₀. alloc1 ! (λ l₁. alloc1 ! (λ l₂. alloc1 ! (λ l₃. alloc1 ! (λ l₄. alloc1 ! (λ l₅. alloc1 ! (λ l₆. alloc1 ! (λ l₇. alloc1 ! (λ l₈. alloc1 ! (λ l₉. alloc1 ! (λ l₁₀. alloc1 ! (λ l₁₁. alloc1 ! (λ l₁₂. alloc1 ! (λ l₁₃. alloc1 ! (λ l₁₄. alloc1 ! (λ l₁₅. alloc1 ! (λ l₁₆. alloc1 ! (λ l₁₇. alloc1 ! (λ l₁₈. alloc1 ! (λ l₁₉. alloc1 ! (λ l₂₀. alloc1 ! (λ l₂₁. alloc1 ! (λ l₂₂. alloc1 ! (λ l₂₃. alloc1 ! (λ l₂₄. alloc1 ! (λ l₂₅. alloc1 ! (λ l₂₆. alloc1 ! (λ l₂₇. alloc0 ! $ params1 ! $
         pass1 ! (init ! 52 refl (tt, (tt, (record { fits = g₀ .0 }, tt)))) $ pass1 ! (init ! 50 refl (tt, tt)) $ pass1 ! (init ! 48 refl (tt, (tt, (record { fits = g₂ .0 }, tt)))) $ pass1 ! (init ! 46 refl (tt, (tt, (record { fits = g₃ .0 }, tt)))) $ pass1 ! (init ! 44 refl (tt, tt)) $ pass1 ! (init ! 42 refl (tt, (tt, (record { fits = g₅ .0 }, tt)))) $ pass1 ! (init ! 40 refl (machine-typed 𝓤 H A W m m-is)) $ pass1 ! (init ! 38 refl (tt, record { fits = fuel-fits })) $ pass0 ! $
-        move ! (57 ∷ []) $ fsplit ! $ move ! (1 ∷ []) $ fsplit ! $ move ! (1 ∷ []) $ fsplit ! $ move ! (1 ∷ []) $ fsplit ! $ move ! (1 ∷ []) $ fsplit ! $ move ! (1 ∷ []) $ fsplit ! $ move ! (1 ∷ []) $ drop ! $ nothing ! $ move ! (1 ∷ 0 ∷ []) $ fjoin ! $ move ! (1 ∷ 0 ∷ []) $ fjoin ! $ move ! (1 ∷ 0 ∷ []) $ fjoin ! $ move ! (1 ∷ 0 ∷ []) $ fjoin ! $ move ! (1 ∷ 0 ∷ []) $ fjoin ! $ move ! (1 ∷ 0 ∷ []) $ fjoin ! $
-        move ! (57 ∷ []) $ split ! $ move ! (1 ∷ []) $ split ! $ move ! (1 ∷ []) $ split ! $ move ! (1 ∷ []) $ split ! $ move ! (1 ∷ []) $ split ! $ move ! (1 ∷ []) $ split ! $ move ! (1 ∷ []) $ drop ! $ nothing ! $ move ! (1 ∷ 0 ∷ []) $ fjoin ! $ move ! (1 ∷ 0 ∷ []) $ fjoin ! $ move ! (1 ∷ 0 ∷ []) $ fjoin ! $ move ! (1 ∷ 0 ∷ []) $ fjoin ! $ move ! (1 ∷ 0 ∷ []) $ fjoin ! $ move ! (1 ∷ 0 ∷ []) $ fjoin ! $ move ! (1 ∷ 0 ∷ []) $
+        move ! (56 ∷ 57 ∷ []) $
         steps 𝓣 known-begins known-advance known-turn known-ends l₀ l₁ l₂ l₃ l₄ l₅ l₆ l₇ l₈ l₉ l₁₀ l₁₁ l₁₂ l₁₃ l₁₄ l₁₅ l₁₆ l₁₇ l₁₈ l₁₉ l₂₀ l₂₁ l₂₂ l₂₃ l₂₄ l₂₅ l₂₆ l₂₇))))))))))))))))))))))))))))
 
 module _ {M : Type 1} (𝓤 : URA M) (H : Heap 𝓤) (A : Atoms 𝓤) (W : Given 𝓤 H A) (at-mem : Memory → SProp 𝓤) (run : Routine → Fun 𝓤) (𝓣 : Tables 𝓤 H) (known-begins : Triple 𝓤 (𝓣 .C #begins) (begins-con 𝓤 H A at-mem run)) (known-advance : Triple 𝓤 (𝓣 .C #advance) (advance-con 𝓤 H A at-mem run)) (known-turn : Triple 𝓤 (𝓣 .C #turn) (turn-con 𝓤 H A at-mem run)) (known-ends : Triple 𝓤 (𝓣 .C #ends) (ends-con 𝓤 H A at-mem run)) where
@@ -328,7 +332,7 @@ drive-spec 𝓤 H 𝓜 𝓖 𝓡 =
     entered 𝓤 H (tripleOf 𝓤 H (𝓖 .A) f.signature (f.spec 𝓤 H (𝓖 .A) (𝓜 .mem) (𝓡 .run)))
     (tables 𝓤 H 𝓜 𝓡 code.env .C) (tables 𝓤 H 𝓜 𝓡 code.env .Λ) #this code.function (code.unfolded 𝓤 H 𝓜 𝓡)
     (meets 𝓤 H (𝓖 .A) (givenOf 𝓤 H 𝓜 𝓖) (𝓜 .mem) (𝓡 .run) (tablesOf 𝓤 H 𝓜 (tables 𝓤 H 𝓜 𝓡 code.env))
-    (cited 𝓤 H (begins-con 𝓤 H (𝓖 .A) (𝓜 .mem) (𝓡 .run)) 𝓜 𝓡 code.env #begins begins-def.routine code.calls-turns·begun (begins-thm.met 𝓤 H 𝓜 𝓖 𝓡))
+    (cited 𝓤 H (begins-con 𝓤 H (𝓖 .A) (𝓜 .mem) (𝓡 .run)) 𝓜 𝓡 code.env #begins begins-def.routine code.calls-runs·gone·begun (begins-thm.met 𝓤 H 𝓜 𝓖 𝓡))
     (cited 𝓤 H (advance-con 𝓤 H (𝓖 .A) (𝓜 .mem) (𝓡 .run)) 𝓜 𝓡 code.env #advance advance-def.routine code.calls-advance·advance (advance-thm.met 𝓤 H 𝓜 𝓖 𝓡))
     (cited 𝓤 H (turn-con 𝓤 H (𝓖 .A) (𝓜 .mem) (𝓡 .run)) 𝓜 𝓡 code.env #turn turn-def.routine code.calls-runs·turn (turn-thm.met 𝓤 H 𝓜 𝓖 𝓡))
-    (cited 𝓤 H (ends-con 𝓤 H (𝓖 .A) (𝓜 .mem) (𝓡 .run)) 𝓜 𝓡 code.env #ends ends-def.routine code.calls-turns·ran (ends-thm.met 𝓤 H 𝓜 𝓖 𝓡)))
+    (cited 𝓤 H (ends-con 𝓤 H (𝓖 .A) (𝓜 .mem) (𝓡 .run)) 𝓜 𝓡 code.env #ends ends-def.routine code.calls-runs·gone·ran (ends-thm.met 𝓤 H 𝓜 𝓖 𝓡)))

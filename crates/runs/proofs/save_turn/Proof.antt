@@ -36,7 +36,9 @@ use denote.Triple.Spec.{Meets, tripleOf}
 use denote.Triple.Statement.{Contract, Triple}
 use denote.Triple.Table.{entered, cited}
 use denote.Triple.Walked.{says, Stays, stay-slice, stay-ref, stay-none, walkOf, goes-slice, goes-ref, goes-none, Walks, ends-at, walked, walk-meets}
+use Rattle.lent.proofs.Freed.{freed}
 use Rattle.lent.proofs.Lent.{Thing, part, whole as whole-of, have, tokens, lent}
+use Rattle.lent.proofs.Emptied.{emptied}
 use Rattle.lent.proofs.Landed.{landed-by}
 use Rattle.lent.proofs.Shut.{Shut}
 use Rattle.storage.specs.declared.Task.{Task}
@@ -50,7 +52,7 @@ use Rattle.runs.proofs.Values.{machine-shut, gone-shut, gone-vals}
 use Rattle.runs.proofs.Fields.{entries-fit, next-id-fits, machine-is, left-fits, take-machine, take-left, take-entries, take-next-id}
 use Rattle.runs.proofs.Turns.{save-turns}
 use Rattle.tables.proofs.save_table.Symbol.{name as #save}
-use Rattle.turns.proofs.saved.Symbol.{name as #kept}
+use Rattle.runs.proofs.gone.saved.Symbol.{name as #kept}
 use Rattle.runs.proofs.save_turn.Key.{name as #this}
 use Rattle.image.proofs.SaveResult as saved
 use Rattle.image.proofs.SaveResult.Laws as saved-laws
@@ -59,9 +61,9 @@ use Rattle.calls.proofs.Gone as gone
 use Rattle.tables.proofs.save_table as save
 use Rattle.tables.proofs.save_table.Symbol as save-def
 use Rattle.tables.proofs.save_table.Met as save-thm
-use Rattle.turns.proofs.saved as kept
-use Rattle.turns.proofs.saved.Symbol as kept-def
-use Rattle.turns.proofs.saved.Met as kept-thm
+use Rattle.runs.proofs.gone.saved as kept
+use Rattle.runs.proofs.gone.saved.Symbol as kept-def
+use Rattle.runs.proofs.gone.saved.Met as kept-thm
 use Rattle.runs.proofs.save_turn as f
 use Rattle.runs.proofs.save_turn.Statement as stated
 use Rattle.runs.proofs.save_turn.Code as code
@@ -152,18 +154,20 @@ module _ {M : Type 1} (𝓤 : URA M) (H : Heap 𝓤) (A : Atoms 𝓤) (W : Given
           (λ αs δs. (and-then ! (take-machine ! 5 20 g refl refl) (and-then ! (take-left ! 5 20 g refl refl) (and-then ! (load ! (from ! (stop !)) (look ! 18 refl)) (no-more !)))))
           (λ αs δs w₂ r₂ z₂ f₂. heard ! (r₂ ≡ saved-of (g .machine) (g .left) r₁) (λ e₂. landed-by ! gone.the-row gone-vals gone-tells r₂ w₂ (λ is₂.
           drop ! $ drop ! $ land ! (from ! (stop !)) (init ! 28 refl (gone-typed 𝓤 H A W r₂ is₂)) $
-          returns ! (look ! 28 refl) $ forget ! 2 refl $ forget ! 4 refl $ forget ! 6 refl $ forget ! 8 refl $ forget ! 10 refl $ forget ! 12 refl $ forget ! 14 refl $ forget ! 16 refl $ forget ! 18 refl $ forget ! 20 refl $ forget ! 22 refl $ forget ! 24 refl $ forget ! 26 refl $ forget ! 28 refl $
-          move ! (28 ∷ 29 ∷ []) $ free1 ! $ move ! (26 ∷ 27 ∷ []) $ free1 ! $ move ! (24 ∷ 25 ∷ []) $ free1 ! $ move ! (22 ∷ 23 ∷ []) $ free1 ! $ move ! (20 ∷ 21 ∷ []) $ free1 ! $ move ! (18 ∷ 19 ∷ []) $ free1 ! $ move ! (16 ∷ 17 ∷ []) $ free1 ! $ move ! (14 ∷ 15 ∷ []) $ free1 ! $ move ! (12 ∷ 13 ∷ []) $ free1 ! $ move ! (10 ∷ 11 ∷ []) $ free1 ! $ move ! (8 ∷ 9 ∷ []) $ free1 ! $ move ! (6 ∷ 7 ∷ []) $ free1 ! $ move ! (4 ∷ 5 ∷ []) $ free1 ! $ move ! (2 ∷ 3 ∷ []) $ free1 ! $ free0 ! $
+          returns ! (look ! 28 refl) $ emptied ! refl $
+          freed ! $
           by ! (exits r₂ (z₁ .0) (z₁ .1 .0) (z₁ .1 .1 .0) (z₁ .1 .1 .1 .0) is₂ (f₁ .0) (f₁ .1 .0) (f₁ .1 .1 .1 .0) (save-turns x₀ x₁ x₂ x₃ g e₁ e₂))))))))
 
     walk : (𝓣 : Tables 𝓤 H) (known-save : Triple 𝓤 (𝓣 .C #save) (save-con 𝓤 H A at-mem run)) (known-kept : Triple 𝓤 (𝓣 .C #kept) (kept-con 𝓤 H A at-mem run)) → ent 𝓤 (onEntry 𝓤 H A f.signature κs₀ qs₀ x at) (WpFn 𝓤 H (𝓣 .C) (𝓣 .Λ) code.function (sliceVal (b₀, o₀) n₀ ∷ sliceVal (b₁, o₁) n₁ ∷ vptr b₂ o₂ ∷ sliceVal (b₃, o₃) n₃ ∷ gone-val g ∷ []) Post)
     unfolding gone-shut
     walk 𝓣 known-save known-kept =
-        qed W ((‵ (flft κ₀ q₀) ⊛ ‵ (flft κ₁ q₁) ⊛ ‵ (flft κ₂ q₂) ⊛ ‵ (flft κ₃ q₃) ⊛ ‵ ftrue) ∷ ‵ (owns (typesAt (f.signature .params) κs₀) x at) ∷ []) ∵ enter ! (𝓣 .C) (𝓣 .Λ) code.function (sliceVal (b₀, o₀) n₀ ∷ sliceVal (b₁, o₁) n₁ ∷ vptr b₂ o₂ ∷ sliceVal (b₃, o₃) n₃ ∷ gone-val g ∷ []) _ $
+        qed W ((‵ (flft κ₀ q₀) ⊛ ‵ (flft κ₁ q₁) ⊛ ‵ (flft κ₂ q₂) ⊛ ‵ (flft κ₃ q₃) ⊛ ‵ ftrue) ∷ ‵ (owns (typesAt (f.signature .params) κs₀) x at) ∷ []) ∵
+        move ! (1 ∷ []) $ fsplit ! $ move ! (1 ∷ []) $ fsplit ! $ move ! (1 ∷ []) $ fsplit ! $ move ! (1 ∷ []) $ fsplit ! $ move ! (1 ∷ []) $ drop ! $ nothing ! $ move ! (1 ∷ 0 ∷ []) $ fjoin ! $ move ! (1 ∷ 0 ∷ []) $ fjoin ! $ move ! (1 ∷ 0 ∷ []) $ fjoin ! $ move ! (1 ∷ 0 ∷ []) $ fjoin ! $
+        move ! (1 ∷ []) $ split ! $ move ! (1 ∷ []) $ split ! $ move ! (1 ∷ []) $ split ! $ move ! (1 ∷ []) $ split ! $ move ! (1 ∷ []) $ drop ! $ nothing ! $ move ! (1 ∷ 0 ∷ []) $ fjoin ! $ move ! (1 ∷ 0 ∷ []) $ fjoin ! $ move ! (1 ∷ 0 ∷ []) $ fjoin ! $ move ! (1 ∷ 0 ∷ []) $ fjoin ! $ move ! (1 ∷ 0 ∷ []) $
+        enter ! (𝓣 .C) (𝓣 .Λ) code.function (sliceVal (b₀, o₀) n₀ ∷ sliceVal (b₁, o₁) n₁ ∷ vptr b₂ o₂ ∷ sliceVal (b₃, o₃) n₃ ∷ gone-val g ∷ []) _ $
         alloc1 ! (λ l₀. alloc1 ! (λ l₁. alloc1 ! (λ l₂. alloc1 ! (λ l₃. alloc1 ! (λ l₄. alloc1 ! (λ l₅. alloc1 ! (λ l₆. alloc1 ! (λ l₇. alloc1 ! (λ l₈. alloc1 ! (λ l₉. alloc1 ! (λ l₁₀. alloc1 ! (λ l₁₁. alloc1 ! (λ l₁₂. alloc1 ! (λ l₁₃. alloc0 ! $ params1 ! $
         pass1 ! (init ! 24 refl (tt, (tt, (record { fits = g₀ .0 }, tt)))) $ pass1 ! (init ! 22 refl (tt, (tt, (record { fits = g₁ .0 }, tt)))) $ pass1 ! (init ! 20 refl (tt, tt)) $ pass1 ! (init ! 18 refl (tt, (tt, (record { fits = g₃ .0 }, tt)))) $ pass1 ! (init ! 16 refl (gone-typed 𝓤 H A W g g-is)) $ pass0 ! $
-        move ! (29 ∷ []) $ fsplit ! $ move ! (1 ∷ []) $ fsplit ! $ move ! (1 ∷ []) $ fsplit ! $ move ! (1 ∷ []) $ fsplit ! $ move ! (1 ∷ []) $ drop ! $ nothing ! $ move ! (1 ∷ 0 ∷ []) $ fjoin ! $ move ! (1 ∷ 0 ∷ []) $ fjoin ! $ move ! (1 ∷ 0 ∷ []) $ fjoin ! $ move ! (1 ∷ 0 ∷ []) $ fjoin ! $
-        move ! (29 ∷ []) $ split ! $ move ! (1 ∷ []) $ split ! $ move ! (1 ∷ []) $ split ! $ move ! (1 ∷ []) $ split ! $ move ! (1 ∷ []) $ drop ! $ nothing ! $ move ! (1 ∷ 0 ∷ []) $ fjoin ! $ move ! (1 ∷ 0 ∷ []) $ fjoin ! $ move ! (1 ∷ 0 ∷ []) $ fjoin ! $ move ! (1 ∷ 0 ∷ []) $ fjoin ! $ move ! (1 ∷ 0 ∷ []) $
+        move ! (28 ∷ 29 ∷ []) $
         steps 𝓣 known-save known-kept l₀ l₁ l₂ l₃ l₄ l₅ l₆ l₇ l₈ l₉ l₁₀ l₁₁ l₁₂ l₁₃))))))))))))))
 
 module _ {M : Type 1} (𝓤 : URA M) (H : Heap 𝓤) (A : Atoms 𝓤) (W : Given 𝓤 H A) (at-mem : Memory → SProp 𝓤) (run : Routine → Fun 𝓤) (𝓣 : Tables 𝓤 H) (known-save : Triple 𝓤 (𝓣 .C #save) (save-con 𝓤 H A at-mem run)) (known-kept : Triple 𝓤 (𝓣 .C #kept) (kept-con 𝓤 H A at-mem run)) where
@@ -187,4 +191,4 @@ save-turn-spec 𝓤 H 𝓜 𝓖 𝓡 =
     (tables 𝓤 H 𝓜 𝓡 code.env .C) (tables 𝓤 H 𝓜 𝓡 code.env .Λ) #this code.function (code.unfolded 𝓤 H 𝓜 𝓡)
     (meets 𝓤 H (𝓖 .A) (givenOf 𝓤 H 𝓜 𝓖) (𝓜 .mem) (𝓡 .run) (tablesOf 𝓤 H 𝓜 (tables 𝓤 H 𝓜 𝓡 code.env))
     (cited 𝓤 H (save-con 𝓤 H (𝓖 .A) (𝓜 .mem) (𝓡 .run)) 𝓜 𝓡 code.env #save save-def.routine code.calls-tables·save-table (save-thm.met 𝓤 H 𝓜 𝓖 𝓡))
-    (cited 𝓤 H (kept-con 𝓤 H (𝓖 .A) (𝓜 .mem) (𝓡 .run)) 𝓜 𝓡 code.env #kept kept-def.routine code.calls-turns·saved (kept-thm.met 𝓤 H 𝓜 𝓖 𝓡)))
+    (cited 𝓤 H (kept-con 𝓤 H (𝓖 .A) (𝓜 .mem) (𝓡 .run)) 𝓜 𝓡 code.env #kept kept-def.routine code.calls-runs·gone·saved (kept-thm.met 𝓤 H 𝓜 𝓖 𝓡)))

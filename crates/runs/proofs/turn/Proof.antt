@@ -35,7 +35,9 @@ use denote.Triple.Spec.{Meets, tripleOf}
 use denote.Triple.Statement.{Contract, Triple}
 use denote.Triple.Table.{entered, cited}
 use denote.Triple.Walked.{says, Stays, stay-slice, stay-ref, stay-none, walkOf, goes-slice, goes-ref, goes-none, Walks, ends-at, walked, walk-meets}
+use Rattle.lent.proofs.Freed.{rooms, freed}
 use Rattle.lent.proofs.Lent.{Thing, part, whole as whole-of, have, tokens, lent}
+use Rattle.lent.proofs.Emptied.{emptied}
 use Rattle.lent.proofs.Landed.{landed-by}
 use Rattle.lent.proofs.Shut.{Shut}
 use Rattle.storage.specs.declared.Task.{Task}
@@ -144,11 +146,11 @@ module _ {M : Type 1} (𝓤 : URA M) (H : Heap 𝓤) (A : Atoms 𝓤) (W : Given
 
       -- the locals, given up
       abbrev Bare : List (Item 𝓤)
-      Bare = ‵ (froom (tyRef erased mut (tyArray (tyInt w32) 1024)) l₂₃ 0) ∷ ‵ (fdies (tyRef erased mut (tyArray (tyInt w32) 1024)) l₂₃) ∷ ‵ (froom (sliceTy (tyRef erased mut (tyInt w8))) l₂₂ 0) ∷ ‵ (fdies (sliceTy (tyRef erased mut (tyInt w8))) l₂₂) ∷ ‵ (froom (tyRef erased mut (tyInt w8)) l₂₁ 0) ∷ ‵ (fdies (tyRef erased mut (tyInt w8)) l₂₁) ∷ ‵ (froom (sliceTy (tyRef erased mut (tyInt w8))) l₂₀ 0) ∷ ‵ (fdies (sliceTy (tyRef erased mut (tyInt w8))) l₂₀) ∷ ‵ (froom (tyRef erased mut (tyInt w8)) l₁₉ 0) ∷ ‵ (fdies (tyRef erased mut (tyInt w8)) l₁₉) ∷ ‵ (froom (tyRef erased mut (tyArray (tyInt w64) 1000)) l₁₈ 0) ∷ ‵ (fdies (tyRef erased mut (tyArray (tyInt w64) 1000)) l₁₈) ∷ ‵ (froom (sliceTy (tyRef erased mut table-ty)) l₁₇ 0) ∷ ‵ (fdies (sliceTy (tyRef erased mut table-ty)) l₁₇) ∷ ‵ (froom (tyRef erased mut table-ty) l₁₆ 0) ∷ ‵ (fdies (tyRef erased mut table-ty) l₁₆) ∷ ‵ (froom (sliceTy (tyRef erased mut (tyInt w8))) l₁₅ 0) ∷ ‵ (fdies (sliceTy (tyRef erased mut (tyInt w8))) l₁₅) ∷ ‵ (froom (tyRef erased mut (tyInt w8)) l₁₄ 0) ∷ ‵ (fdies (tyRef erased mut (tyInt w8)) l₁₄) ∷ ‵ (froom (tyRef erased mut (tyArray (tyInt w32) 1024)) l₁₃ 0) ∷ ‵ (fdies (tyRef erased mut (tyArray (tyInt w32) 1024)) l₁₃) ∷ ‵ (froom (sliceTy (tyRef erased mut (tyInt w8))) l₁₂ 0) ∷ ‵ (fdies (sliceTy (tyRef erased mut (tyInt w8))) l₁₂) ∷ ‵ (froom (tyRef erased mut (tyInt w8)) l₁₁ 0) ∷ ‵ (fdies (tyRef erased mut (tyInt w8)) l₁₁) ∷ ‵ (froom (sliceTy (tyRef erased mut table-ty)) l₁₀ 0) ∷ ‵ (fdies (sliceTy (tyRef erased mut table-ty)) l₁₀) ∷ ‵ (froom (tyRef erased mut table-ty) l₉ 0) ∷ ‵ (fdies (tyRef erased mut table-ty) l₉) ∷ ‵ (froom tyBool l₈ 0) ∷ ‵ (fdies tyBool l₈) ∷ ‵ (froom gone-ty l₇ 0) ∷ ‵ (fdies gone-ty l₇) ∷ ‵ (froom (sliceTy (tyRef (named 5) mut (tyInt w8))) l₆ 0) ∷ ‵ (fdies (sliceTy (tyRef (named 5) mut (tyInt w8))) l₆) ∷ ‵ (froom (tyRef (named 4) mut (tyArray (tyInt w32) 1024)) l₅ 0) ∷ ‵ (fdies (tyRef (named 4) mut (tyArray (tyInt w32) 1024)) l₅) ∷ ‵ (froom (sliceTy (tyRef (named 3) mut (tyInt w8))) l₄ 0) ∷ ‵ (fdies (sliceTy (tyRef (named 3) mut (tyInt w8))) l₄) ∷ ‵ (froom (sliceTy (tyRef (named 2) mut (tyInt w8))) l₃ 0) ∷ ‵ (fdies (sliceTy (tyRef (named 2) mut (tyInt w8))) l₃) ∷ ‵ (froom (tyRef (named 1) mut (tyArray (tyInt w64) 1000)) l₂ 0) ∷ ‵ (fdies (tyRef (named 1) mut (tyArray (tyInt w64) 1000)) l₂) ∷ ‵ (froom (sliceTy (tyRef (named 0) mut table-ty)) l₁ 0) ∷ ‵ (fdies (sliceTy (tyRef (named 0) mut table-ty)) l₁) ∷ ‵ (froom gone-ty l₀ 0) ∷ ‵ (fdies gone-ty l₀) ∷ []
+      Bare = rooms 𝓤 H En []
 
       ends : (r : Gone) (ts : List Task) (st me po en sv : List ℕ) → Is gone.the-row r (gone-vals r) → length ts ≡ n₀ → length me ≡ n₂ → length po ≡ n₃ → length sv ≡ n₅ → going r ts st me po en sv ≡ turn-of (going g x₀ x₁ x₂ x₃ x₄ x₅) → Sq W (Has ts st me po en sv Bare) (frees En (prop (Post (gone-val r))))
       ends r ts st me po en sv is m₀ m₂ m₃ m₅ e =
-          move ! (48 ∷ 49 ∷ []) $ free1 ! $ move ! (46 ∷ 47 ∷ []) $ free1 ! $ move ! (44 ∷ 45 ∷ []) $ free1 ! $ move ! (42 ∷ 43 ∷ []) $ free1 ! $ move ! (40 ∷ 41 ∷ []) $ free1 ! $ move ! (38 ∷ 39 ∷ []) $ free1 ! $ move ! (36 ∷ 37 ∷ []) $ free1 ! $ move ! (34 ∷ 35 ∷ []) $ free1 ! $ move ! (32 ∷ 33 ∷ []) $ free1 ! $ move ! (30 ∷ 31 ∷ []) $ free1 ! $ move ! (28 ∷ 29 ∷ []) $ free1 ! $ move ! (26 ∷ 27 ∷ []) $ free1 ! $ move ! (24 ∷ 25 ∷ []) $ free1 ! $ move ! (22 ∷ 23 ∷ []) $ free1 ! $ move ! (20 ∷ 21 ∷ []) $ free1 ! $ move ! (18 ∷ 19 ∷ []) $ free1 ! $ move ! (16 ∷ 17 ∷ []) $ free1 ! $ move ! (14 ∷ 15 ∷ []) $ free1 ! $ move ! (12 ∷ 13 ∷ []) $ free1 ! $ move ! (10 ∷ 11 ∷ []) $ free1 ! $ move ! (8 ∷ 9 ∷ []) $ free1 ! $ move ! (6 ∷ 7 ∷ []) $ free1 ! $ move ! (4 ∷ 5 ∷ []) $ free1 ! $ move ! (2 ∷ 3 ∷ []) $ free1 ! $ free0 ! $ by ! (exits r ts st me po en sv is m₀ m₂ m₃ m₅ e)
+          freed ! $ by ! (exits r ts st me po en sv is m₀ m₂ m₃ m₅ e)
 
       -- what is lent and the locals after a test
       abbrev At : Bool → List (Item 𝓤)
@@ -158,7 +160,7 @@ module _ {M : Type 1} (𝓤 : URA M) (H : Heap 𝓤) (A : Atoms 𝓤) (W : Given
       passes-on : g .saves ≡ false → g .running ≡ false → Sq W (At (g .running)) (runs C Λ En mir.t-5 (atRet En Post))
       passes-on saves stopped =
           assigns ! (of-opd ! (load ! (from ! (stop !)) (look ! 34 refl))) (from ! (stop !)) (init ! 48 refl (gone-typed 𝓤 H A W g g-is)) $
-          returns ! (look ! 48 refl) $ forget ! 32 refl $ forget ! 34 refl $ forget ! 36 refl $ forget ! 38 refl $ forget ! 40 refl $ forget ! 42 refl $ forget ! 44 refl $ forget ! 46 refl $ forget ! 48 refl $
+          returns ! (look ! 48 refl) $ emptied ! refl $
           ends g x₀ x₁ x₂ x₃ x₄ x₅ g-is refl refl refl refl (turns-none x₀ x₁ x₂ x₃ x₄ x₅ g saves stopped)
 
       acting-on : g .saves ≡ false → Sq W (At (g .saves)) (runs C Λ En mir.t-3 (atRet En Post))
@@ -219,11 +221,13 @@ module _ {M : Type 1} (𝓤 : URA M) (H : Heap 𝓤) (A : Atoms 𝓤) (W : Given
     walk : (𝓣 : Tables 𝓤 H) (known-saves : Triple 𝓤 (𝓣 .C #saves) (saves-con 𝓤 H A at-mem run)) (known-acts : Triple 𝓤 (𝓣 .C #acts) (acts-con 𝓤 H A at-mem run)) → ent 𝓤 (onEntry 𝓤 H A f.signature κs₀ qs₀ x at) (WpFn 𝓤 H (𝓣 .C) (𝓣 .Λ) code.function (sliceVal (b₀, o₀) n₀ ∷ vptr b₁ o₁ ∷ sliceVal (b₂, o₂) n₂ ∷ sliceVal (b₃, o₃) n₃ ∷ vptr b₄ o₄ ∷ sliceVal (b₅, o₅) n₅ ∷ gone-val g ∷ []) Post)
     unfolding gone-shut
     walk 𝓣 known-saves known-acts =
-        qed W ((‵ (flft κ₀ q₀) ⊛ ‵ (flft κ₁ q₁) ⊛ ‵ (flft κ₂ q₂) ⊛ ‵ (flft κ₃ q₃) ⊛ ‵ (flft κ₄ q₄) ⊛ ‵ (flft κ₅ q₅) ⊛ ‵ ftrue) ∷ ‵ (owns (typesAt (f.signature .params) κs₀) x at) ∷ []) ∵ enter ! (𝓣 .C) (𝓣 .Λ) code.function (sliceVal (b₀, o₀) n₀ ∷ vptr b₁ o₁ ∷ sliceVal (b₂, o₂) n₂ ∷ sliceVal (b₃, o₃) n₃ ∷ vptr b₄ o₄ ∷ sliceVal (b₅, o₅) n₅ ∷ gone-val g ∷ []) _ $
+        qed W ((‵ (flft κ₀ q₀) ⊛ ‵ (flft κ₁ q₁) ⊛ ‵ (flft κ₂ q₂) ⊛ ‵ (flft κ₃ q₃) ⊛ ‵ (flft κ₄ q₄) ⊛ ‵ (flft κ₅ q₅) ⊛ ‵ ftrue) ∷ ‵ (owns (typesAt (f.signature .params) κs₀) x at) ∷ []) ∵
+        move ! (1 ∷ []) $ fsplit ! $ move ! (1 ∷ []) $ fsplit ! $ move ! (1 ∷ []) $ fsplit ! $ move ! (1 ∷ []) $ fsplit ! $ move ! (1 ∷ []) $ fsplit ! $ move ! (1 ∷ []) $ fsplit ! $ move ! (1 ∷ []) $ drop ! $ nothing ! $ move ! (1 ∷ 0 ∷ []) $ fjoin ! $ move ! (1 ∷ 0 ∷ []) $ fjoin ! $ move ! (1 ∷ 0 ∷ []) $ fjoin ! $ move ! (1 ∷ 0 ∷ []) $ fjoin ! $ move ! (1 ∷ 0 ∷ []) $ fjoin ! $ move ! (1 ∷ 0 ∷ []) $ fjoin ! $
+        move ! (1 ∷ []) $ split ! $ move ! (1 ∷ []) $ split ! $ move ! (1 ∷ []) $ split ! $ move ! (1 ∷ []) $ split ! $ move ! (1 ∷ []) $ split ! $ move ! (1 ∷ []) $ split ! $ move ! (1 ∷ []) $ drop ! $ nothing ! $ move ! (1 ∷ 0 ∷ []) $ fjoin ! $ move ! (1 ∷ 0 ∷ []) $ fjoin ! $ move ! (1 ∷ 0 ∷ []) $ fjoin ! $ move ! (1 ∷ 0 ∷ []) $ fjoin ! $ move ! (1 ∷ 0 ∷ []) $ fjoin ! $ move ! (1 ∷ 0 ∷ []) $ fjoin ! $ move ! (1 ∷ 0 ∷ []) $
+        enter ! (𝓣 .C) (𝓣 .Λ) code.function (sliceVal (b₀, o₀) n₀ ∷ vptr b₁ o₁ ∷ sliceVal (b₂, o₂) n₂ ∷ sliceVal (b₃, o₃) n₃ ∷ vptr b₄ o₄ ∷ sliceVal (b₅, o₅) n₅ ∷ gone-val g ∷ []) _ $
         alloc1 ! (λ l₀. alloc1 ! (λ l₁. alloc1 ! (λ l₂. alloc1 ! (λ l₃. alloc1 ! (λ l₄. alloc1 ! (λ l₅. alloc1 ! (λ l₆. alloc1 ! (λ l₇. alloc1 ! (λ l₈. alloc1 ! (λ l₉. alloc1 ! (λ l₁₀. alloc1 ! (λ l₁₁. alloc1 ! (λ l₁₂. alloc1 ! (λ l₁₃. alloc1 ! (λ l₁₄. alloc1 ! (λ l₁₅. alloc1 ! (λ l₁₆. alloc1 ! (λ l₁₇. alloc1 ! (λ l₁₈. alloc1 ! (λ l₁₉. alloc1 ! (λ l₂₀. alloc1 ! (λ l₂₁. alloc1 ! (λ l₂₂. alloc1 ! (λ l₂₃. alloc0 ! $ params1 ! $
         pass1 ! (init ! 44 refl (tt, (tt, (record { fits = g₀ .0 }, tt)))) $ pass1 ! (init ! 42 refl (tt, tt)) $ pass1 ! (init ! 40 refl (tt, (tt, (record { fits = g₂ .0 }, tt)))) $ pass1 ! (init ! 38 refl (tt, (tt, (record { fits = g₃ .0 }, tt)))) $ pass1 ! (init ! 36 refl (tt, tt)) $ pass1 ! (init ! 34 refl (tt, (tt, (record { fits = g₅ .0 }, tt)))) $ pass1 ! (init ! 32 refl (gone-typed 𝓤 H A W g g-is)) $ pass0 ! $
-        move ! (49 ∷ []) $ fsplit ! $ move ! (1 ∷ []) $ fsplit ! $ move ! (1 ∷ []) $ fsplit ! $ move ! (1 ∷ []) $ fsplit ! $ move ! (1 ∷ []) $ fsplit ! $ move ! (1 ∷ []) $ fsplit ! $ move ! (1 ∷ []) $ drop ! $ nothing ! $ move ! (1 ∷ 0 ∷ []) $ fjoin ! $ move ! (1 ∷ 0 ∷ []) $ fjoin ! $ move ! (1 ∷ 0 ∷ []) $ fjoin ! $ move ! (1 ∷ 0 ∷ []) $ fjoin ! $ move ! (1 ∷ 0 ∷ []) $ fjoin ! $ move ! (1 ∷ 0 ∷ []) $ fjoin ! $
-        move ! (49 ∷ []) $ split ! $ move ! (1 ∷ []) $ split ! $ move ! (1 ∷ []) $ split ! $ move ! (1 ∷ []) $ split ! $ move ! (1 ∷ []) $ split ! $ move ! (1 ∷ []) $ split ! $ move ! (1 ∷ []) $ drop ! $ nothing ! $ move ! (1 ∷ 0 ∷ []) $ fjoin ! $ move ! (1 ∷ 0 ∷ []) $ fjoin ! $ move ! (1 ∷ 0 ∷ []) $ fjoin ! $ move ! (1 ∷ 0 ∷ []) $ fjoin ! $ move ! (1 ∷ 0 ∷ []) $ fjoin ! $ move ! (1 ∷ 0 ∷ []) $ fjoin ! $ move ! (1 ∷ 0 ∷ []) $
+        move ! (48 ∷ 49 ∷ []) $
         steps 𝓣 known-saves known-acts l₀ l₁ l₂ l₃ l₄ l₅ l₆ l₇ l₈ l₉ l₁₀ l₁₁ l₁₂ l₁₃ l₁₄ l₁₅ l₁₆ l₁₇ l₁₈ l₁₉ l₂₀ l₂₁ l₂₂ l₂₃))))))))))))))))))))))))
 
 module _ {M : Type 1} (𝓤 : URA M) (H : Heap 𝓤) (A : Atoms 𝓤) (W : Given 𝓤 H A) (at-mem : Memory → SProp 𝓤) (run : Routine → Fun 𝓤) (𝓣 : Tables 𝓤 H) (known-saves : Triple 𝓤 (𝓣 .C #saves) (saves-con 𝓤 H A at-mem run)) (known-acts : Triple 𝓤 (𝓣 .C #acts) (acts-con 𝓤 H A at-mem run)) where

@@ -38,7 +38,9 @@ use denote.Triple.Spec.{Meets, tripleOf}
 use denote.Triple.Statement.{Contract, Triple}
 use denote.Triple.Table.{entered, cited}
 use denote.Triple.Walked.{says, Stays, stay-slice, stay-ref, stay-none, walkOf, goes-slice, goes-ref, goes-none, Walks, ends-at, walked, walk-meets}
+use Rattle.lent.proofs.Freed.{rooms, freed}
 use Rattle.lent.proofs.Lent.{Thing, part, whole as whole-of, have, tokens, lent}
+use Rattle.lent.proofs.Emptied.{emptied}
 use Rattle.lent.proofs.Landed.{landed-by}
 use Rattle.lent.proofs.Shut.{Shut}
 use Rattle.storage.specs.declared.Task.{Task}
@@ -168,11 +170,11 @@ module _ {M : Type 1} (𝓤 : URA M) (H : Heap 𝓤) (A : Atoms 𝓤) (W : Given
 
       -- the locals, given up
       abbrev Bare : List (Item 𝓤)
-      Bare = ‵ (froom (sliceTy (tyRef erased mut (tyInt w8))) l₃₃ 0) ∷ ‵ (fdies (sliceTy (tyRef erased mut (tyInt w8))) l₃₃) ∷ ‵ (froom (tyRef erased mut (tyInt w8)) l₃₂ 0) ∷ ‵ (fdies (tyRef erased mut (tyInt w8)) l₃₂) ∷ ‵ (froom (tyRef erased mut (tyArray (tyInt w32) 1024)) l₃₁ 0) ∷ ‵ (fdies (tyRef erased mut (tyArray (tyInt w32) 1024)) l₃₁) ∷ ‵ (froom (sliceTy (tyRef erased mut (tyInt w8))) l₃₀ 0) ∷ ‵ (fdies (sliceTy (tyRef erased mut (tyInt w8))) l₃₀) ∷ ‵ (froom (tyRef erased mut (tyInt w8)) l₂₉ 0) ∷ ‵ (fdies (tyRef erased mut (tyInt w8)) l₂₉) ∷ ‵ (froom (sliceTy (tyRef erased mut (tyInt w8))) l₂₈ 0) ∷ ‵ (fdies (sliceTy (tyRef erased mut (tyInt w8))) l₂₈) ∷ ‵ (froom (tyRef erased mut (tyInt w8)) l₂₇ 0) ∷ ‵ (fdies (tyRef erased mut (tyInt w8)) l₂₇) ∷ ‵ (froom (tyRef erased mut (tyArray (tyInt w64) 1000)) l₂₆ 0) ∷ ‵ (fdies (tyRef erased mut (tyArray (tyInt w64) 1000)) l₂₆) ∷ ‵ (froom (sliceTy (tyRef erased mut table-ty)) l₂₅ 0) ∷ ‵ (fdies (sliceTy (tyRef erased mut table-ty)) l₂₅) ∷ ‵ (froom (tyRef erased mut table-ty) l₂₄ 0) ∷ ‵ (fdies (tyRef erased mut table-ty) l₂₄) ∷ ‵ (froom (sliceTy (tyRef erased mut (tyInt w8))) l₂₃ 0) ∷ ‵ (fdies (sliceTy (tyRef erased mut (tyInt w8))) l₂₃) ∷ ‵ (froom (tyRef erased mut (tyInt w8)) l₂₂ 0) ∷ ‵ (fdies (tyRef erased mut (tyInt w8)) l₂₂) ∷ ‵ (froom (tyRef erased mut (tyArray (tyInt w32) 1024)) l₂₁ 0) ∷ ‵ (fdies (tyRef erased mut (tyArray (tyInt w32) 1024)) l₂₁) ∷ ‵ (froom (sliceTy (tyRef erased mut (tyInt w8))) l₂₀ 0) ∷ ‵ (fdies (sliceTy (tyRef erased mut (tyInt w8))) l₂₀) ∷ ‵ (froom (tyRef erased mut (tyInt w8)) l₁₉ 0) ∷ ‵ (fdies (tyRef erased mut (tyInt w8)) l₁₉) ∷ ‵ (froom (sliceTy (tyRef erased mut (tyInt w8))) l₁₈ 0) ∷ ‵ (fdies (sliceTy (tyRef erased mut (tyInt w8))) l₁₈) ∷ ‵ (froom (tyRef erased mut (tyInt w8)) l₁₇ 0) ∷ ‵ (fdies (tyRef erased mut (tyInt w8)) l₁₇) ∷ ‵ (froom (tyRef erased mut (tyArray (tyInt w64) 1000)) l₁₆ 0) ∷ ‵ (fdies (tyRef erased mut (tyArray (tyInt w64) 1000)) l₁₆) ∷ ‵ (froom (sliceTy (tyRef erased mut table-ty)) l₁₅ 0) ∷ ‵ (fdies (sliceTy (tyRef erased mut table-ty)) l₁₅) ∷ ‵ (froom (tyRef erased mut table-ty) l₁₄ 0) ∷ ‵ (fdies (tyRef erased mut table-ty) l₁₄) ∷ ‵ (froom tyBool l₁₃ 0) ∷ ‵ (fdies tyBool l₁₃) ∷ ‵ (froom save-report-ty l₁₂ 0) ∷ ‵ (fdies save-report-ty l₁₂) ∷ ‵ (froom report-ty l₁₁ 0) ∷ ‵ (fdies report-ty l₁₁) ∷ ‵ (froom verb-ty l₁₀ 0) ∷ ‵ (fdies verb-ty l₁₀) ∷ ‵ (froom (tyInt w64) l₉ 0) ∷ ‵ (fdies (tyInt w64) l₉) ∷ ‵ (froom (tyInt w8) l₈ 0) ∷ ‵ (fdies (tyInt w8) l₈) ∷ ‵ (froom machine-ty l₇ 0) ∷ ‵ (fdies machine-ty l₇) ∷ ‵ (froom (sliceTy (tyRef (named 5) mut (tyInt w8))) l₆ 0) ∷ ‵ (fdies (sliceTy (tyRef (named 5) mut (tyInt w8))) l₆) ∷ ‵ (froom (tyRef (named 4) mut (tyArray (tyInt w32) 1024)) l₅ 0) ∷ ‵ (fdies (tyRef (named 4) mut (tyArray (tyInt w32) 1024)) l₅) ∷ ‵ (froom (sliceTy (tyRef (named 3) mut (tyInt w8))) l₄ 0) ∷ ‵ (fdies (sliceTy (tyRef (named 3) mut (tyInt w8))) l₄) ∷ ‵ (froom (sliceTy (tyRef (named 2) mut (tyInt w8))) l₃ 0) ∷ ‵ (fdies (sliceTy (tyRef (named 2) mut (tyInt w8))) l₃) ∷ ‵ (froom (tyRef (named 1) mut (tyArray (tyInt w64) 1000)) l₂ 0) ∷ ‵ (fdies (tyRef (named 1) mut (tyArray (tyInt w64) 1000)) l₂) ∷ ‵ (froom (sliceTy (tyRef (named 0) mut table-ty)) l₁ 0) ∷ ‵ (fdies (sliceTy (tyRef (named 0) mut table-ty)) l₁) ∷ ‵ (froom answered-ty l₀ 0) ∷ ‵ (fdies answered-ty l₀) ∷ []
+      Bare = rooms 𝓤 H En []
 
       ends : (r : Answered) (v₀ : List Task) (v₁ : List ℕ) (v₂ : List ℕ) (v₃ : List ℕ) (v₄ : List ℕ) (v₅ : List ℕ) → Is answered.the-row r (answered-val r ∷ []) → length v₀ ≡ n₀ → length v₂ ≡ n₂ → length v₃ ≡ n₃ → length v₅ ≡ n₅ → acted r v₀ v₁ v₂ v₃ v₄ v₅ ≡ performed verb fuel (world m x₀ x₁ x₂ x₃ x₄ x₅) → Sq W (Has v₀ v₁ v₂ v₃ v₄ v₅ Bare) (frees En (prop (Post (answered-val r))))
       ends r v₀ v₁ v₂ v₃ v₄ v₅ is m₀ m₂ m₃ m₅ e =
-          move ! (68 ∷ 69 ∷ []) $ free1 ! $ move ! (66 ∷ 67 ∷ []) $ free1 ! $ move ! (64 ∷ 65 ∷ []) $ free1 ! $ move ! (62 ∷ 63 ∷ []) $ free1 ! $ move ! (60 ∷ 61 ∷ []) $ free1 ! $ move ! (58 ∷ 59 ∷ []) $ free1 ! $ move ! (56 ∷ 57 ∷ []) $ free1 ! $ move ! (54 ∷ 55 ∷ []) $ free1 ! $ move ! (52 ∷ 53 ∷ []) $ free1 ! $ move ! (50 ∷ 51 ∷ []) $ free1 ! $ move ! (48 ∷ 49 ∷ []) $ free1 ! $ move ! (46 ∷ 47 ∷ []) $ free1 ! $ move ! (44 ∷ 45 ∷ []) $ free1 ! $ move ! (42 ∷ 43 ∷ []) $ free1 ! $ move ! (40 ∷ 41 ∷ []) $ free1 ! $ move ! (38 ∷ 39 ∷ []) $ free1 ! $ move ! (36 ∷ 37 ∷ []) $ free1 ! $ move ! (34 ∷ 35 ∷ []) $ free1 ! $ move ! (32 ∷ 33 ∷ []) $ free1 ! $ move ! (30 ∷ 31 ∷ []) $ free1 ! $ move ! (28 ∷ 29 ∷ []) $ free1 ! $ move ! (26 ∷ 27 ∷ []) $ free1 ! $ move ! (24 ∷ 25 ∷ []) $ free1 ! $ move ! (22 ∷ 23 ∷ []) $ free1 ! $ move ! (20 ∷ 21 ∷ []) $ free1 ! $ move ! (18 ∷ 19 ∷ []) $ free1 ! $ move ! (16 ∷ 17 ∷ []) $ free1 ! $ move ! (14 ∷ 15 ∷ []) $ free1 ! $ move ! (12 ∷ 13 ∷ []) $ free1 ! $ move ! (10 ∷ 11 ∷ []) $ free1 ! $ move ! (8 ∷ 9 ∷ []) $ free1 ! $ move ! (6 ∷ 7 ∷ []) $ free1 ! $ move ! (4 ∷ 5 ∷ []) $ free1 ! $ move ! (2 ∷ 3 ∷ []) $ free1 ! $ free0 ! $ by ! (exits r v₀ v₁ v₂ v₃ v₄ v₅ is m₀ m₂ m₃ m₅ e)
+          freed ! $ by ! (exits r v₀ v₁ v₂ v₃ v₄ v₅ is m₀ m₂ m₃ m₅ e)
 
       -- a save
       saves-it : ltb verb 2 ≡ false → Sq W (Has x₀ x₁ x₂ x₃ x₄ x₅ (‵ (froom (sliceTy (tyRef erased mut (tyInt w8))) l₃₃ 0) ∷ ‵ (fdies (sliceTy (tyRef erased mut (tyInt w8))) l₃₃) ∷ ‵ (froom (tyRef erased mut (tyInt w8)) l₃₂ 0) ∷ ‵ (fdies (tyRef erased mut (tyInt w8)) l₃₂) ∷ ‵ (froom (tyRef erased mut (tyArray (tyInt w32) 1024)) l₃₁ 0) ∷ ‵ (fdies (tyRef erased mut (tyArray (tyInt w32) 1024)) l₃₁) ∷ ‵ (froom (sliceTy (tyRef erased mut (tyInt w8))) l₃₀ 0) ∷ ‵ (fdies (sliceTy (tyRef erased mut (tyInt w8))) l₃₀) ∷ ‵ (froom (tyRef erased mut (tyInt w8)) l₂₉ 0) ∷ ‵ (fdies (tyRef erased mut (tyInt w8)) l₂₉) ∷ ‵ (froom (sliceTy (tyRef erased mut (tyInt w8))) l₂₈ 0) ∷ ‵ (fdies (sliceTy (tyRef erased mut (tyInt w8))) l₂₈) ∷ ‵ (froom (tyRef erased mut (tyInt w8)) l₂₇ 0) ∷ ‵ (fdies (tyRef erased mut (tyInt w8)) l₂₇) ∷ ‵ (froom (tyRef erased mut (tyArray (tyInt w64) 1000)) l₂₆ 0) ∷ ‵ (fdies (tyRef erased mut (tyArray (tyInt w64) 1000)) l₂₆) ∷ ‵ (froom (sliceTy (tyRef erased mut table-ty)) l₂₅ 0) ∷ ‵ (fdies (sliceTy (tyRef erased mut table-ty)) l₂₅) ∷ ‵ (froom (tyRef erased mut table-ty) l₂₄ 0) ∷ ‵ (fdies (tyRef erased mut table-ty) l₂₄) ∷ ‵ (froom (sliceTy (tyRef erased mut (tyInt w8))) l₂₃ 0) ∷ ‵ (fdies (sliceTy (tyRef erased mut (tyInt w8))) l₂₃) ∷ ‵ (froom (tyRef erased mut (tyInt w8)) l₂₂ 0) ∷ ‵ (fdies (tyRef erased mut (tyInt w8)) l₂₂) ∷ ‵ (froom (tyRef erased mut (tyArray (tyInt w32) 1024)) l₂₁ 0) ∷ ‵ (fdies (tyRef erased mut (tyArray (tyInt w32) 1024)) l₂₁) ∷ ‵ (froom (sliceTy (tyRef erased mut (tyInt w8))) l₂₀ 0) ∷ ‵ (fdies (sliceTy (tyRef erased mut (tyInt w8))) l₂₀) ∷ ‵ (froom (tyRef erased mut (tyInt w8)) l₁₉ 0) ∷ ‵ (fdies (tyRef erased mut (tyInt w8)) l₁₉) ∷ ‵ (froom (sliceTy (tyRef erased mut (tyInt w8))) l₁₈ 0) ∷ ‵ (fdies (sliceTy (tyRef erased mut (tyInt w8))) l₁₈) ∷ ‵ (froom (tyRef erased mut (tyInt w8)) l₁₇ 0) ∷ ‵ (fdies (tyRef erased mut (tyInt w8)) l₁₇) ∷ ‵ (froom (tyRef erased mut (tyArray (tyInt w64) 1000)) l₁₆ 0) ∷ ‵ (fdies (tyRef erased mut (tyArray (tyInt w64) 1000)) l₁₆) ∷ ‵ (froom (sliceTy (tyRef erased mut table-ty)) l₁₅ 0) ∷ ‵ (fdies (sliceTy (tyRef erased mut table-ty)) l₁₅) ∷ ‵ (froom (tyRef erased mut table-ty) l₁₄ 0) ∷ ‵ (fdies (tyRef erased mut table-ty) l₁₄) ∷ ‵ (froom tyBool l₁₃ 0) ∷ ‵ (fdies tyBool l₁₃) ∷ ‵ (froom save-report-ty l₁₂ 0) ∷ ‵ (fdies save-report-ty l₁₂) ∷ ‵ (froom report-ty l₁₁ 0) ∷ ‵ (fdies report-ty l₁₁) ∷ ‵ (froom verb-ty l₁₀ 0) ∷ ‵ (fdies verb-ty l₁₀) ∷ ‵ (fat fullShare (tyInt w64) l₉ 0 (vint w64 fuel)) ∷ ‵ (fdies (tyInt w64) l₉) ∷ ‵ (fat fullShare (tyInt w8) l₈ 0 (vint w8 verb)) ∷ ‵ (fdies (tyInt w8) l₈) ∷ ‵ (fat fullShare machine-ty l₇ 0 (machine-val m)) ∷ ‵ (fdies machine-ty l₇) ∷ ‵ (fat fullShare (sliceTy (tyRef (named 5) mut (tyInt w8))) l₆ 0 (sliceVal (b₅, o₅) n₅)) ∷ ‵ (fdies (sliceTy (tyRef (named 5) mut (tyInt w8))) l₆) ∷ ‵ (fat fullShare (tyRef (named 4) mut (tyArray (tyInt w32) 1024)) l₅ 0 (vptr b₄ o₄)) ∷ ‵ (fdies (tyRef (named 4) mut (tyArray (tyInt w32) 1024)) l₅) ∷ ‵ (fat fullShare (sliceTy (tyRef (named 3) mut (tyInt w8))) l₄ 0 (sliceVal (b₃, o₃) n₃)) ∷ ‵ (fdies (sliceTy (tyRef (named 3) mut (tyInt w8))) l₄) ∷ ‵ (fat fullShare (sliceTy (tyRef (named 2) mut (tyInt w8))) l₃ 0 (sliceVal (b₂, o₂) n₂)) ∷ ‵ (fdies (sliceTy (tyRef (named 2) mut (tyInt w8))) l₃) ∷ ‵ (fat fullShare (tyRef (named 1) mut (tyArray (tyInt w64) 1000)) l₂ 0 (vptr b₁ o₁)) ∷ ‵ (fdies (tyRef (named 1) mut (tyArray (tyInt w64) 1000)) l₂) ∷ ‵ (fat fullShare (sliceTy (tyRef (named 0) mut table-ty)) l₁ 0 (sliceVal (b₀, o₀) n₀)) ∷ ‵ (fdies (sliceTy (tyRef (named 0) mut table-ty)) l₁) ∷ ‵ (froom answered-ty l₀ 0) ∷ ‵ (fdies answered-ty l₀) ∷ [])) (runs C Λ En mir.t-3 (atRet En Post))
@@ -198,7 +200,7 @@ module _ {M : Type 1} (𝓤 : URA M) (H : Heap 𝓤) (A : Atoms 𝓤) (W : Given
           (λ αs δs. (and-then ! (load ! (from ! (stop !)) (look ! 46 refl)) (no-more !)))
           (λ αs δs w₂ r₂ z₂ f₂. heard ! (r₂ ≡ saved-of r₁) (λ e₂. landed-by ! answered.the-row answered-vals answered-tells r₂ w₂ (λ is₂.
           drop ! $ drop ! $ land ! (from ! (stop !)) (init ! 68 refl (answered-typed 𝓤 H A W r₂ is₂)) $
-          returns ! (look ! 68 refl) $ forget ! 2 refl $ forget ! 4 refl $ forget ! 6 refl $ forget ! 8 refl $ forget ! 10 refl $ forget ! 12 refl $ forget ! 14 refl $ forget ! 16 refl $ forget ! 18 refl $ forget ! 20 refl $ forget ! 44 refl $ forget ! 50 refl $ forget ! 52 refl $ forget ! 54 refl $ forget ! 56 refl $ forget ! 58 refl $ forget ! 60 refl $ forget ! 62 refl $ forget ! 64 refl $ forget ! 66 refl $ forget ! 68 refl $
+          returns ! (look ! 68 refl) $ emptied ! refl $
           ends r₂ (z₁ .0) (z₁ .1 .0) (z₁ .1 .1 .0) (z₁ .1 .1 .1 .0) (z₁ .1 .1 .1 .1 .0) (z₁ .1 .1 .1 .1 .1 .0) is₂ (f₁ .0) (f₁ .1 .1 .0) (f₁ .1 .1 .1 .0) (f₁ .1 .1 .1 .1 .1 .0) (performs-save verb fuel (world m x₀ x₁ x₂ x₃ x₄ x₅) no-run e₁ e₂)))))))
 
       -- a run
@@ -241,11 +243,13 @@ module _ {M : Type 1} (𝓤 : URA M) (H : Heap 𝓤) (A : Atoms 𝓤) (W : Given
     walk : (𝓣 : Tables 𝓤 H) (known-asks : Triple 𝓤 (𝓣 .C #asks) (asks-con 𝓤 H A at-mem run)) (known-calls : Triple 𝓤 (𝓣 .C #calls) (calls-con 𝓤 H A at-mem run)) (known-saves : Triple 𝓤 (𝓣 .C #saves) (saves-con 𝓤 H A at-mem run)) (known-ran : Triple 𝓤 (𝓣 .C #ran) (ran-con 𝓤 H A at-mem run)) (known-saved : Triple 𝓤 (𝓣 .C #saved) (saved-con 𝓤 H A at-mem run)) → ent 𝓤 (onEntry 𝓤 H A f.signature κs₀ qs₀ x at) (WpFn 𝓤 H (𝓣 .C) (𝓣 .Λ) code.function (sliceVal (b₀, o₀) n₀ ∷ vptr b₁ o₁ ∷ sliceVal (b₂, o₂) n₂ ∷ sliceVal (b₃, o₃) n₃ ∷ vptr b₄ o₄ ∷ sliceVal (b₅, o₅) n₅ ∷ machine-val m ∷ vint w8 verb ∷ vint w64 fuel ∷ []) Post)
     unfolding machine-shut report-shut save-report-shut answered-shut verb-shut
     walk 𝓣 known-asks known-calls known-saves known-ran known-saved =
-        qed W ((‵ (flft κ₀ q₀) ⊛ ‵ (flft κ₁ q₁) ⊛ ‵ (flft κ₂ q₂) ⊛ ‵ (flft κ₃ q₃) ⊛ ‵ (flft κ₄ q₄) ⊛ ‵ (flft κ₅ q₅) ⊛ ‵ ftrue) ∷ ‵ (owns (typesAt (f.signature .params) κs₀) x at) ∷ []) ∵ enter ! (𝓣 .C) (𝓣 .Λ) code.function (sliceVal (b₀, o₀) n₀ ∷ vptr b₁ o₁ ∷ sliceVal (b₂, o₂) n₂ ∷ sliceVal (b₃, o₃) n₃ ∷ vptr b₄ o₄ ∷ sliceVal (b₅, o₅) n₅ ∷ machine-val m ∷ vint w8 verb ∷ vint w64 fuel ∷ []) _ $
+        qed W ((‵ (flft κ₀ q₀) ⊛ ‵ (flft κ₁ q₁) ⊛ ‵ (flft κ₂ q₂) ⊛ ‵ (flft κ₃ q₃) ⊛ ‵ (flft κ₄ q₄) ⊛ ‵ (flft κ₅ q₅) ⊛ ‵ ftrue) ∷ ‵ (owns (typesAt (f.signature .params) κs₀) x at) ∷ []) ∵
+        move ! (1 ∷ []) $ fsplit ! $ move ! (1 ∷ []) $ fsplit ! $ move ! (1 ∷ []) $ fsplit ! $ move ! (1 ∷ []) $ fsplit ! $ move ! (1 ∷ []) $ fsplit ! $ move ! (1 ∷ []) $ fsplit ! $ move ! (1 ∷ []) $ drop ! $ nothing ! $ move ! (1 ∷ 0 ∷ []) $ fjoin ! $ move ! (1 ∷ 0 ∷ []) $ fjoin ! $ move ! (1 ∷ 0 ∷ []) $ fjoin ! $ move ! (1 ∷ 0 ∷ []) $ fjoin ! $ move ! (1 ∷ 0 ∷ []) $ fjoin ! $ move ! (1 ∷ 0 ∷ []) $ fjoin ! $
+        move ! (1 ∷ []) $ split ! $ move ! (1 ∷ []) $ split ! $ move ! (1 ∷ []) $ split ! $ move ! (1 ∷ []) $ split ! $ move ! (1 ∷ []) $ split ! $ move ! (1 ∷ []) $ split ! $ move ! (1 ∷ []) $ drop ! $ nothing ! $ move ! (1 ∷ 0 ∷ []) $ fjoin ! $ move ! (1 ∷ 0 ∷ []) $ fjoin ! $ move ! (1 ∷ 0 ∷ []) $ fjoin ! $ move ! (1 ∷ 0 ∷ []) $ fjoin ! $ move ! (1 ∷ 0 ∷ []) $ fjoin ! $ move ! (1 ∷ 0 ∷ []) $ fjoin ! $ move ! (1 ∷ 0 ∷ []) $
+        enter ! (𝓣 .C) (𝓣 .Λ) code.function (sliceVal (b₀, o₀) n₀ ∷ vptr b₁ o₁ ∷ sliceVal (b₂, o₂) n₂ ∷ sliceVal (b₃, o₃) n₃ ∷ vptr b₄ o₄ ∷ sliceVal (b₅, o₅) n₅ ∷ machine-val m ∷ vint w8 verb ∷ vint w64 fuel ∷ []) _ $
         alloc1 ! (λ l₀. alloc1 ! (λ l₁. alloc1 ! (λ l₂. alloc1 ! (λ l₃. alloc1 ! (λ l₄. alloc1 ! (λ l₅. alloc1 ! (λ l₆. alloc1 ! (λ l₇. alloc1 ! (λ l₈. alloc1 ! (λ l₉. alloc1 ! (λ l₁₀. alloc1 ! (λ l₁₁. alloc1 ! (λ l₁₂. alloc1 ! (λ l₁₃. alloc1 ! (λ l₁₄. alloc1 ! (λ l₁₅. alloc1 ! (λ l₁₆. alloc1 ! (λ l₁₇. alloc1 ! (λ l₁₈. alloc1 ! (λ l₁₉. alloc1 ! (λ l₂₀. alloc1 ! (λ l₂₁. alloc1 ! (λ l₂₂. alloc1 ! (λ l₂₃. alloc1 ! (λ l₂₄. alloc1 ! (λ l₂₅. alloc1 ! (λ l₂₆. alloc1 ! (λ l₂₇. alloc1 ! (λ l₂₈. alloc1 ! (λ l₂₉. alloc1 ! (λ l₃₀. alloc1 ! (λ l₃₁. alloc1 ! (λ l₃₂. alloc1 ! (λ l₃₃. alloc0 ! $ params1 ! $
         pass1 ! (init ! 64 refl (tt, (tt, (record { fits = g₀ .0 }, tt)))) $ pass1 ! (init ! 62 refl (tt, tt)) $ pass1 ! (init ! 60 refl (tt, (tt, (record { fits = g₂ .0 }, tt)))) $ pass1 ! (init ! 58 refl (tt, (tt, (record { fits = g₃ .0 }, tt)))) $ pass1 ! (init ! 56 refl (tt, tt)) $ pass1 ! (init ! 54 refl (tt, (tt, (record { fits = g₅ .0 }, tt)))) $ pass1 ! (init ! 52 refl (machine-typed 𝓤 H A W m m-is)) $ pass1 ! (init ! 50 refl (tt, record { fits = verb-is })) $ pass1 ! (init ! 48 refl (tt, record { fits = fuel-is })) $ pass0 ! $
-        move ! (69 ∷ []) $ fsplit ! $ move ! (1 ∷ []) $ fsplit ! $ move ! (1 ∷ []) $ fsplit ! $ move ! (1 ∷ []) $ fsplit ! $ move ! (1 ∷ []) $ fsplit ! $ move ! (1 ∷ []) $ fsplit ! $ move ! (1 ∷ []) $ drop ! $ nothing ! $ move ! (1 ∷ 0 ∷ []) $ fjoin ! $ move ! (1 ∷ 0 ∷ []) $ fjoin ! $ move ! (1 ∷ 0 ∷ []) $ fjoin ! $ move ! (1 ∷ 0 ∷ []) $ fjoin ! $ move ! (1 ∷ 0 ∷ []) $ fjoin ! $ move ! (1 ∷ 0 ∷ []) $ fjoin ! $
-        move ! (69 ∷ []) $ split ! $ move ! (1 ∷ []) $ split ! $ move ! (1 ∷ []) $ split ! $ move ! (1 ∷ []) $ split ! $ move ! (1 ∷ []) $ split ! $ move ! (1 ∷ []) $ split ! $ move ! (1 ∷ []) $ drop ! $ nothing ! $ move ! (1 ∷ 0 ∷ []) $ fjoin ! $ move ! (1 ∷ 0 ∷ []) $ fjoin ! $ move ! (1 ∷ 0 ∷ []) $ fjoin ! $ move ! (1 ∷ 0 ∷ []) $ fjoin ! $ move ! (1 ∷ 0 ∷ []) $ fjoin ! $ move ! (1 ∷ 0 ∷ []) $ fjoin ! $ move ! (1 ∷ 0 ∷ []) $
+        move ! (68 ∷ 69 ∷ []) $
         steps 𝓣 known-asks known-calls known-saves known-ran known-saved l₀ l₁ l₂ l₃ l₄ l₅ l₆ l₇ l₈ l₉ l₁₀ l₁₁ l₁₂ l₁₃ l₁₄ l₁₅ l₁₆ l₁₇ l₁₈ l₁₉ l₂₀ l₂₁ l₂₂ l₂₃ l₂₄ l₂₅ l₂₆ l₂₇ l₂₈ l₂₉ l₃₀ l₃₁ l₃₂ l₃₃))))))))))))))))))))))))))))))))))
 
 module _ {M : Type 1} (𝓤 : URA M) (H : Heap 𝓤) (A : Atoms 𝓤) (W : Given 𝓤 H A) (at-mem : Memory → SProp 𝓤) (run : Routine → Fun 𝓤) (𝓣 : Tables 𝓤 H) (known-asks : Triple 𝓤 (𝓣 .C #asks) (asks-con 𝓤 H A at-mem run)) (known-calls : Triple 𝓤 (𝓣 .C #calls) (calls-con 𝓤 H A at-mem run)) (known-saves : Triple 𝓤 (𝓣 .C #saves) (saves-con 𝓤 H A at-mem run)) (known-ran : Triple 𝓤 (𝓣 .C #ran) (ran-con 𝓤 H A at-mem run)) (known-saved : Triple 𝓤 (𝓣 .C #saved) (saved-con 𝓤 H A at-mem run)) where

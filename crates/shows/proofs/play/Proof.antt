@@ -40,7 +40,9 @@ use denote.Triple.Spec.{Meets, tripleOf}
 use denote.Triple.Statement.{Contract, Triple}
 use denote.Triple.Table.{entered, cited}
 use denote.Triple.Walked.{says, Stays, stay-slice, stay-ref, stay-none, walkOf, goes-slice, goes-ref, goes-none, Walks, ends-at, walked, walk-meets}
+use Rattle.lent.proofs.Freed.{rooms, freed}
 use Rattle.lent.proofs.Lent.{Thing, part, whole as whole-of, have, tokens, lent}
+use Rattle.lent.proofs.Emptied.{emptied}
 use Rattle.lent.proofs.Landed.{landed-by}
 use Rattle.lent.proofs.Shut.{Shut}
 use Rattle.lent.proofs.Rest.{past}
@@ -156,11 +158,11 @@ module _ {M : Type 1} (𝓤 : URA M) (H : Heap 𝓤) (A : Atoms 𝓤) (W : Given
 
       -- the locals, given up
       abbrev Bare : List (Item 𝓤)
-      Bare = ‵ (froom (sliceTy (tyRef erased mut (tyInt w8))) l₂₆ 0) ∷ ‵ (fdies (sliceTy (tyRef erased mut (tyInt w8))) l₂₆) ∷ ‵ (froom (tyRef erased mut (tyInt w8)) l₂₅ 0) ∷ ‵ (fdies (tyRef erased mut (tyInt w8)) l₂₅) ∷ ‵ (froom (sliceTy (tyRef erased mut (tyInt w8))) l₂₄ 0) ∷ ‵ (fdies (sliceTy (tyRef erased mut (tyInt w8))) l₂₄) ∷ ‵ (froom (tyRef erased mut (tyInt w8)) l₂₃ 0) ∷ ‵ (fdies (tyRef erased mut (tyInt w8)) l₂₃) ∷ ‵ (froom (tyRef erased mut (tyArray (tyInt w32) 1024)) l₂₂ 0) ∷ ‵ (fdies (tyRef erased mut (tyArray (tyInt w32) 1024)) l₂₂) ∷ ‵ (froom (sliceTy (tyRef erased mut (tyInt w8))) l₂₁ 0) ∷ ‵ (fdies (sliceTy (tyRef erased mut (tyInt w8))) l₂₁) ∷ ‵ (froom (tyRef erased mut (tyInt w8)) l₂₀ 0) ∷ ‵ (fdies (tyRef erased mut (tyInt w8)) l₂₀) ∷ ‵ (froom (sliceTy (tyRef erased mut (tyInt w8))) l₁₉ 0) ∷ ‵ (fdies (sliceTy (tyRef erased mut (tyInt w8))) l₁₉) ∷ ‵ (froom (tyRef erased mut (tyInt w8)) l₁₈ 0) ∷ ‵ (fdies (tyRef erased mut (tyInt w8)) l₁₈) ∷ ‵ (froom (tyRef erased mut (tyArray (tyInt w64) 1000)) l₁₇ 0) ∷ ‵ (fdies (tyRef erased mut (tyArray (tyInt w64) 1000)) l₁₇) ∷ ‵ (froom (sliceTy (tyRef erased mut table-ty)) l₁₆ 0) ∷ ‵ (fdies (sliceTy (tyRef erased mut table-ty)) l₁₆) ∷ ‵ (froom (tyRef erased mut table-ty) l₁₅ 0) ∷ ‵ (fdies (tyRef erased mut table-ty) l₁₅) ∷ ‵ (froom tyBool l₁₄ 0) ∷ ‵ (fdies tyBool l₁₄) ∷ ‵ (froom (tyInt w64) l₁₃ 0) ∷ ‵ (fdies (tyInt w64) l₁₃) ∷ ‵ (froom machine-ty l₁₂ 0) ∷ ‵ (fdies machine-ty l₁₂) ∷ ‵ (froom tyBool l₁₁ 0) ∷ ‵ (fdies tyBool l₁₁) ∷ ‵ (froom (tyInt w64) l₁₀ 0) ∷ ‵ (fdies (tyInt w64) l₁₀) ∷ ‵ (froom (tyInt w64) l₉ 0) ∷ ‵ (fdies (tyInt w64) l₉) ∷ ‵ (froom machine-ty l₈ 0) ∷ ‵ (fdies machine-ty l₈) ∷ ‵ (froom (sliceTy (tyRef (named 6) mut (tyInt w8))) l₇ 0) ∷ ‵ (fdies (sliceTy (tyRef (named 6) mut (tyInt w8))) l₇) ∷ ‵ (froom (sliceTy (tyRef (named 5) mut (tyInt w8))) l₆ 0) ∷ ‵ (fdies (sliceTy (tyRef (named 5) mut (tyInt w8))) l₆) ∷ ‵ (froom (tyRef (named 4) mut (tyArray (tyInt w32) 1024)) l₅ 0) ∷ ‵ (fdies (tyRef (named 4) mut (tyArray (tyInt w32) 1024)) l₅) ∷ ‵ (froom (sliceTy (tyRef (named 3) mut (tyInt w8))) l₄ 0) ∷ ‵ (fdies (sliceTy (tyRef (named 3) mut (tyInt w8))) l₄) ∷ ‵ (froom (sliceTy (tyRef (named 2) mut (tyInt w8))) l₃ 0) ∷ ‵ (fdies (sliceTy (tyRef (named 2) mut (tyInt w8))) l₃) ∷ ‵ (froom (tyRef (named 1) mut (tyArray (tyInt w64) 1000)) l₂ 0) ∷ ‵ (fdies (tyRef (named 1) mut (tyArray (tyInt w64) 1000)) l₂) ∷ ‵ (froom (sliceTy (tyRef (named 0) mut table-ty)) l₁ 0) ∷ ‵ (fdies (sliceTy (tyRef (named 0) mut table-ty)) l₁) ∷ ‵ (froom machine-ty l₀ 0) ∷ ‵ (fdies machine-ty l₀) ∷ []
+      Bare = rooms 𝓤 H En []
 
       ends : (r : Machine) (v₀ : List Task) (v₁ : List ℕ) (v₂ : List ℕ) (v₃ : List ℕ) (v₄ : List ℕ) (v₅ : List ℕ) (v₆ : List ℕ) → Is machine.the-row r (machine-vals r) → length v₀ ≡ n₀ → length v₂ ≡ n₂ → length v₃ ≡ n₃ → length v₅ ≡ n₅ → length v₆ ≡ n₆ → after (world r v₀ v₁ v₂ v₃ v₄ v₅) v₆ ≡ after (after-calls x₆ start count (world m x₀ x₁ x₂ x₃ x₄ x₅)) x₆ → Sq W (Has v₀ v₁ v₂ v₃ v₄ v₅ v₆ Bare) (frees En (prop (Post (machine-val r))))
       ends r v₀ v₁ v₂ v₃ v₄ v₅ v₆ is m₀ m₂ m₃ m₅ m₆ e =
-          move ! (54 ∷ 55 ∷ []) $ free1 ! $ move ! (52 ∷ 53 ∷ []) $ free1 ! $ move ! (50 ∷ 51 ∷ []) $ free1 ! $ move ! (48 ∷ 49 ∷ []) $ free1 ! $ move ! (46 ∷ 47 ∷ []) $ free1 ! $ move ! (44 ∷ 45 ∷ []) $ free1 ! $ move ! (42 ∷ 43 ∷ []) $ free1 ! $ move ! (40 ∷ 41 ∷ []) $ free1 ! $ move ! (38 ∷ 39 ∷ []) $ free1 ! $ move ! (36 ∷ 37 ∷ []) $ free1 ! $ move ! (34 ∷ 35 ∷ []) $ free1 ! $ move ! (32 ∷ 33 ∷ []) $ free1 ! $ move ! (30 ∷ 31 ∷ []) $ free1 ! $ move ! (28 ∷ 29 ∷ []) $ free1 ! $ move ! (26 ∷ 27 ∷ []) $ free1 ! $ move ! (24 ∷ 25 ∷ []) $ free1 ! $ move ! (22 ∷ 23 ∷ []) $ free1 ! $ move ! (20 ∷ 21 ∷ []) $ free1 ! $ move ! (18 ∷ 19 ∷ []) $ free1 ! $ move ! (16 ∷ 17 ∷ []) $ free1 ! $ move ! (14 ∷ 15 ∷ []) $ free1 ! $ move ! (12 ∷ 13 ∷ []) $ free1 ! $ move ! (10 ∷ 11 ∷ []) $ free1 ! $ move ! (8 ∷ 9 ∷ []) $ free1 ! $ move ! (6 ∷ 7 ∷ []) $ free1 ! $ move ! (4 ∷ 5 ∷ []) $ free1 ! $ move ! (2 ∷ 3 ∷ []) $ free1 ! $ free0 ! $ by ! (exits r v₀ v₁ v₂ v₃ v₄ v₅ v₆ is m₀ m₂ m₃ m₅ m₆ e)
+          freed ! $ by ! (exits r v₀ v₁ v₂ v₃ v₄ v₅ v₆ is m₀ m₂ m₃ m₅ m₆ e)
 
       abbrev St : Type 0
       St = State n₀ n₂ n₃ n₅ count start x₆ (world m x₀ x₁ x₂ x₃ x₄ x₅)
@@ -201,7 +203,7 @@ module _ {M : Type 1} (𝓤 : URA M) (H : Heap 𝓤) (A : Atoms 𝓤) (W : Given
           again ! Less At s (record { m = r₁; i = s .i + 1; ts = z₁ .0; st = z₁ .1 .0; me = z₁ .1 .1 .0; po = z₁ .1 .1 .1 .0; en = z₁ .1 .1 .1 .1 .0; sv = z₁ .1 .1 .1 .1 .1 .0; ca = z₁ .1 .1 .1 .1 .1 .1 .0; m-is = is₁; i-in = next-in (ltb→lt (s .i) count more); ts-len = f₁ .0; me-len = f₁ .1 .1 .0; po-len = f₁ .1 .1 .1 .0; sv-len = f₁ .1 .1 .1 .1 .1 .0; ca-is = calls-stay (s .ca-is) e₁; so-far = goes-further x₆ start (s .i) (world m x₀ x₁ x₂ x₃ x₄ x₅) (s .so-far) (s .ca-is) e₁ }) (fewer (ltb→lt (s .i) count more))))))
           (λ out. jumps ! $ exec ! C Λ En mir.t-4 (atRet En Post) $
           assigns ! (of-opd ! (load ! (from ! (stop !)) (look ! 30 refl))) (from ! (stop !)) (init ! 54 refl (machine-typed 𝓤 H A W (s .m) (s .m-is))) $
-          returns ! (look ! 54 refl) $ forget ! 26 refl $ forget ! 28 refl $ forget ! 30 refl $ forget ! 32 refl $ forget ! 34 refl $ forget ! 36 refl $ forget ! 38 refl $ forget ! 40 refl $ forget ! 42 refl $ forget ! 44 refl $ forget ! 46 refl $ forget ! 48 refl $ forget ! 50 refl $ forget ! 52 refl $ forget ! 54 refl $
+          returns ! (look ! 54 refl) $ emptied ! refl $
           ends (s .m) (s .ts) (s .st) (s .me) (s .po) (s .en) (s .sv) (s .ca) (s .m-is) (s .ts-len) (s .me-len) (s .po-len) (s .sv-len) (ap length (s .ca-is)) (all-called x₆ start (s .i) count (world m x₀ x₁ x₂ x₃ x₄ x₅) (s .i-in) (nltb→le (s .i) count out) (s .so-far) (s .ca-is)))
 
       looped : (s : St) → Sq W (At s) (runs C Λ En mir.t-3 (atRet En Post))
@@ -216,11 +218,13 @@ module _ {M : Type 1} (𝓤 : URA M) (H : Heap 𝓤) (A : Atoms 𝓤) (W : Given
     walk : (𝓣 : Tables 𝓤 H) (known-turns-once : Triple 𝓤 (𝓣 .C #turns-once) (turns-once-con 𝓤 H A at-mem run)) → ent 𝓤 (onEntry 𝓤 H A f.signature κs₀ qs₀ x at) (WpFn 𝓤 H (𝓣 .C) (𝓣 .Λ) code.function (sliceVal (b₀, o₀) n₀ ∷ vptr b₁ o₁ ∷ sliceVal (b₂, o₂) n₂ ∷ sliceVal (b₃, o₃) n₃ ∷ vptr b₄ o₄ ∷ sliceVal (b₅, o₅) n₅ ∷ sliceVal (b₆, o₆) n₆ ∷ machine-val m ∷ vint w64 start ∷ vint w64 count ∷ vbool everything ∷ []) Post)
     unfolding machine-shut
     walk 𝓣 known-turns-once =
-        qed W ((‵ (flft κ₀ q₀) ⊛ ‵ (flft κ₁ q₁) ⊛ ‵ (flft κ₂ q₂) ⊛ ‵ (flft κ₃ q₃) ⊛ ‵ (flft κ₄ q₄) ⊛ ‵ (flft κ₅ q₅) ⊛ ‵ (flft κ₆ q₆) ⊛ ‵ ftrue) ∷ ‵ (owns (typesAt (f.signature .params) κs₀) x at) ∷ []) ∵ enter ! (𝓣 .C) (𝓣 .Λ) code.function (sliceVal (b₀, o₀) n₀ ∷ vptr b₁ o₁ ∷ sliceVal (b₂, o₂) n₂ ∷ sliceVal (b₃, o₃) n₃ ∷ vptr b₄ o₄ ∷ sliceVal (b₅, o₅) n₅ ∷ sliceVal (b₆, o₆) n₆ ∷ machine-val m ∷ vint w64 start ∷ vint w64 count ∷ vbool everything ∷ []) _ $
+        qed W ((‵ (flft κ₀ q₀) ⊛ ‵ (flft κ₁ q₁) ⊛ ‵ (flft κ₂ q₂) ⊛ ‵ (flft κ₃ q₃) ⊛ ‵ (flft κ₄ q₄) ⊛ ‵ (flft κ₅ q₅) ⊛ ‵ (flft κ₆ q₆) ⊛ ‵ ftrue) ∷ ‵ (owns (typesAt (f.signature .params) κs₀) x at) ∷ []) ∵
+        move ! (1 ∷ []) $ fsplit ! $ move ! (1 ∷ []) $ fsplit ! $ move ! (1 ∷ []) $ fsplit ! $ move ! (1 ∷ []) $ fsplit ! $ move ! (1 ∷ []) $ fsplit ! $ move ! (1 ∷ []) $ fsplit ! $ move ! (1 ∷ []) $ fsplit ! $ move ! (1 ∷ []) $ drop ! $ nothing ! $ move ! (1 ∷ 0 ∷ []) $ fjoin ! $ move ! (1 ∷ 0 ∷ []) $ fjoin ! $ move ! (1 ∷ 0 ∷ []) $ fjoin ! $ move ! (1 ∷ 0 ∷ []) $ fjoin ! $ move ! (1 ∷ 0 ∷ []) $ fjoin ! $ move ! (1 ∷ 0 ∷ []) $ fjoin ! $ move ! (1 ∷ 0 ∷ []) $ fjoin ! $
+        move ! (1 ∷ []) $ split ! $ move ! (1 ∷ []) $ split ! $ move ! (1 ∷ []) $ split ! $ move ! (1 ∷ []) $ split ! $ move ! (1 ∷ []) $ split ! $ move ! (1 ∷ []) $ split ! $ move ! (1 ∷ []) $ split ! $ move ! (1 ∷ []) $ drop ! $ nothing ! $ move ! (1 ∷ 0 ∷ []) $ fjoin ! $ move ! (1 ∷ 0 ∷ []) $ fjoin ! $ move ! (1 ∷ 0 ∷ []) $ fjoin ! $ move ! (1 ∷ 0 ∷ []) $ fjoin ! $ move ! (1 ∷ 0 ∷ []) $ fjoin ! $ move ! (1 ∷ 0 ∷ []) $ fjoin ! $ move ! (1 ∷ 0 ∷ []) $ fjoin ! $ move ! (1 ∷ 0 ∷ []) $
+        enter ! (𝓣 .C) (𝓣 .Λ) code.function (sliceVal (b₀, o₀) n₀ ∷ vptr b₁ o₁ ∷ sliceVal (b₂, o₂) n₂ ∷ sliceVal (b₃, o₃) n₃ ∷ vptr b₄ o₄ ∷ sliceVal (b₅, o₅) n₅ ∷ sliceVal (b₆, o₆) n₆ ∷ machine-val m ∷ vint w64 start ∷ vint w64 count ∷ vbool everything ∷ []) _ $
         alloc1 ! (λ l₀. alloc1 ! (λ l₁. alloc1 ! (λ l₂. alloc1 ! (λ l₃. alloc1 ! (λ l₄. alloc1 ! (λ l₅. alloc1 ! (λ l₆. alloc1 ! (λ l₇. alloc1 ! (λ l₈. alloc1 ! (λ l₉. alloc1 ! (λ l₁₀. alloc1 ! (λ l₁₁. alloc1 ! (λ l₁₂. alloc1 ! (λ l₁₃. alloc1 ! (λ l₁₄. alloc1 ! (λ l₁₅. alloc1 ! (λ l₁₆. alloc1 ! (λ l₁₇. alloc1 ! (λ l₁₈. alloc1 ! (λ l₁₉. alloc1 ! (λ l₂₀. alloc1 ! (λ l₂₁. alloc1 ! (λ l₂₂. alloc1 ! (λ l₂₃. alloc1 ! (λ l₂₄. alloc1 ! (λ l₂₅. alloc1 ! (λ l₂₆. alloc0 ! $ params1 ! $
         pass1 ! (init ! 50 refl (tt, (tt, (record { fits = g₀ .0 }, tt)))) $ pass1 ! (init ! 48 refl (tt, tt)) $ pass1 ! (init ! 46 refl (tt, (tt, (record { fits = g₂ .0 }, tt)))) $ pass1 ! (init ! 44 refl (tt, (tt, (record { fits = g₃ .0 }, tt)))) $ pass1 ! (init ! 42 refl (tt, tt)) $ pass1 ! (init ! 40 refl (tt, (tt, (record { fits = g₅ .0 }, tt)))) $ pass1 ! (init ! 38 refl (tt, (tt, (record { fits = g₆ .0 }, tt)))) $ pass1 ! (init ! 36 refl (machine-typed 𝓤 H A W m m-is)) $ pass1 ! (init ! 34 refl (tt, record { fits = start-is })) $ pass1 ! (init ! 32 refl (tt, record { fits = count-is })) $ pass1 ! (init ! 30 refl (tt, tt)) $ pass0 ! $
-        move ! (55 ∷ []) $ fsplit ! $ move ! (1 ∷ []) $ fsplit ! $ move ! (1 ∷ []) $ fsplit ! $ move ! (1 ∷ []) $ fsplit ! $ move ! (1 ∷ []) $ fsplit ! $ move ! (1 ∷ []) $ fsplit ! $ move ! (1 ∷ []) $ fsplit ! $ move ! (1 ∷ []) $ drop ! $ nothing ! $ move ! (1 ∷ 0 ∷ []) $ fjoin ! $ move ! (1 ∷ 0 ∷ []) $ fjoin ! $ move ! (1 ∷ 0 ∷ []) $ fjoin ! $ move ! (1 ∷ 0 ∷ []) $ fjoin ! $ move ! (1 ∷ 0 ∷ []) $ fjoin ! $ move ! (1 ∷ 0 ∷ []) $ fjoin ! $ move ! (1 ∷ 0 ∷ []) $ fjoin ! $
-        move ! (55 ∷ []) $ split ! $ move ! (1 ∷ []) $ split ! $ move ! (1 ∷ []) $ split ! $ move ! (1 ∷ []) $ split ! $ move ! (1 ∷ []) $ split ! $ move ! (1 ∷ []) $ split ! $ move ! (1 ∷ []) $ split ! $ move ! (1 ∷ []) $ drop ! $ nothing ! $ move ! (1 ∷ 0 ∷ []) $ fjoin ! $ move ! (1 ∷ 0 ∷ []) $ fjoin ! $ move ! (1 ∷ 0 ∷ []) $ fjoin ! $ move ! (1 ∷ 0 ∷ []) $ fjoin ! $ move ! (1 ∷ 0 ∷ []) $ fjoin ! $ move ! (1 ∷ 0 ∷ []) $ fjoin ! $ move ! (1 ∷ 0 ∷ []) $ fjoin ! $ move ! (1 ∷ 0 ∷ []) $
+        move ! (54 ∷ 55 ∷ []) $
         steps 𝓣 known-turns-once l₀ l₁ l₂ l₃ l₄ l₅ l₆ l₇ l₈ l₉ l₁₀ l₁₁ l₁₂ l₁₃ l₁₄ l₁₅ l₁₆ l₁₇ l₁₈ l₁₉ l₂₀ l₂₁ l₂₂ l₂₃ l₂₄ l₂₅ l₂₆)))))))))))))))))))))))))))
 
 module _ {M : Type 1} (𝓤 : URA M) (H : Heap 𝓤) (A : Atoms 𝓤) (W : Given 𝓤 H A) (at-mem : Memory → SProp 𝓤) (run : Routine → Fun 𝓤) (𝓣 : Tables 𝓤 H) (known-turns-once : Triple 𝓤 (𝓣 .C #turns-once) (turns-once-con 𝓤 H A at-mem run)) where

@@ -36,6 +36,7 @@ use denote.Triple.Spec.{Meets, tripleOf}
 use denote.Triple.Statement.{Contract, Triple}
 use denote.Triple.Table.{entered, cited}
 use denote.Triple.Walked.{says, Stays, stay-slice, walkOf, goes-slice, Walks, ends-at, walked, walk-meets}
+use Rattle.lent.proofs.Freed.{rooms, freed}
 use Rattle.lent.proofs.Lent.{Thing, part, have, tokens, lent}
 use Rattle.lent.proofs.Landed.{landed, landed-by}
 use Rattle.lent.proofs.Rest.{past}
@@ -147,11 +148,11 @@ module _ {M : Type 1} (𝓤 : URA M) (H : Heap 𝓤) (A : Atoms 𝓤) (W : Given
 
       -- the locals, given up
       abbrev Bare : List (Item 𝓤)
-      Bare = ‵ (froom tyUnit l₁₂ 0) ∷ ‵ (fdies tyUnit l₁₂) ∷ ‵ (froom (sliceTy (tyRef erased mut table-ty)) l₁₁ 0) ∷ ‵ (fdies (sliceTy (tyRef erased mut table-ty)) l₁₁) ∷ ‵ (froom (tyRef erased mut table-ty) l₁₀ 0) ∷ ‵ (fdies (tyRef erased mut table-ty) l₁₀) ∷ ‵ (froom tyBool l₉ 0) ∷ ‵ (fdies tyBool l₉) ∷ ‵ (froom (tyInt w64) l₈ 0) ∷ ‵ (fdies (tyInt w64) l₈) ∷ ‵ (froom tyUnit l₇ 0) ∷ ‵ (fdies tyUnit l₇) ∷ ‵ (froom (sliceTy (tyRef erased mut table-ty)) l₆ 0) ∷ ‵ (fdies (sliceTy (tyRef erased mut table-ty)) l₆) ∷ ‵ (froom (tyRef erased mut table-ty) l₅ 0) ∷ ‵ (fdies (tyRef erased mut table-ty) l₅) ∷ ‵ (froom task-laws.mir l₄ 0) ∷ ‵ (fdies task-laws.mir l₄) ∷ ‵ (froom (tyInt w64) l₃ 0) ∷ ‵ (fdies (tyInt w64) l₃) ∷ ‵ (froom (tyInt w64) l₂ 0) ∷ ‵ (fdies (tyInt w64) l₂) ∷ ‵ (froom (sliceTy (tyRef (named 0) mut table-ty)) l₁ 0) ∷ ‵ (fdies (sliceTy (tyRef (named 0) mut table-ty)) l₁) ∷ ‵ (froom tyUnit l₀ 0) ∷ ‵ (fdies tyUnit l₀) ∷ []
+      Bare = rooms 𝓤 H En []
 
       ends : (v₀ : List Task) → length v₀ ≡ n₀ → v₀ ≡ x₀ → Sq W (Has v₀ Bare) (frees En (prop (Post vunit)))
       ends v₀ m₀ e =
-          move ! (26 ∷ 27 ∷ []) $ free1 ! $ move ! (24 ∷ 25 ∷ []) $ free1 ! $ move ! (22 ∷ 23 ∷ []) $ free1 ! $ move ! (20 ∷ 21 ∷ []) $ free1 ! $ move ! (18 ∷ 19 ∷ []) $ free1 ! $ move ! (16 ∷ 17 ∷ []) $ free1 ! $ move ! (14 ∷ 15 ∷ []) $ free1 ! $ move ! (12 ∷ 13 ∷ []) $ free1 ! $ move ! (10 ∷ 11 ∷ []) $ free1 ! $ move ! (8 ∷ 9 ∷ []) $ free1 ! $ move ! (6 ∷ 7 ∷ []) $ free1 ! $ move ! (4 ∷ 5 ∷ []) $ free1 ! $ move ! (2 ∷ 3 ∷ []) $ free1 ! $ free0 ! $ by ! (exits v₀ m₀ e)
+          freed ! $ by ! (exits v₀ m₀ e)
 
       abbrev St : Type 0
       St = State x₀
@@ -216,11 +217,13 @@ module _ {M : Type 1} (𝓤 : URA M) (H : Heap 𝓤) (A : Atoms 𝓤) (W : Given
 
     walk : (𝓣 : Tables 𝓤 H) (known-counts : Triple 𝓤 (𝓣 .C #counts) (counts-con 𝓤 H A at-mem run)) (known-shows-count : Triple 𝓤 (𝓣 .C #shows-count) (shows-count-con 𝓤 H A at-mem run)) (known-gets : Triple 𝓤 (𝓣 .C #gets) (gets-con 𝓤 H A at-mem run)) (known-shows-task : Triple 𝓤 (𝓣 .C #shows-task) (shows-task-con 𝓤 H A at-mem run)) → ent 𝓤 (onEntry 𝓤 H A f.signature κs₀ qs₀ x at) (WpFn 𝓤 H (𝓣 .C) (𝓣 .Λ) code.function (sliceVal (b₀, o₀) n₀ ∷ []) Post)
     walk 𝓣 known-counts known-shows-count known-gets known-shows-task =
-        qed W ((‵ (flft κ₀ q₀) ⊛ ‵ ftrue) ∷ ‵ (owns (typesAt (f.signature .params) κs₀) x at) ∷ []) ∵ enter ! (𝓣 .C) (𝓣 .Λ) code.function (sliceVal (b₀, o₀) n₀ ∷ []) _ $
+        qed W ((‵ (flft κ₀ q₀) ⊛ ‵ ftrue) ∷ ‵ (owns (typesAt (f.signature .params) κs₀) x at) ∷ []) ∵
+        move ! (1 ∷ []) $ fsplit ! $ move ! (1 ∷ []) $ drop ! $ nothing ! $ move ! (1 ∷ 0 ∷ []) $ fjoin ! $
+        move ! (1 ∷ []) $ split ! $ move ! (1 ∷ []) $ drop ! $ nothing ! $ move ! (1 ∷ 0 ∷ []) $ fjoin ! $ move ! (1 ∷ 0 ∷ []) $
+        enter ! (𝓣 .C) (𝓣 .Λ) code.function (sliceVal (b₀, o₀) n₀ ∷ []) _ $
         alloc1 ! (λ l₀. alloc1 ! (λ l₁. alloc1 ! (λ l₂. alloc1 ! (λ l₃. alloc1 ! (λ l₄. alloc1 ! (λ l₅. alloc1 ! (λ l₆. alloc1 ! (λ l₇. alloc1 ! (λ l₈. alloc1 ! (λ l₉. alloc1 ! (λ l₁₀. alloc1 ! (λ l₁₁. alloc1 ! (λ l₁₂. alloc0 ! $ params1 ! $
         pass1 ! (init ! 22 refl (tt, (tt, (record { fits = g₀ .0 }, tt)))) $ pass0 ! $
-        move ! (27 ∷ []) $ fsplit ! $ move ! (1 ∷ []) $ drop ! $ nothing ! $ move ! (1 ∷ 0 ∷ []) $ fjoin ! $
-        move ! (27 ∷ []) $ split ! $ move ! (1 ∷ []) $ drop ! $ nothing ! $ move ! (1 ∷ 0 ∷ []) $ fjoin ! $ move ! (1 ∷ 0 ∷ []) $
+        move ! (26 ∷ 27 ∷ []) $
         steps 𝓣 known-counts known-shows-count known-gets known-shows-task l₀ l₁ l₂ l₃ l₄ l₅ l₆ l₇ l₈ l₉ l₁₀ l₁₁ l₁₂)))))))))))))
 
 module _ {M : Type 1} (𝓤 : URA M) (H : Heap 𝓤) (A : Atoms 𝓤) (W : Given 𝓤 H A) (at-mem : Memory → SProp 𝓤) (run : Routine → Fun 𝓤) (𝓣 : Tables 𝓤 H) (known-counts : Triple 𝓤 (𝓣 .C #counts) (counts-con 𝓤 H A at-mem run)) (known-shows-count : Triple 𝓤 (𝓣 .C #shows-count) (shows-count-con 𝓤 H A at-mem run)) (known-gets : Triple 𝓤 (𝓣 .C #gets) (gets-con 𝓤 H A at-mem run)) (known-shows-task : Triple 𝓤 (𝓣 .C #shows-task) (shows-task-con 𝓤 H A at-mem run)) where

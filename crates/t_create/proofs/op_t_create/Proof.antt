@@ -7,7 +7,7 @@ use Rattle.t_create.proofs.op_t_create.Reads as reads
 use Rattle.t_create.proofs.op_t_create.Lts as lts
 use Rattle.opcodes.proofs.stack.moved.Reads as moved-reads
 use Rattle.opcodes.proofs.stack.pop_two.Reads as pop-two-reads
-use Rattle.storage.proofs.task_types.default_state.Reads as default-state-reads
+use Rattle.states.proofs.default_state.Reads as default-state-reads
 use Rattle.tasks.proofs.changes.refused.Reads as refused-reads
 use Rattle.t_create.proofs.titled.Reads as titled-reads
 use Rattle.values.proofs.to_u32.Reads as to-u32-reads

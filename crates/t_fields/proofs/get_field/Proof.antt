@@ -10,9 +10,9 @@ use Rattle.t_fields.proofs.get_field.Lts as lts
 use Rattle.opcodes.proofs.stack.push_value.Reads as push-value-reads
 use Rattle.store.proofs.store.Reads as store-reads
 use Rattle.slices.proofs.part.Reads as part-reads
-use Rattle.tasks.proofs.titles.title_length.Reads as title-length-reads
-use Rattle.values.proofs.to_calldata_val.Reads as to-calldata-val-reads
-use Rattle.values.proofs.to_u32_val.Reads as to-u32-val-reads
+use Rattle.titles.proofs.title_length.Reads as title-length-reads
+use Rattle.boxing.proofs.to_calldata_val.Reads as to-calldata-val-reads
+use Rattle.boxing.proofs.to_u32_val.Reads as to-u32-val-reads
 
 title-length-requires : tie.Need-title-length-requires
 title-length-requires c κs = search needs

@@ -5,7 +5,7 @@ use Rattle.t_fields.proofs.set_state.Statement.{statement}
 use Rattle.t_fields.proofs.set_state.Tie as tie
 use Rattle.t_fields.proofs.set_state.Reads as reads
 use Rattle.t_fields.proofs.set_state.Lts as lts
-use Rattle.storage.proofs.task_types.with_state.Reads as with-state-reads
+use Rattle.states.proofs.with_state.Reads as with-state-reads
 use Rattle.tasks.proofs.changes.refused.Reads as refused-reads
 use Rattle.tasks.proofs.changes.restate.Reads as restate-reads
 

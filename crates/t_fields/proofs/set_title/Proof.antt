@@ -10,7 +10,7 @@ use Rattle.memory.proofs.reads.get_slice_bytes.Reads as get-slice-bytes-reads
 use Rattle.storage.proofs.task_types.new_task.Reads as new-task-reads
 use Rattle.tasks.proofs.changes.put.Reads as put-reads
 use Rattle.tasks.proofs.changes.refused.Reads as refused-reads
-use Rattle.tasks.proofs.titles.within.Reads as within-reads
+use Rattle.titles.proofs.within.Reads as within-reads
 
 within-requires : tie.Need-within-requires
 within-requires c κs = search needs

@@ -41,6 +41,7 @@ use denote.Triple.Statement.{Contract, Triple}
 use denote.Triple.Table.{entered, cited}
 use denote.Triple.Walked.{Stays, stay-slice, stay-ref, stay-none, walkOf, goes-slice, goes-ref, goes-none, Walks, ends-at, walked, walk-meets}
 use Rattle.lent.proofs.Lent.{Thing, part, whole as whole-of, have, tokens, lent}
+use Rattle.lent.proofs.Emptied.{emptied}
 use Rattle.lent.proofs.Landed.{landed, landed-by}
 use Rattle.storage.proofs.Task as task
 use Rattle.storage.proofs.Task.Laws as task-laws
@@ -126,11 +127,13 @@ module _ {M : Type 1} (𝓤 : URA M) (H : Heap 𝓤) (A : Atoms 𝓤) (W : Given
 
     walk : (𝓣 : Tables 𝓤 H) (known-blanks : Triple 𝓤 (𝓣 .C #blanks) (blanks-con 𝓤 H A at-mem run)) (known-attempts : Triple 𝓤 (𝓣 .C #attempts) (attempts-con 𝓤 H A at-mem run)) → ent 𝓤 (onEntry 𝓤 H A f.signature κs₀ qs₀ x at) (WpFn 𝓤 H (𝓣 .C) (𝓣 .Λ) code.function (vptr b₀ o₀ ∷ sliceVal (b₁, o₁) n₁ ∷ sliceVal (b₂, o₂) n₂ ∷ vptr b₃ o₃ ∷ sliceVal (b₄, o₄) n₄ ∷ sliceVal (b₅, o₅) n₅ ∷ sliceVal (b₆, o₆) n₆ ∷ vint w64 number ∷ []) Post)
     walk 𝓣 known-blanks known-attempts =
-        qed W ((‵ (flft κ₀ q₀) ⊛ ‵ (flft κ₁ q₁) ⊛ ‵ (flft κ₂ q₂) ⊛ ‵ (flft κ₃ q₃) ⊛ ‵ (flft κ₄ q₄) ⊛ ‵ (flft κ₅ q₅) ⊛ ‵ (flft κ₆ q₆) ⊛ ‵ ftrue) ∷ ‵ (owns (typesAt (f.signature .params) κs₀) x at) ∷ []) ∵ enter ! (𝓣 .C) (𝓣 .Λ) code.function (vptr b₀ o₀ ∷ sliceVal (b₁, o₁) n₁ ∷ sliceVal (b₂, o₂) n₂ ∷ vptr b₃ o₃ ∷ sliceVal (b₄, o₄) n₄ ∷ sliceVal (b₅, o₅) n₅ ∷ sliceVal (b₆, o₆) n₆ ∷ vint w64 number ∷ []) _ $
+        qed W ((‵ (flft κ₀ q₀) ⊛ ‵ (flft κ₁ q₁) ⊛ ‵ (flft κ₂ q₂) ⊛ ‵ (flft κ₃ q₃) ⊛ ‵ (flft κ₄ q₄) ⊛ ‵ (flft κ₅ q₅) ⊛ ‵ (flft κ₆ q₆) ⊛ ‵ ftrue) ∷ ‵ (owns (typesAt (f.signature .params) κs₀) x at) ∷ []) ∵
+        move ! (1 ∷ []) $ fsplit ! $ move ! (1 ∷ []) $ fsplit ! $ move ! (1 ∷ []) $ fsplit ! $ move ! (1 ∷ []) $ fsplit ! $ move ! (1 ∷ []) $ fsplit ! $ move ! (1 ∷ []) $ fsplit ! $ move ! (1 ∷ []) $ fsplit ! $ move ! (1 ∷ []) $ drop ! $ nothing ! $ move ! (1 ∷ 0 ∷ []) $ fjoin ! $ move ! (1 ∷ 0 ∷ []) $ fjoin ! $ move ! (1 ∷ 0 ∷ []) $ fjoin ! $ move ! (1 ∷ 0 ∷ []) $ fjoin ! $ move ! (1 ∷ 0 ∷ []) $ fjoin ! $ move ! (1 ∷ 0 ∷ []) $ fjoin ! $ move ! (1 ∷ 0 ∷ []) $ fjoin ! $
+        move ! (1 ∷ []) $ split ! $ move ! (1 ∷ []) $ split ! $ move ! (1 ∷ []) $ split ! $ move ! (1 ∷ []) $ split ! $ move ! (1 ∷ []) $ split ! $ move ! (1 ∷ []) $ split ! $ move ! (1 ∷ []) $ split ! $ move ! (1 ∷ []) $ drop ! $ nothing ! $ move ! (1 ∷ 0 ∷ []) $ fjoin ! $ move ! (1 ∷ 0 ∷ []) $ fjoin ! $ move ! (1 ∷ 0 ∷ []) $ fjoin ! $ move ! (1 ∷ 0 ∷ []) $ fjoin ! $ move ! (1 ∷ 0 ∷ []) $ fjoin ! $ move ! (1 ∷ 0 ∷ []) $ fjoin ! $ move ! (1 ∷ 0 ∷ []) $ fjoin ! $ move ! (1 ∷ 0 ∷ []) $
+        enter ! (𝓣 .C) (𝓣 .Λ) code.function (vptr b₀ o₀ ∷ sliceVal (b₁, o₁) n₁ ∷ sliceVal (b₂, o₂) n₂ ∷ vptr b₃ o₃ ∷ sliceVal (b₄, o₄) n₄ ∷ sliceVal (b₅, o₅) n₅ ∷ sliceVal (b₆, o₆) n₆ ∷ vint w64 number ∷ []) _ $
         alloc1 ! (λ l₀. alloc1 ! (λ l₁. alloc1 ! (λ l₂. alloc1 ! (λ l₃. alloc1 ! (λ l₄. alloc1 ! (λ l₅. alloc1 ! (λ l₆. alloc1 ! (λ l₇. alloc1 ! (λ l₈. alloc1 ! (λ l₉. alloc1 ! (λ l₁₀. alloc1 ! (λ l₁₁. alloc1 ! (λ l₁₂. alloc1 ! (λ l₁₃. alloc1 ! (λ l₁₄. alloc1 ! (λ l₁₅. alloc1 ! (λ l₁₆. alloc1 ! (λ l₁₇. alloc1 ! (λ l₁₈. alloc1 ! (λ l₁₉. alloc1 ! (λ l₂₀. alloc1 ! (λ l₂₁. alloc1 ! (λ l₂₂. alloc1 ! (λ l₂₃. alloc1 ! (λ l₂₄. alloc1 ! (λ l₂₅. alloc0 ! $ params1 ! $
         pass1 ! (init ! 48 refl (tt, tt)) $ pass1 ! (init ! 46 refl (tt, (tt, (record { fits = g₁ .0 }, tt)))) $ pass1 ! (init ! 44 refl (tt, (tt, (record { fits = g₂ .0 }, tt)))) $ pass1 ! (init ! 42 refl (tt, tt)) $ pass1 ! (init ! 40 refl (tt, (tt, (record { fits = g₄ .0 }, tt)))) $ pass1 ! (init ! 38 refl (tt, (tt, (record { fits = g₅ .0 }, tt)))) $ pass1 ! (init ! 36 refl (tt, (tt, (record { fits = g₆ .0 }, tt)))) $ pass1 ! (init ! 34 refl (tt, record { fits = number-is })) $ pass0 ! $
-        move ! (53 ∷ []) $ fsplit ! $ move ! (1 ∷ []) $ fsplit ! $ move ! (1 ∷ []) $ fsplit ! $ move ! (1 ∷ []) $ fsplit ! $ move ! (1 ∷ []) $ fsplit ! $ move ! (1 ∷ []) $ fsplit ! $ move ! (1 ∷ []) $ fsplit ! $ move ! (1 ∷ []) $ drop ! $ nothing ! $ move ! (1 ∷ 0 ∷ []) $ fjoin ! $ move ! (1 ∷ 0 ∷ []) $ fjoin ! $ move ! (1 ∷ 0 ∷ []) $ fjoin ! $ move ! (1 ∷ 0 ∷ []) $ fjoin ! $ move ! (1 ∷ 0 ∷ []) $ fjoin ! $ move ! (1 ∷ 0 ∷ []) $ fjoin ! $ move ! (1 ∷ 0 ∷ []) $ fjoin ! $
-        move ! (53 ∷ []) $ split ! $ move ! (1 ∷ []) $ split ! $ move ! (1 ∷ []) $ split ! $ move ! (1 ∷ []) $ split ! $ move ! (1 ∷ []) $ split ! $ move ! (1 ∷ []) $ split ! $ move ! (1 ∷ []) $ split ! $ move ! (1 ∷ []) $ drop ! $ nothing ! $ move ! (1 ∷ 0 ∷ []) $ fjoin ! $ move ! (1 ∷ 0 ∷ []) $ fjoin ! $ move ! (1 ∷ 0 ∷ []) $ fjoin ! $ move ! (1 ∷ 0 ∷ []) $ fjoin ! $ move ! (1 ∷ 0 ∷ []) $ fjoin ! $ move ! (1 ∷ 0 ∷ []) $ fjoin ! $ move ! (1 ∷ 0 ∷ []) $ fjoin ! $ move ! (1 ∷ 0 ∷ []) $
+        move ! (52 ∷ 53 ∷ []) $
         nothing ! $ nothing ! $
         lent 0 [] tt ([]) R 𝓤 (blanks.clauses 𝓤 H A at-mem run) tt tt tt ! (fmOf 𝓤 H (W .laws) 𝓣) known-blanks
         tt tt tt (λ αs δs. tt) (λ αs δs. id⊢ 𝓤 (emp 𝓤))
@@ -154,17 +157,16 @@ module _ {M : Type 1} (𝓤 : URA M) (H : Heap 𝓤) (A : Atoms 𝓤) (W : Given
         assigns ! (agg ! (and-then ! (load ! (from ! (stop !)) (look ! 4 refl)) (and-then ! (load ! (from ! (fld ! refl (stop !))) (look-in ! 38 (sub ! 1 refl (whole !)))) (no-more !)))) (from ! (stop !)) (init ! 2 refl (tt, (tt, (record { fits = g₆ .0 }, tt)))) $
         move ! (32 ∷ []) $ use1 W (‵ (cells (mem R) (replicate 256 r₁) l₁₀ 0)) (array-in 𝓤 H A W 256 r₁ l₁₀ is₁) $ lft-new ! tt (λ ν. move ! (1 ∷ []) $
         use1 W (later (some (λ (δ : GName). ‵ (held-at l₁₀ (ν ∷ []) δ 256 (replicate 256 r₁)) ⊛ ‵ (flent (ν ∷ []) (Held R 256 l₁₀ 0 δ))))) (lend-array 𝓤 H A W (ν ∷ []) 256 l₁₀ (replicate 256 r₁) (length-replicate 256 r₁) roomy) $ await ! tt $ pick ! (λ δ. split ! $
-        move ! (3 ∷ []) $ fsplit ! $ move ! (1 ∷ []) $ fsplit ! $ move ! (1 ∷ []) $ fsplit ! $ move ! (1 ∷ []) $ fsplit ! $ move ! (1 ∷ []) $ fsplit ! $ move ! (1 ∷ []) $ fsplit ! $ move ! (1 ∷ []) $ fsplit ! $ move ! (1 ∷ []) $ drop ! $ move ! (10 ∷ []) $ fsplit ! $ move ! (1 ∷ []) $ fsplit ! $ move ! (1 ∷ []) $ fsplit ! $ move ! (1 ∷ []) $ fsplit ! $ move ! (1 ∷ []) $ fsplit ! $ move ! (1 ∷ []) $ fsplit ! $ move ! (1 ∷ []) $ fsplit ! $ move ! (1 ∷ []) $ drop ! $ nothing ! $ move ! (1 ∷ 0 ∷ []) $ fjoin ! $ move ! (1 ∷ 0 ∷ []) $ fjoin ! $ move ! (1 ∷ 0 ∷ []) $ fjoin ! $ move ! (1 ∷ 0 ∷ []) $ fjoin ! $ move ! (1 ∷ 0 ∷ []) $ fjoin ! $ move ! (1 ∷ 0 ∷ []) $ fjoin ! $ move ! (1 ∷ 0 ∷ []) $ fjoin ! $ move ! (10 ∷ 0 ∷ []) $ fjoin ! $ nothing ! $ move ! (2 ∷ 0 ∷ []) $ fjoin ! $ move ! (2 ∷ 0 ∷ []) $ fjoin ! $ move ! (2 ∷ 0 ∷ []) $ fjoin ! $ move ! (2 ∷ 0 ∷ []) $ fjoin ! $ move ! (2 ∷ 0 ∷ []) $ fjoin ! $ move ! (2 ∷ 0 ∷ []) $ fjoin ! $ move ! (2 ∷ 0 ∷ []) $ fjoin ! $ move ! (2 ∷ 0 ∷ []) $ fjoin ! $
+        move ! (0 ∷ 3 ∷ []) $ fjoin ! $ move ! (2 ∷ 3 ∷ []) $ fjoin ! $ move ! (1 ∷ 0 ∷ []) $
         lent 8 (part R l₁₀ 0 256 (ν ∷ []) fullShare δ ∷ All) (tt, (tt, (tt, (tt, (tt, (tt, (tt, (tt, tt)))))))) (usize ∷ []) unit 𝓤 (attempts.clauses 𝓤 H A at-mem run) (replicate 256 r₁, (x₀, (x₁, (x₂, (x₃, (x₄, (x₅, (x₆, tt)))))))) (number, tt) (vint w64 number ∷ [], tt) ! (fmOf 𝓤 H (W .laws) 𝓣) known-attempts
         (roomy, (tt, (g₁, (g₂, (tt, (g₄, (g₅, (g₆, tt)))))))) (length-replicate 256 r₁, (tt, (refl, (refl, (tt, (refl, (refl, (refl, tt)))))))) (uint-makes 𝓤 H A W w64 number _ (refl, number-is), tt) (λ αs δs. tt) (λ αs δs. id⊢ 𝓤 (emp 𝓤))
         (λ αs δs. (and-then ! (load ! (from ! (stop !)) (look ! 27 refl)) (and-then ! (load ! (from ! (stop !)) (look ! 25 refl)) (and-then ! (load ! (from ! (stop !)) (look ! 21 refl)) (and-then ! (load ! (from ! (stop !)) (look ! 17 refl)) (and-then ! (load ! (from ! (stop !)) (look ! 15 refl)) (and-then ! (load ! (from ! (stop !)) (look ! 11 refl)) (and-then ! (load ! (from ! (stop !)) (look ! 7 refl)) (and-then ! (load ! (from ! (stop !)) (look ! 3 refl)) (and-then ! (load ! (from ! (stop !)) (look ! 36 refl)) (no-more !)))))))))))
         (λ αs δs w₂ r₂ z₂ f₂. drop ! $ landed-by ! unit nothing-vals nothing-tells r₂ w₂ (λ is₂.
         land ! (from ! (stop !)) (init ! 31 refl (tt, tt)) $
-        fsplit ! $ move ! (1 ∷ []) $ fsplit ! $ move ! (1 ∷ []) $ fsplit ! $ move ! (1 ∷ []) $ fsplit ! $ move ! (1 ∷ []) $ fsplit ! $ move ! (1 ∷ []) $ fsplit ! $ move ! (1 ∷ []) $ fsplit ! $ move ! (1 ∷ []) $ fsplit ! $ move ! (1 ∷ []) $ drop ! $ move ! (8 ∷ []) $ fsplit ! $ move ! (1 ∷ []) $ fsplit ! $ move ! (1 ∷ []) $ fsplit ! $ move ! (1 ∷ []) $ fsplit ! $ move ! (1 ∷ []) $ fsplit ! $ move ! (1 ∷ []) $ fsplit ! $ move ! (1 ∷ []) $ fsplit ! $ move ! (1 ∷ []) $ fsplit ! $ move ! (1 ∷ []) $ drop ! $ nothing ! $ move ! (1 ∷ 0 ∷ []) $ fjoin ! $ move ! (1 ∷ 0 ∷ []) $ fjoin ! $ move ! (1 ∷ 0 ∷ []) $ fjoin ! $ move ! (1 ∷ 0 ∷ []) $ fjoin ! $ move ! (1 ∷ 0 ∷ []) $ fjoin ! $ move ! (1 ∷ 0 ∷ []) $ fjoin ! $ move ! (1 ∷ 0 ∷ []) $ fjoin ! $ nothing ! $ move ! (3 ∷ 0 ∷ []) $ fjoin ! $ move ! (3 ∷ 0 ∷ []) $ fjoin ! $ move ! (3 ∷ 0 ∷ []) $ fjoin ! $ move ! (3 ∷ 0 ∷ []) $ fjoin ! $ move ! (3 ∷ 0 ∷ []) $ fjoin ! $ move ! (3 ∷ 0 ∷ []) $ fjoin ! $ move ! (3 ∷ 0 ∷ []) $ fjoin ! $
-        move ! (2 ∷ 1 ∷ 3 ∷ 0 ∷ 4 ∷ []) $ lft-end ! tt $ move ! (0 ∷ 4 ∷ 2 ∷ []) $
+        fsplit ! $ move ! (2 ∷ []) $ fsplit ! $ lft-end ! tt $ move ! (0 ∷ 4 ∷ 2 ∷ []) $
         use3 W (later (some (λ (v : Val). ‵ (fat fullShare (tyArray task-laws.mir 256) l₁₀ 0 v)))) (comes-back 𝓤 H A W (ν ∷ []) 256 l₁₀ δ (z₂ .0)) $ await ! tt $ pick ! (λ v. move ! (2 ∷ 1 ∷ 0 ∷ []) $
         assigns ! (of-opd ! (unit-lit !)) (from ! (stop !)) (init ! 52 refl (tt, tt)) $ returns ! (look ! 52 refl) $
-        forget ! 2 refl $ forget ! 3 refl $ forget ! 5 refl $ forget ! 7 refl $ forget ! 9 refl $ forget ! 11 refl $ forget ! 13 refl $ forget ! 15 refl $ forget ! 17 refl $ forget ! 19 refl $ forget ! 21 refl $ forget ! 23 refl $ forget ! 25 refl $ forget ! 27 refl $ forget ! 29 refl $ forget ! 31 refl $ forget ! 34 refl $ forget ! 36 refl $ forget ! 38 refl $ forget ! 40 refl $ forget ! 42 refl $ forget ! 44 refl $ forget ! 46 refl $ forget ! 48 refl $ forget ! 50 refl $ forget ! 52 refl $
+        emptied ! refl $
         move ! (52 ∷ 53 ∷ []) $ free1 ! $ move ! (50 ∷ 51 ∷ []) $ free1 ! $ move ! (48 ∷ 49 ∷ []) $ free1 ! $ move ! (46 ∷ 47 ∷ []) $ free1 ! $ move ! (44 ∷ 45 ∷ []) $ free1 ! $ move ! (42 ∷ 43 ∷ []) $ free1 ! $ move ! (40 ∷ 41 ∷ []) $ free1 ! $ move ! (38 ∷ 39 ∷ []) $ free1 ! $ move ! (36 ∷ 37 ∷ []) $ free1 ! $ move ! (34 ∷ 35 ∷ []) $ free1 ! $ move ! (2 ∷ 33 ∷ []) $ free1 ! $ move ! (30 ∷ 31 ∷ []) $ free1 ! $ move ! (28 ∷ 29 ∷ []) $ free1 ! $ move ! (26 ∷ 27 ∷ []) $ free1 ! $ move ! (24 ∷ 25 ∷ []) $ free1 ! $ move ! (22 ∷ 23 ∷ []) $ free1 ! $ move ! (20 ∷ 21 ∷ []) $ free1 ! $ move ! (18 ∷ 19 ∷ []) $ free1 ! $ move ! (16 ∷ 17 ∷ []) $ free1 ! $ move ! (14 ∷ 15 ∷ []) $ free1 ! $ move ! (12 ∷ 13 ∷ []) $ free1 ! $ move ! (10 ∷ 11 ∷ []) $ free1 ! $ move ! (8 ∷ 9 ∷ []) $ free1 ! $ move ! (6 ∷ 7 ∷ []) $ free1 ! $ move ! (4 ∷ 5 ∷ []) $ free1 ! $ move ! (2 ∷ 3 ∷ []) $ free1 ! $ free0 ! $
         by ! (exits (z₂ .1 .0) (z₂ .1 .1 .0) (z₂ .1 .1 .1 .0) (z₂ .1 .1 .1 .1 .0) (z₂ .1 .1 .1 .1 .1 .0) (z₂ .1 .1 .1 .1 .1 .1 .0) (z₂ .1 .1 .1 .1 .1 .1 .1 .0) (f₂ .1 .1 .0) (f₂ .1 .1 .1 .0) (f₂ .1 .1 .1 .1 .1 .0) (f₂ .1 .1 .1 .1 .1 .1 .0) (f₂ .1 .1 .1 .1 .1 .1 .1 .0)))))))))))))))))))))))))))))))))))
 

@@ -8,7 +8,7 @@ use Rattle.verdicts.proofs.verdict_line.Tie as tie
 use Rattle.verdicts.proofs.verdict_line.Reads as reads
 use Rattle.verdicts.proofs.verdict_line.Lts as lts
 use Rattle.admission.proofs.admit.Reads as admit-reads
-use Rattle.listing.proofs.head_line.Reads as head-line-reads
+use Rattle.head_line.proofs.head_line.Reads as head-line-reads
 use Rattle.verdicts.proofs.admitted_line.Reads as admitted-line-reads
 
 admit-requires : tie.Need-admit-requires

@@ -2,6 +2,7 @@
 use borrow.Author.Needs.{needs}
 use Rattle.image.proofs.Records.{read-is}
 use Rattle.image.proofs.reading.read_record.Statement.{statement}
+use Rattle.image.specs.Reading.{on}
 use Rattle.image.proofs.reading.read_record.Tie as tie
 
 part-requires : tie.Need-part-requires
@@ -44,6 +45,7 @@ on-requires-2 : tie.Need-on-requires-2
 on-requires-2 c κs = search needs
 
 returns : tie.Need-returns
+unfolding on
 returns c =
     let made = c .before .before .before in
     let read = made .before in

@@ -1,5 +1,6 @@
 -- `records::writing::put` meets its contract.
 use borrow.Author.Needs.{needs}
+use Rattle.image.specs.Reading.{on}
 use Rattle.records.proofs.Puts.{put-is}
 use Rattle.records.proofs.writing.put.Statement.{statement}
 use Rattle.records.proofs.writing.put.Tie as tie
@@ -14,6 +15,7 @@ same-length : tie.Need-same-length
 same-length c = search needs
 
 returns : tie.Need-returns
+unfolding on
 returns c =
     put-is _ _ _ (c .before .before .before .write .ensures) (c .on .ensures)
 
