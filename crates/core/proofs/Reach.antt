@@ -113,6 +113,11 @@ module _ (stack memory code : List ℕ) (registers : Registers) (next op count :
       at-one (λ (o : ℕ). execute stack memory code registers next o count ≡ kept (plain stack registers next o count) memory) op
       (also refl (also refl (also refl (also refl (also refl (also refl (also refl (also refl (also refl (also refl none)))))))))) e
 
+  -- the count is read by S_LEN alone
+  executed-uncounted : is-plain op ≡ false → execute stack memory code registers next op 0 ≡ execute stack memory code registers next op count
+  unfolding is-plain execute operated plain
+  executed-uncounted no-plain = simp (differs op S-LEN plain-opcodes no-plain refl)
+
   executed-equality : is-equality op ≡ true → execute stack memory code registers next op count ≡ kept (op-eq stack memory registers next (eqb op EQ)) memory
   unfolding execute
   executed-equality e = simp (e)
@@ -221,3 +226,13 @@ module _ (stack memory code : List ℕ) (registers : Registers) (count : ℕ) wh
       → by-table stack memory code registers op-at ≡ instruct stack memory code registers count
   unfolding instruct by-table
   instruct-other = other-by (extent code (registers .place))
+
+  -- the count is read by a plain one alone
+  uncounted-by : (reach : Extent) → is-plain op-at ≡ false → by-extent stack memory code registers op-at 0 reach ≡ by-extent stack memory code registers op-at count reach
+  unfolding by-extent
+  uncounted-by (extents.Next next) no-plain = executed-uncounted stack memory code registers next op-at count no-plain
+  uncounted-by extents.Cut no-plain = refl
+
+  pub instruct-uncounted : is-plain op-at ≡ false → instruct stack memory code registers 0 ≡ instruct stack memory code registers count
+  unfolding instruct
+  instruct-uncounted = uncounted-by (extent code (registers .place))

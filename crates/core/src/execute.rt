@@ -1,7 +1,8 @@
 // One instruction that needs no task, frame or pool: the byte at the place picks it, by what stands behind its opcode.
 ghost use mathlib.Core.Path.{_≡_};
+ghost use mathlib.Core.Bool.{false};
 ghost use Prim.Native.Nat.{_≤_, _<_};
-ghost use lib.ListN.{length};
+ghost use lib.ListN.{length, getD};
 ghost use Rattle.opcodes.specs.Registers.{on-stack, on-memory};
 ghost use Rattle.core.specs.Execute.{plain, is-equality, instruct};
 ghost use Rattle.core.specs.Kinds.{is-plain, pushes-byte, takes-number, numbered, stored, by-table};
@@ -33,7 +34,13 @@ use stack::op_drop;
 use stack::op_swap;
 
 // Over the stack alone. Bytes without an opcode, and S_LOAD, do nothing.
-fn plain(stack: &mut [u64; 1000], registers: Registers, next: usize, op: u8, count: u32) -> Did
+pub(crate) fn plain(
+    stack: &mut [u64; 1000],
+    registers: Registers,
+    next: usize,
+    op: u8,
+    count: u32,
+) -> Did
     ensures { λ r. ⌜ on-stack r (now (stack .exit)) ≡ plain (now (stack .entry)) registers next op count ⌝ }
 {
     if op == MUL {
@@ -70,7 +77,7 @@ fn plain(stack: &mut [u64; 1000], registers: Registers, next: usize, op: u8, cou
 }
 
 // Nothing behind the opcode, and over the stack alone: S_LEN, DO, LOOP, LOOP_INDEX, DROP, DUP, SWAP, LT, GT, MUL.
-fn is_plain(op: u8) -> bool
+pub(crate) fn is_plain(op: u8) -> bool
     ensures { λ r. ⌜ r ≡ is-plain op ⌝ }
 {
     match op {
@@ -178,23 +185,20 @@ fn by_table(
     }
 }
 
-// The instruction at the place, which lies in the code. For most opcodes the next place is a constant further, so that a run does
-// not wait for the table; each function here is called at one place, so that the compiler makes one loop of them.
+// The instruction at the place, which lies in the code and is none of the plain ones. For most opcodes the next place is a constant further, so that a
+// run does not wait for the table; each function here is called at one place, so that the compiler makes one loop of them. The count is read by S_LEN alone,
+// which is plain: any will do.
 pub(crate) fn instruct(
     stack: &mut [u64; 1000],
     memory: &mut [u8],
     code: &[u8],
     registers: Registers,
-    count: u32,
 ) -> Did
-    requires { ⌜ registers .place < length (now code) ⌝ }
-    ensures { λ r. ⌜ on-memory r (now (stack .exit)) (now (memory .exit)) ≡ instruct (now (stack .entry)) (now (memory .entry)) (now (code .entry)) registers count ⌝ }
+    requires { ⌜ (registers .place < length (now code)) × (is-plain (getD (now code) (registers .place) 0) ≡ false) ⌝ }
+    ensures { λ r. ⌜ on-memory r (now (stack .exit)) (now (memory .exit)) ≡ instruct (now (stack .entry)) (now (memory .entry)) (now (code .entry)) registers 0 ⌝ }
 {
     let place = registers.place;
     let op = code[place];
-    if is_plain(op) {
-        return plain(stack, registers, place + 1, op, count);
-    }
     if is_equality(op) {
         return op_eq(stack, memory, registers, place + 1, op == EQ);
     }

@@ -4,6 +4,8 @@ ghost use Rattle.core.specs.Steps.{is-outer, stepped, steps};
 use crate::Halt;
 use crate::Stepped;
 use crate::execute::instruct;
+use crate::execute::is_plain;
+use crate::execute::plain;
 use opcodes::Did;
 use opcodes::Registers;
 
@@ -24,7 +26,7 @@ fn is_outer(op: u8) -> bool
     }
 }
 
-// The run of one code from its registers on.
+// The run of one code from its registers on. A plain instruction has its own place here: where all came together, each carried what only DO and LOOP change.
 pub fn steps(
     stack: &mut [u64; 1000],
     memory: &mut [u8],
@@ -46,24 +48,41 @@ pub fn steps(
             };
         }
         let place = at.place;
-        if is_outer(code[place]) {
+        let op = code[place];
+        if is_outer(op) {
             return Stepped {
                 registers: at,
                 left,
                 halt: Halt::Outer,
             };
         }
-        match instruct(stack, memory, code, at, count) {
-            Did::Next(next) => {
-                at = next;
-                left -= 1;
+        if is_plain(op) {
+            match plain(stack, at, place + 1, op, count) {
+                Did::Next(next) => {
+                    at = next;
+                    left -= 1;
+                }
+                Did::Refused(refusal) => {
+                    return Stepped {
+                        registers: at,
+                        left,
+                        halt: Halt::Refused(refusal),
+                    };
+                }
             }
-            Did::Refused(refusal) => {
-                return Stepped {
-                    registers: at,
-                    left,
-                    halt: Halt::Refused(refusal),
-                };
+        } else {
+            match instruct(stack, memory, code, at) {
+                Did::Next(next) => {
+                    at = next;
+                    left -= 1;
+                }
+                Did::Refused(refusal) => {
+                    return Stepped {
+                        registers: at,
+                        left,
+                        halt: Halt::Refused(refusal),
+                    };
+                }
             }
         }
     }
