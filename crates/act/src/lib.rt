@@ -3,7 +3,7 @@ ghost use mathlib.Core.Path.{_≡_};
 ghost use Prim.Native.Nat.{_<_, _≤_};
 ghost use lib.ListN.{getD, length};
 ghost use Rattle.pools.specs.Pool.{pooled, start-of};
-ghost use Rattle.calls.specs.Frames.{intern-calldata, with-entry, on-pool, push-calldata, enter, op-call, op-end-call};
+ghost use Rattle.calls.specs.Frames.{intern-calldata, with-entry, on-pool, push-calldata};
 ghost use Rattle.bytecode.specs.Operands.{extent};
 ghost use Rattle.calls.specs.Act.{went-by, created, tasked-by, created-by, bare, on-all, on-frames, on-task, cut, act};
 use bytecode::Extent;
@@ -25,15 +25,12 @@ use calls::machines::current;
 use calls::machines::registers_of;
 use calls::machines::settled;
 use core::Machine;
+use entering::op_call;
+use entering::op_end_call;
 use errors::Refusal;
-use inlinevec::Frame;
-use inlinevec::FramesResult;
-use inlinevec::PopFrameResult;
-use inlinevec::PopResult;
 use opcodes::Did;
 use opcodes::stack::moved;
 use operands::prepare_u16_from_be_checked;
-use pools::BoundsResult;
 use pools::InstructionsRef;
 use pools::InternResult;
 use storage::Task;
@@ -117,69 +114,6 @@ fn push_calldata(
         InternResult::Interned { entry, bytes } => {
             stack[height] = boxing::to_calldata_val(entry.0);
             Went::Onto(with_entry(machine, next, entry, bytes))
-        }
-    }
-}
-
-// A task's instructions begin, where there are any.
-fn enter(ends: &[u32; 1024], caller: Machine, entry: InstructionsRef) -> Went
-    ensures { λ r. ⌜ r ≡ enter (now (ends .entry)) caller entry ⌝ }
-{
-    match pools::bounds(ends, caller.entries, entry) {
-        BoundsResult::NoBounds(refusal) => Went::Refused(refusal),
-        BoundsResult::Bounds { start, end } => {
-            if end <= start {
-                return Went::Onto(caller);
-            }
-            match frames::push_frame(caller.frames, Frame { entry, place: 0 }) {
-                FramesResult::NoNewFrames(refusal) => Went::Refused(refusal),
-                FramesResult::NewFrames(frames) => {
-                    let mut entered = caller;
-                    entered.frames = frames;
-                    Went::Onto(entered)
-                }
-            }
-        }
-    }
-}
-
-// CALL: the id is on top; the task of its slot is given.
-fn op_call(
-    stack: &[u64; 1000],
-    ends: &[u32; 1024],
-    machine: Machine,
-    next: usize,
-    task: Task,
-) -> Went
-    ensures { λ r. ⌜ r ≡ op-call (now (stack .entry)) (now (ends .entry)) machine next task ⌝ }
-{
-    match inlinevec::pop(stack, machine.height) {
-        PopResult::NotPopped(refusal) => Went::Refused(refusal),
-        PopResult::Popped { value: _, height } => {
-            let registers = registers_of(machine);
-            let caller = settled(machine, moved(registers, next, height));
-            if task.living {
-                return enter(ends, caller, task.instructions_ref);
-            }
-            Went::Onto(caller)
-        }
-    }
-}
-
-// END_CALL.
-fn op_end_call(machine: Machine, next: usize) -> Went
-    ensures { λ r. ⌜ r ≡ op-end-call machine next ⌝ }
-{
-    if machine.frames.count <= 1 {
-        let registers = registers_of(machine);
-        return Went::Onto(settled(machine, moved(registers, next, machine.height)));
-    }
-    match frames::pop_frame(machine.frames) {
-        PopFrameResult::NotPoppedFrame(refusal) => Went::Refused(refusal),
-        PopFrameResult::PoppedFrame { last: _, frames } => {
-            let mut caller = machine;
-            caller.frames = frames;
-            Went::Onto(caller)
         }
     }
 }

@@ -34,12 +34,16 @@ use Rattle.calls.specs.declared.Gone.{Gone}
 use Rattle.calls.proofs.Gone as gone
 use Rattle.calls.proofs.Gone.Laws as gone-laws
 use Rattle.calls.proofs.Went as went
-use Rattle.runs.proofs.Values.{machine-shut, machine-vals, change-shut, change-vals, went-shut, went-vals, acted-shut, acted-vals, gone-shut, gone-vals}
+use Rattle.runs.specs.declared.Stated.{Stated}
+use Rattle.runs.proofs.Stated as stated
+use Rattle.runs.proofs.Stated.Laws as stated-laws
+use Rattle.runs.proofs.Values.{machine-shut, machine-vals, change-shut, change-vals, went-shut, went-vals, acted-shut, acted-vals, gone-shut, gone-vals, stated-shut, stated-vals}
 open Shut machine-shut using (val as machine-val)
 open Shut change-shut using (val as change-val, ty as change-ty)
 open Shut went-shut using (val as went-val)
 open Shut acted-shut using (val as acted-val, ty as acted-ty)
 open Shut gone-shut using (val as gone-val, ty as gone-ty)
+open Shut stated-shut using (val as stated-val, ty as stated-ty)
 
 -- ---- their fields
 
@@ -69,6 +73,15 @@ went-is a is = struct.owed acted.the-type acted-laws.the-laws a (acted-vals a) i
 pub change-is : (a : Acted) → Is acted.the-row a (acted-vals a) → Is change.the-row (a .change) (change-vals (a .change))
 unfolding acted-shut change-shut
 change-is a is = struct.owed acted.the-type acted-laws.the-laws a (acted-vals a) is .1 .0
+
+-- of what an instruction on a state answers
+pub new-state-fits : (s : Stated) → Is stated.the-row s (stated-vals s) → s .state < 2 ^ 32
+unfolding stated-shut
+new-state-fits s is = struct.owed stated.the-type stated-laws.the-laws s (stated-vals s) is .1 .1 .0 .1
+
+pub stated-went-is : (s : Stated) → Is stated.the-row s (stated-vals s) → Is went.the-row (s .went) (went-vals (s .went))
+unfolding stated-shut went-shut
+stated-went-is s is = struct.owed stated.the-type stated-laws.the-laws s (stated-vals s) is .1 .1 .1 .0
 
 -- of a machine on its way
 pub machine-is : (g : Gone) → Is gone.the-row g (gone-vals g) → Is machine.the-row (g .machine) (machine-vals (g .machine))
@@ -156,6 +169,23 @@ module _ {M : Type 1} {𝓤 : URA M} {H : Heap 𝓤} {A : Atoms 𝓤} {K : Type 
   pub take-task : K → (i n : ℕ) (c : Change) {l : ℕ} → spotOf 𝓤 H E i ≡ (change-ty, l, 0) → nth 𝓤 H A n Γ ≡ ‵ (fat fullShare change-ty l 0 (change-val c)) → Opd K W Γ E (copy (place i (field 3 ∷ []))) (task-val (c .task))
   unfolding change-shut
   take-task t i n c at holds = taken t 3 i n refl at holds
+
+  -- of what an instruction on a state answers
+  pub take-whole : K → (i n : ℕ) (s : Stated) {l : ℕ} → spotOf 𝓤 H E i ≡ (stated-ty, l, 0) → nth 𝓤 H A n Γ ≡ ‵ (fat fullShare stated-ty l 0 (stated-val s)) → Opd K W Γ E (copy (place i (field 0 ∷ []))) (vbool (s .whole))
+  unfolding stated-shut
+  take-whole t i n s at holds = taken t 0 i n refl at holds
+
+  pub take-sets : K → (i n : ℕ) (s : Stated) {l : ℕ} → spotOf 𝓤 H E i ≡ (stated-ty, l, 0) → nth 𝓤 H A n Γ ≡ ‵ (fat fullShare stated-ty l 0 (stated-val s)) → Opd K W Γ E (copy (place i (field 1 ∷ []))) (vbool (s .states))
+  unfolding stated-shut
+  take-sets t i n s at holds = taken t 1 i n refl at holds
+
+  pub take-new-state : K → (i n : ℕ) (s : Stated) {l : ℕ} → spotOf 𝓤 H E i ≡ (stated-ty, l, 0) → nth 𝓤 H A n Γ ≡ ‵ (fat fullShare stated-ty l 0 (stated-val s)) → Opd K W Γ E (copy (place i (field 2 ∷ []))) (vint w32 (s .state))
+  unfolding stated-shut
+  take-new-state t i n s at holds = taken t 2 i n refl at holds
+
+  pub take-stated-went : K → (i n : ℕ) (s : Stated) {l : ℕ} → spotOf 𝓤 H E i ≡ (stated-ty, l, 0) → nth 𝓤 H A n Γ ≡ ‵ (fat fullShare stated-ty l 0 (stated-val s)) → Opd K W Γ E (copy (place i (field 3 ∷ []))) (went-val (s .went))
+  unfolding stated-shut went-shut
+  take-stated-went t i n s at holds = taken t 3 i n refl at holds
 
 -- ---- a test's outcome
 

@@ -20,6 +20,9 @@ use Rattle.calls.proofs.Ran.Laws as ran-laws
 use Rattle.calls.specs.declared.Went.{Went}
 use Rattle.calls.proofs.Went as went
 use Rattle.calls.proofs.Went.Laws as went-laws
+use Rattle.runs.specs.declared.Stated.{Stated}
+use Rattle.runs.proofs.Stated as stated
+use Rattle.runs.proofs.Stated.Laws as stated-laws
 
 -- a machine
 unfoldable pub machine-shut : Shut machine.the-row
@@ -62,3 +65,10 @@ went-shut = of-enum went.the-type went-laws.the-laws tt went-laws.the-plain
 
 abbrev pub went-vals : Went → List Val
 went-vals = vals went-shut
+
+-- what an instruction on a state answers
+unfoldable pub stated-shut : Shut stated.the-row
+stated-shut = of-struct stated.the-type stated-laws.the-laws stated-laws.the-plain
+
+abbrev pub stated-vals : Stated → List Val
+stated-vals = vals stated-shut

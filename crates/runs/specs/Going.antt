@@ -1,5 +1,5 @@
 -- A machine on its way, and everything lent to it.
-use Prim.Native.Nat.{ℕ}
+use Prim.Native.Nat.{ℕ, _+_, _%_, _^_}
 use mathlib.Core.Bool.{cond}
 use mathlib.Core.List.{List}
 use lib.ListN.{getD}
@@ -7,6 +7,9 @@ use Rattle.storage.specs.declared.Task.{Task}
 use Rattle.storage.specs.Tasks.{blank}
 use Rattle.tasks.specs.Changes.{applied}
 use Rattle.image.specs.Table.{SavedTable, save-table}
+use Rattle.core.specs.declared.Machine.{Machine}
+use Rattle.calls.specs.Machines.{current}
+use Rattle.calls.specs.Frames.{op-call, op-end-call}
 use Rattle.calls.specs.Act.{OnAll, act}
 use Rattle.calls.specs.Advance.{GoneOn, advance}
 use Rattle.calls.specs.Turns.{turned, saved}
@@ -48,6 +51,33 @@ after-act gone table after =
 
 unfoldable pub act-turn : List Task → List ℕ → List ℕ → List ℕ → List ℕ → Gone → Acting
 act-turn table stack memory pool ends gone = after-act gone table (act stack memory pool ends (gone .machine) (getD table (gone .slot) blank))
+
+-- ---- CALL and END_CALL, which change no slot
+
+-- the place behind an instruction without operands
+unfoldable pub next-of : Machine → ℕ
+next-of machine = (current (machine .frames) .place + 1) % 2 ^ 64
+
+-- after END_CALL
+unfoldable pub returned : Gone → Gone
+returned gone = turned (gone .machine) (gone .left) (op-end-call (gone .machine) (next-of (gone .machine)))
+
+-- after CALL of a task
+unfoldable pub called : List ℕ → List ℕ → Gone → Task → Gone
+called stack ends gone task = turned (gone .machine) (gone .left) (op-call stack ends (gone .machine) (next-of (gone .machine)) task)
+
+-- without memory, the pool and the save buffer
+pub record Entering : Type 0 where
+  pub gone : Gone
+  pub table : List Task
+  pub stack : List ℕ
+  pub ends : List ℕ
+
+abbrev pub entering : Gone → List Task → List ℕ → List ℕ → Entering
+entering gone table stack ends = record { gone = gone; table = table; stack = stack; ends = ends }
+
+unfoldable pub call-turn : List Task → List ℕ → List ℕ → Gone → Entering
+call-turn table stack ends gone = entering (called stack ends gone (getD table (gone .slot) blank)) table stack ends
 
 -- ---- S_SAVE
 

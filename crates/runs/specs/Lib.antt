@@ -2,3 +2,4 @@ pub mod World
 pub mod Step
 pub mod Run
 pub mod Going
+pub mod States

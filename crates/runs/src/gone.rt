@@ -1,15 +1,22 @@
 // What an instruction that needs a task, a frame or the pool makes of a machine on its way: one unit of fuel less, or a refusal.
 ghost use mathlib.Core.Path.{_≡_};
+ghost use Rattle.storage.specs.Tasks.{after};
+ghost use Rattle.calls.specs.Act.{op-at};
 ghost use Rattle.calls.specs.Turns.{begun, spent, turned, saved, ran};
+ghost use Rattle.runs.specs.Going.{next-of, returned, called};
 use calls::Gone;
 use calls::Outcome;
 use calls::Ran;
 use calls::Went;
+use calls::machines::byte_at;
+use calls::machines::code_of;
+use calls::machines::current;
 use calls::machines::registers_of;
 use calls::machines::settled;
 use core::Machine;
 use image::SaveResult;
 use opcodes::stack::moved;
+use storage::Task;
 
 // A run at its beginning.
 pub(crate) fn begun(machine: Machine, fuel: u64) -> Gone
@@ -57,6 +64,43 @@ pub(crate) fn turned(machine: Machine, left: u64, went: Went) -> Gone
             outcome: Outcome::Refused(refusal),
         },
     }
+}
+
+// The opcode at hand; 0 past the code's end.
+pub(crate) fn op_at(pool: &mut [u8], ends: &mut [u32; 1024], machine: Machine) -> u8
+    ensures { λ r. ⌜ after (after r (now (pool .exit))) (now (ends .exit)) ≡ after (after (op-at (now (pool .entry)) (now (ends .entry)) machine) (now (pool .entry))) (now (ends .entry)) ⌝ }
+{
+    let frame = current(machine.frames);
+    byte_at(code_of(pool, ends, machine), frame.place)
+}
+
+// The place behind an instruction without operands.
+pub(crate) fn next_of(machine: Machine) -> usize
+    ensures { λ r. ⌜ r ≡ next-of machine ⌝ }
+{
+    let frame = current(machine.frames);
+    std::num::wrapping_add_usize(frame.place, 1)
+}
+
+// After END_CALL, which needs no slot.
+pub(crate) fn returned(gone: Gone) -> Gone
+    ensures { λ r. ⌜ r ≡ returned gone ⌝ }
+{
+    let went = entering::op_end_call(gone.machine, next_of(gone.machine));
+    turned(gone.machine, gone.left, went)
+}
+
+// After CALL, which changes no slot.
+pub(crate) fn called(
+    stack: &mut [u64; 1000],
+    ends: &mut [u32; 1024],
+    gone: Gone,
+    task: Task,
+) -> Gone
+    ensures { λ r. ⌜ after (after r (now (stack .exit))) (now (ends .exit)) ≡ after (after (called (now (stack .entry)) (now (ends .entry)) gone task) (now (stack .entry))) (now (ends .entry)) ⌝ }
+{
+    let went = entering::op_call(stack, ends, gone.machine, next_of(gone.machine), task);
+    turned(gone.machine, gone.left, went)
 }
 
 // After S_SAVE: the length of the image is kept.

@@ -1,18 +1,31 @@
 // The run of a machine over everything lent to it: the functions that carry the lent table of tasks from instruction to instruction.
 mod gone;
+mod states;
 
 ghost use mathlib.Core.Path.{_≡_};
 ghost use Rattle.tasks.specs.Changes.{applied};
 ghost use Rattle.runs.specs.World.{world};
-ghost use Rattle.runs.specs.Going.{going, acting, act-turn, saving, save-turn, turn};
+ghost use Rattle.runs.specs.Going.{going, acting, act-turn, entering, call-turn, saving, save-turn, turn};
 ghost use Rattle.runs.specs.Run.{ran-to, run};
+ghost use Rattle.runs.specs.States.{restated};
 use act::act;
 use advance::advance;
+use bytecode::opcodes::CALL;
+use bytecode::opcodes::END_CALL;
 use calls::Gone;
 use calls::Ran;
+use calls::Went;
 use core::Machine;
 use storage::Task;
 use tasks::Change;
+
+// What an instruction answers that reads or sets the state of a task: whether it needs the whole record after all, and which state it sets.
+pub struct Stated {
+    pub whole: bool,
+    pub states: bool,
+    pub state: u32,
+    pub went: Went,
+}
 
 // What an instruction changes in the slot that it names.
 fn apply(table: &mut [Task], slot: usize, change: Change)
@@ -29,7 +42,7 @@ fn apply(table: &mut [Task], slot: usize, change: Change)
 }
 
 // The instruction at hand, on the record of the slot it names.
-fn act_turn(
+fn task_turn(
     table: &mut [Task],
     stack: &mut [u64; 1000],
     memory: &mut [u8],
@@ -43,6 +56,56 @@ fn act_turn(
     let acted = act(stack, memory, pool, ends, gone.machine, task);
     apply(table, gone.slot, acted.change);
     crate::gone::turned(gone.machine, gone.left, acted.went)
+}
+
+// The state that an instruction sets in the slot that it names.
+fn restate(table: &mut [Task], slot: usize, stated: Stated)
+    ensures { λ _. ⌜ now (table .exit) ≡ restated (now (table .entry)) slot stated ⌝ }
+{
+    if stated.states {
+        let answer = table::set_state_at(table, slot, stated.state);
+        return;
+    }
+}
+
+// CALL, at hand.
+fn call_turn(
+    table: &mut [Task],
+    stack: &mut [u64; 1000],
+    ends: &mut [u32; 1024],
+    gone: Gone,
+) -> Gone
+    ensures { λ r. ⌜ entering r (now (table .exit)) (now (stack .exit)) (now (ends .exit)) ≡ call-turn (now (table .entry)) (now (stack .entry)) (now (ends .entry)) gone ⌝ }
+{
+    let task = table::get(table, gone.slot);
+    crate::gone::called(stack, ends, gone, task)
+}
+
+// The instruction at hand. CALL, END_CALL and those on a state have their own way: where all came together, each carried the whole record of a slot.
+fn act_turn(
+    table: &mut [Task],
+    stack: &mut [u64; 1000],
+    memory: &mut [u8],
+    pool: &mut [u8],
+    ends: &mut [u32; 1024],
+    gone: Gone,
+) -> Gone
+    ensures { λ r. ⌜ acting r (now (table .exit)) (now (stack .exit)) (now (memory .exit)) (now (pool .exit)) (now (ends .exit)) ≡ act-turn (now (table .entry)) (now (stack .entry)) (now (memory .entry)) (now (pool .entry)) (now (ends .entry)) gone ⌝ }
+{
+    let op = crate::gone::op_at(pool, ends, gone.machine);
+    if op == END_CALL {
+        return crate::gone::returned(gone);
+    }
+    if op == CALL {
+        return call_turn(table, stack, ends, gone);
+    }
+    let task = table::get(table, gone.slot);
+    let stated = crate::states::stated(stack, gone.machine, op, task);
+    if stated.whole {
+        return task_turn(table, stack, memory, pool, ends, gone);
+    }
+    restate(table, gone.slot, stated);
+    crate::gone::turned(gone.machine, gone.left, stated.went)
 }
 
 // S_SAVE, at hand.

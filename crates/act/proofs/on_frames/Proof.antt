@@ -8,8 +8,8 @@ use Rattle.act.proofs.on_frames.Reads as reads
 use Rattle.act.proofs.on_frames.Lts as lts
 use Rattle.act.proofs.on_task.Reads as on-task-reads
 use Rattle.act.proofs.went_by.Reads as went-by-reads
-use Rattle.act.proofs.op_call.Reads as op-call-reads
-use Rattle.act.proofs.op_end_call.Reads as op-end-call-reads
+use Rattle.entering.proofs.op_call.Reads as op-call-reads
+use Rattle.entering.proofs.op_end_call.Reads as op-end-call-reads
 use Rattle.act.proofs.push_calldata.Reads as push-calldata-reads
 use Rattle.calls.proofs.machines.registers_of.Reads as registers-of-reads
 use Rattle.tasks.proofs.changes.keep.Reads as keep-reads

@@ -3,7 +3,7 @@ use Prim.Native.Nat.{_+_, _<_, _≤_}
 use mathlib.Core.Path.{sym, ap, _∙_}
 use native.Mathlib.Omega.{arith}
 use lib.ListN.{length}
-use Rattle.core.proofs.Reach.{instruct-plain, instruct-equality, instruct-byte, instruct-number, instruct-cut, instruct-other}
+use Rattle.core.proofs.Reach.{instruct-equality, instruct-byte, instruct-number, instruct-cut, instruct-other}
 use Rattle.core.specs.Execute.{kept}
 use Rattle.opcodes.specs.Registers.{OnStack, on-memory}
 use Rattle.opcodes.specs.declared.Did.{Did}

@@ -1,11 +1,11 @@
--- `act::enter` meets its contract.
+-- `entering::enter` meets its contract.
 use borrow.Author.Tests.{le-leb, lt-leb}
 use Rattle.calls.specs.Frames.{enter, enter-bounded, framed}
 use borrow.Author.Needs.{needs}
-use Rattle.act.proofs.enter.Statement.{statement}
-use Rattle.act.proofs.enter.Tie as tie
-use Rattle.act.proofs.enter.Reads as reads
-use Rattle.act.proofs.enter.Lts as lts
+use Rattle.entering.proofs.enter.Statement.{statement}
+use Rattle.entering.proofs.enter.Tie as tie
+use Rattle.entering.proofs.enter.Reads as reads
+use Rattle.entering.proofs.enter.Lts as lts
 use Rattle.frames.proofs.push_frame.Reads as push-frame-reads
 use Rattle.pools.proofs.bounds.Reads as bounds-reads
 

@@ -1,11 +1,11 @@
--- `act::op_end_call` meets its contract.
+-- `entering::op_end_call` meets its contract.
 use borrow.Author.Tests.{le-leb, lt-leb}
 use Rattle.calls.specs.Frames.{op-end-call, left-frame}
 use borrow.Author.Needs.{needs}
-use Rattle.act.proofs.op_end_call.Statement.{statement}
-use Rattle.act.proofs.op_end_call.Tie as tie
-use Rattle.act.proofs.op_end_call.Reads as reads
-use Rattle.act.proofs.op_end_call.Lts as lts
+use Rattle.entering.proofs.op_end_call.Statement.{statement}
+use Rattle.entering.proofs.op_end_call.Tie as tie
+use Rattle.entering.proofs.op_end_call.Reads as reads
+use Rattle.entering.proofs.op_end_call.Lts as lts
 use Rattle.calls.proofs.machines.registers_of.Reads as registers-of-reads
 use Rattle.calls.proofs.machines.settled.Reads as settled-reads
 use Rattle.frames.proofs.pop_frame.Reads as pop-frame-reads

@@ -1,11 +1,11 @@
--- `act::op_call` meets its contract.
+-- `entering::op_call` meets its contract.
 use Rattle.calls.specs.Frames.{op-call, call-popped}
 use borrow.Author.Needs.{needs}
-use Rattle.act.proofs.op_call.Statement.{statement}
-use Rattle.act.proofs.op_call.Tie as tie
-use Rattle.act.proofs.op_call.Reads as reads
-use Rattle.act.proofs.op_call.Lts as lts
-use Rattle.act.proofs.enter.Reads as enter-reads
+use Rattle.entering.proofs.op_call.Statement.{statement}
+use Rattle.entering.proofs.op_call.Tie as tie
+use Rattle.entering.proofs.op_call.Reads as reads
+use Rattle.entering.proofs.op_call.Lts as lts
+use Rattle.entering.proofs.enter.Reads as enter-reads
 use Rattle.calls.proofs.machines.registers_of.Reads as registers-of-reads
 use Rattle.calls.proofs.machines.settled.Reads as settled-reads
 use Rattle.inlinevec.proofs.pop.Reads as pop-reads
