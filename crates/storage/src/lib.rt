@@ -13,14 +13,15 @@ pub struct TaskState {
     pub state: u8,
 }
 
-// A slot of the table. One that is not living is the blank record; bytes past the title are 0.
+// A slot of the table. One that is not living is the blank record; bytes past the title are 0. The fields go from wide to narrow, so that no byte between two
+// of them is nobody's: a record is then written in whole words.
 pub struct Task {
-    pub living: bool,
-    pub id: TaskId,
-    pub state: TaskState,
-    pub instructions_ref: InstructionsRef,
-    pub title_len: usize,
     pub title: [u8; 128],
+    pub title_len: usize,
+    pub id: TaskId,
+    pub instructions_ref: InstructionsRef,
+    pub state: TaskState,
+    pub living: bool,
 }
 
 // The state of a task that is new.

@@ -78,7 +78,7 @@ abbrev answer-val : Stated → Val
 answer-val r = enum.val answer.the-type answer-laws.the-laws (r .answer)
 
 state-is : (t : Task) → Is R t (vals t) → Is state.the-row (t .state) (state-vals t)
-state-is t was = struct.owed task.the-type task-laws.the-laws t (vals t) was .1 .1 .0
+state-is t was = struct.owed task.the-type task-laws.the-laws t (vals t) was .1 .1 .1 .1 .0
 
 answer-is : (r : Stated) → Is stated-type.the-row r (stated-vals r) → Is answer.the-row (r .answer) (enum.vals answer.the-type answer-laws.the-laws (r .answer))
 answer-is r is = struct.owed stated-type.the-type stated-laws.the-laws r (stated-vals r) is .1 .0
@@ -91,11 +91,17 @@ made t r was is =
       (
         struct.owed task.the-type task-laws.the-laws t (vals t) was .1 .0,
         (
-          struct.owes state.the-type state-laws.the-laws (restated t (r .state) .state) (
-            struct.owed state.the-type state-laws.the-laws (t .state) (state-vals t) (state-is t was) .0,
-            (struct.owed stated-type.the-type stated-laws.the-laws r (stated-vals r) is .0, tt),
+          struct.owed task.the-type task-laws.the-laws t (vals t) was .1 .1 .0,
+          (
+            struct.owed task.the-type task-laws.the-laws t (vals t) was .1 .1 .1 .0,
+            (
+              struct.owes state.the-type state-laws.the-laws (restated t (r .state) .state) (
+                struct.owed state.the-type state-laws.the-laws (t .state) (state-vals t) (state-is t was) .0,
+                (struct.owed stated-type.the-type stated-laws.the-laws r (stated-vals r) is .0, tt),
+              ),
+              struct.owed task.the-type task-laws.the-laws t (vals t) was .1 .1 .1 .1 .1,
+            ),
           ),
-          struct.owed task.the-type task-laws.the-laws t (vals t) was .1 .1 .1,
         ),
       ),
     )
@@ -128,14 +134,14 @@ module _ {M : Type 1} (𝓤 : URA M) (H : Heap 𝓤) (A : Atoms 𝓤) (W : Given
       use1 W (‵ (fat fullShare task-laws.mir b o (val t))) (W .laws .raw-at fullShare task-laws.mir b o (val t)) $
       move ! (1 ∷ []) $ peeks ! R (Is R) (shows 𝓤 H A R) t (vals t) (λ was. move ! (1 ∷ 0 ∷ []) $
       -- [the record's cell; what it owns; the open borrow; two ghosts; true; the number; _4; …; _3; …; _2; …; _1; …; room for _0; …]
-      assigns ! (of-opd ! (load ! (from ! (hop ! (look ! 13 refl) (fld ! refl (stop !)))) (look-in ! 0 (sub ! 2 refl (whole !))))) (from ! (stop !)) (init ! 9 refl (typed-as state.the-type state-laws.the-laws 𝓤 H A W (t .state) (state-is t was) .0)) $
+      assigns ! (of-opd ! (load ! (from ! (hop ! (look ! 13 refl) (fld ! refl (stop !)))) (look-in ! 0 (sub ! 4 refl (whole !))))) (from ! (stop !)) (init ! 9 refl (typed-as state.the-type state-laws.the-laws 𝓤 H A W (t .state) (state-is t was) .0)) $
       nothing ! $ nothing ! $
       lent 0 [] tt (state.the-row ∷ u32 ∷ []) stated-type.the-row 𝓤 (with.clauses 𝓤 H A at-mem run) tt (t .state, (new, tt)) (state-vals t, (vint w32 new ∷ [], tt)) ! (fmOf 𝓤 H (W .laws) 𝓣) known
       tt tt (struct.makes state.the-type state-laws.the-plain 𝓤 H A (t .state) _ (state-is t was), (uint-makes 𝓤 H A W w32 new _ (refl, new-fits), tt)) (λ αs δs. tt) (λ αs δs. id⊢ 𝓤 (emp 𝓤))
       (λ αs δs. (and-then ! (load ! (from ! (stop !)) (look ! 11 refl)) (and-then ! (load ! (from ! (stop !)) (look ! 13 refl)) (no-more !))))
       (λ αs δs w r zs fits. heard ! (r ≡ with-state (t .state) new) (λ e. landed stated-type.the-type stated-laws.the-laws ! r w (λ is.
       land ! (from ! (stop !)) (init ! 9 refl (typed-as stated-type.the-type stated-laws.the-laws 𝓤 H A W r is .0)) $ drop ! $ drop ! $
-      assigns ! (of-opd ! (load ! (from ! (fld ! refl (stop !))) (look-in ! 7 (sub ! 0 refl (whole !))))) (from ! (hop ! (look ! 13 refl) (fld ! refl (fld ! refl (stop !))))) (store-in ! 0 (sub ! 1 refl (sub ! 2 refl (whole !))) (tt, record { fits = struct.owed stated-type.the-type stated-laws.the-laws r (stated-vals r) is .0 .1 })) $
+      assigns ! (of-opd ! (load ! (from ! (fld ! refl (stop !))) (look-in ! 7 (sub ! 0 refl (whole !))))) (from ! (hop ! (look ! 13 refl) (fld ! refl (fld ! refl (stop !))))) (store-in ! 0 (sub ! 1 refl (sub ! 4 refl (whole !))) (tt, record { fits = struct.owed stated-type.the-type stated-laws.the-laws r (stated-vals r) is .0 .1 })) $
       assigns ! (of-opd ! (load ! (from ! (fld ! refl (stop !))) (look-in ! 7 (sub ! 1 refl (whole !))))) (from ! (stop !)) (init ! 15 refl (enum.lawful answer.the-type answer-laws.the-laws 𝓤 H A W tt .typed (r .answer) _ (answer-is r is) .0)) $
       move ! (1 ∷ []) $ drop ! $ use1 W (‵ (cellAt fullShare (R .mir) (vals (restated t (r .state))) b o)) (W .laws .at-raw fullShare task-laws.mir b o (val (restated t (r .state)))) $
       owned ! R (Is R) (makes 𝓤 H A) (restated t (r .state)) _ (made t r was is) $ move ! (1 ∷ 0 ∷ []) $ closes ! tt R (restated t (r .state)) (vals (restated t (r .state))) b o $
