@@ -36,18 +36,18 @@ wanted stack machine op =
 
 -- at an outcome
 abbrev pub ended : Machine → ℕ → Outcome → Gone
-ended machine left outcome = record { machine = machine; left = left; running = false; saves = false; slot = 0; outcome = outcome }
+ended machine left outcome = record { machine = machine; left = left; running = false; op = 0; outcome = outcome }
 
--- on its way, before an instruction that saves or names a slot
-abbrev pub at-hand : Machine → ℕ → Bool → ℕ → Gone
-at-hand machine left saves slot = record { machine = machine; left = left; running = true; saves = saves; slot = slot; outcome = Paused }
+-- on its way, before an instruction of this opcode
+abbrev pub at-hand : Machine → ℕ → ℕ → Gone
+at-hand machine left op = record { machine = machine; left = left; running = true; op = op; outcome = Paused }
 
 -- why the steps halted, and what is at hand
-unfoldable pub halted-at : List ℕ → Machine → ℕ → ℕ → Halt → Gone
-halted-at stack machine op left halt.AtEnd = ended machine left Done
-halted-at stack machine op left halt.OutOfFuel = ended machine left Paused
-halted-at stack machine op left (halt.Refused refusal) = ended machine left (Refused refusal)
-halted-at stack machine op left halt.Outer = at-hand machine left (eqb op S-SAVE) (wanted stack machine op)
+unfoldable pub halted-at : Machine → ℕ → ℕ → Halt → Gone
+halted-at machine op left halt.AtEnd = ended machine left Done
+halted-at machine op left halt.OutOfFuel = ended machine left Paused
+halted-at machine op left (halt.Refused refusal) = ended machine left (Refused refusal)
+halted-at machine op left halt.Outer = at-hand machine left op
 
 -- a machine on its way, the stack, memory, pool and ends then
 pub record GoneOn : Type 0 where
@@ -65,7 +65,7 @@ gone-on gone stack memory pool ends = record { gone = gone; stack = stack; memor
 unfoldable pub after-steps : List ℕ → List ℕ → Machine → Halted → GoneOn
 after-steps pool ends machine h =
     gone-on
-    (halted-at (h .stack) (settled machine (h .at .registers)) (getD (code-of pool ends machine) (h .at .registers .place) 0) (h .at .left) (h .at .halt))
+    (halted-at (settled machine (h .at .registers)) (getD (code-of pool ends machine) (h .at .registers .place) 0) (h .at .left) (h .at .halt))
     (h .stack) (h .memory) pool ends
 
 -- the run of the current code from the machine's place on

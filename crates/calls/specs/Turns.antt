@@ -1,6 +1,5 @@
 -- What an instruction that needs a task, a frame or the pool makes of a machine on its way.
 use Prim.Native.Nat.{ℕ, _+_, _-_, _%_, _^_}
-use mathlib.Core.Bool.{false}
 use Rattle.image.specs.declared.SaveResult.{SaveResult}
 use Rattle.image.specs.declared.SaveResult.the-variants.{Saved, NotSaved}
 use Rattle.core.specs.declared.Machine.{Machine}
@@ -15,7 +14,7 @@ use Rattle.calls.specs.declared.Outcome.the-variants as outcome
 
 -- a run at its beginning
 abbrev pub begun : Machine → ℕ → Gone
-begun machine fuel = at-hand machine fuel false 0
+begun machine fuel = at-hand machine fuel 0
 
 -- one unit of fuel to a finished instruction
 abbrev pub spent : ℕ → ℕ
@@ -23,7 +22,7 @@ spent left = left - 1
 
 -- on its way again, or refused with the machine as before
 unfoldable pub turned : Machine → ℕ → Went → Gone
-turned machine left (Onto after) = at-hand after (spent left) false 0
+turned machine left (Onto after) = at-hand after (spent left) 0
 turned machine left (Refused refusal) = ended machine left (outcome.Refused refusal)
 
 -- what S_SAVE answers: the length of the image is kept

@@ -12,13 +12,12 @@ pub enum Outcome {
     Refused(Refusal),
 }
 
-// A machine on its way, and the fuel that is left: before an instruction that saves or names a slot, or at its outcome.
+// A machine on its way, and the fuel that is left: before an instruction that needs a task, a frame or the pool, with its opcode, or at its outcome.
 pub struct Gone {
     pub machine: Machine,
     pub left: u64,
     pub running: bool,
-    pub saves: bool,
-    pub slot: usize,
+    pub op: u8,
     pub outcome: Outcome,
 }
 

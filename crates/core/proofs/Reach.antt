@@ -1,6 +1,6 @@
 -- The instruction at the place by what stands behind its opcode is the one by the table of operand sizes.
 use Prim.Native.Nat.{ℕ, _+_, _<_, _≤_}
-use mathlib.Core.Bool.{Bool, true, false, _||_}
+use mathlib.Core.Bool.{Bool, true, false, not, _||_}
 use mathlib.Core.List.{List, [], _∷_}
 use mathlib.Core.Path.{_≡_, refl, sym, ap, subst, _∙_}
 use native.Mathlib.Decide.{decLe}
@@ -11,17 +11,20 @@ use borrow.Author.Tests.{eqb-true, le-leb, lt-leb}
 use Rattle.errors.specs.declared.Refusal.the-variants.{UnexpectedEOB}
 use Rattle.bytecode.specs.Opcodes.{PUSH-U32, PUSH-STATE, PUSH-CALLDATA, PUSH-TASK-FIELD, PUSH-MAX-STATES, S-LEN, DO, LOOP, LOOP-INDEX, DROP, DUP, SWAP, EQ, NEQ, LT, GT, JUMP-IF-FALSE, M-STI, MULI, MUL, operand-size}
 use Rattle.bytecode.specs.Operands.{operand, data-size, behind, extent}
+use Rattle.bytecode.specs.declared.OperandResult.{OperandResult}
+use Rattle.bytecode.specs.declared.OperandResult.the-variants.{Operand, NoOperand}
 use Rattle.bytecode.specs.declared.Extent.{Extent}
 use Rattle.bytecode.specs.declared.Extent.the-variants as extents
-use Rattle.opcodes.specs.Registers.{on-memory}
+use Rattle.opcodes.specs.Registers.{OnStack, on-stack, on-memory}
+use Rattle.opcodes.specs.Control.{op-jump-if-false}
 use Rattle.opcodes.specs.Equality.{op-eq}
 use Rattle.opcodes.specs.declared.Registers.{Registers}
 use Rattle.opcodes.specs.declared.Did.{Did}
 use Rattle.opcodes.specs.declared.Did.the-variants.{Refused}
 use Rattle.core.specs.Cut.{cut}
-use Rattle.core.specs.Operated.{with-operand, push-u8}
+use Rattle.core.specs.Operated.{with-operand, push-u32, push-u8, muli, jump-if-false}
 use Rattle.core.specs.Execute.{kept, plain, operated, is-equality, execute, by-extent, instruct}
-use Rattle.core.specs.Kinds.{among, plain-opcodes, is-plain, byte-opcodes, pushes-byte, number-opcodes, takes-number, numbered, stored, cut-stored, stored-by, by-table}
+use Rattle.core.specs.Kinds.{among, plain-opcodes, is-plain, byte-opcodes, number-opcodes, operand-opcodes, has-operand, pushes-byte, with-number, numbered, stored, cut-stored, stored-by, by-table}
 
 -- ---- opcodes among some
 
@@ -48,6 +51,18 @@ differs op one ones out inside = by (eqb op one) refl
         let e : among op ones ≡ true = subst (λ (o : ℕ). among o ones ≡ true) (sym (eqb-true op one same)) inside in
         absurd (let z : _≡_ {A = ℕ} 0 1 = cc in omega arith)
     by false same = refl
+
+-- one with an operand is among those with a byte or among those with a number
+byte-among : (op : ℕ) → has-operand op ≡ true → pushes-byte op ≡ true → among op byte-opcodes ≡ true
+unfolding has-operand pushes-byte
+byte-among op e byte =
+    at-one (λ (o : ℕ). among o byte-opcodes ≡ pushes-byte o) op (also refl (also refl (also refl (also refl (also refl (also refl none)))))) e ∙ byte
+
+number-among : (op : ℕ) → has-operand op ≡ true → pushes-byte op ≡ false → among op number-opcodes ≡ true
+unfolding has-operand pushes-byte
+number-among op e number =
+    at-one (λ (o : ℕ). among o number-opcodes ≡ not (pushes-byte o)) op (also refl (also refl (also refl (also refl (also refl (also refl none)))))) e
+    ∙ ap not number
 
 -- ---- how far an instruction reaches
 
@@ -77,12 +92,12 @@ equality-operands : (op : ℕ) → is-equality op ≡ true → Operands 0 op
 unfolding is-equality operand-size
 equality-operands op e = at-one (Operands 0) op (also (fixed refl refl refl) (also (fixed refl refl refl) none)) (equality-among op e)
 
-byte-operands : (op : ℕ) → pushes-byte op ≡ true → Operands 1 op
-unfolding pushes-byte operand-size
+byte-operands : (op : ℕ) → among op byte-opcodes ≡ true → Operands 1 op
+unfolding operand-size
 byte-operands op e = at-one (Operands 1) op (also (fixed refl refl refl) (also (fixed refl refl refl) (also (fixed refl refl refl) none))) e
 
-number-operands : (op : ℕ) → takes-number op ≡ true → Operands 4 op
-unfolding takes-number operand-size
+number-operands : (op : ℕ) → among op number-opcodes ≡ true → Operands 4 op
+unfolding operand-size
 number-operands op e = at-one (Operands 4) op (also (fixed refl refl refl) (also (fixed refl refl refl) (also (fixed refl refl refl) none))) e
 
 module _ (code : List ℕ) (place size : ℕ) (known : Operands size (getD code place 0)) where
@@ -106,6 +121,14 @@ module _ (code : List ℕ) (place size : ℕ) (known : Operands size (getD code 
 
 -- ---- what it does
 
+-- an answer over an operand, and the stack beside it
+operand-on-stack : (stack : List ℕ) (onward : ℕ → Did) (read : OperandResult)
+    → on-stack (with-operand Refused onward read) stack
+    ≡ with-operand (λ refusal. on-stack (Refused refusal) stack) (λ number. on-stack (onward number) stack) read
+unfolding with-operand
+operand-on-stack stack onward (Operand number) = refl
+operand-on-stack stack onward (NoOperand refusal) = refl
+
 module _ (stack memory code : List ℕ) (registers : Registers) (next op count : ℕ) where
   executed-plain : is-plain op ≡ true → execute stack memory code registers next op count ≡ kept (plain stack registers next op count) memory
   unfolding is-plain execute is-equality operated
@@ -122,43 +145,40 @@ module _ (stack memory code : List ℕ) (registers : Registers) (next op count :
   unfolding execute
   executed-equality e = simp (e)
 
-  executed-byte : pushes-byte op ≡ true → execute stack memory code registers next op count ≡ kept (push-u8 stack code registers next) memory
-  unfolding pushes-byte execute is-equality operated
+  executed-byte : among op byte-opcodes ≡ true → execute stack memory code registers next op count ≡ kept (push-u8 stack code registers next) memory
+  unfolding execute is-equality operated
   executed-byte e =
       at-one (λ (o : ℕ). execute stack memory code registers next o count ≡ kept (push-u8 stack code registers next) memory) op
       (also refl (also refl (also refl none))) e
 
-  cut-byte : pushes-byte op ≡ true → cut stack registers op ≡ Refused UnexpectedEOB
-  unfolding pushes-byte cut
+  cut-byte : among op byte-opcodes ≡ true → cut stack registers op ≡ Refused UnexpectedEOB
+  unfolding cut
   cut-byte e = at-one (λ (o : ℕ). cut stack registers o ≡ Refused UnexpectedEOB) op (also refl (also refl (also refl none))) e
 
-  executed-number : takes-number op ≡ true → execute stack memory code registers next op count ≡ kept (numbered stack code registers next op) memory
-  unfolding takes-number execute is-equality operated numbered
+  executed-number : among op number-opcodes ≡ true → execute stack memory code registers next op count ≡ kept (numbered stack code registers next op) memory
+  unfolding execute is-equality operated push-u32 muli jump-if-false numbered with-number
   executed-number e =
       at-one (λ (o : ℕ). execute stack memory code registers next o count ≡ kept (numbered stack code registers next o) memory) op
-      (also refl (also refl (also refl none))) e
+      (also refl (also refl (also (ap (λ (after : OnStack). kept after memory)
+      (operand-on-stack stack (op-jump-if-false stack registers next) (operand 4 code (registers .place + 1)))) none))) e
 
-  module _ (no-plain : is-plain op ≡ false) (no-equality : is-equality op ≡ false) (no-byte : pushes-byte op ≡ false) (no-number : takes-number op ≡ false) where
+  module _ (no-plain : is-plain op ≡ false) (no-equality : is-equality op ≡ false) (no-operand : has-operand op ≡ false) where
     neither-plain : (one : ℕ) → among one plain-opcodes ≡ true → eqb op one ≡ false
     unfolding is-plain
     neither-plain one inside = differs op one plain-opcodes no-plain inside
 
-    neither-byte : (one : ℕ) → among one byte-opcodes ≡ true → eqb op one ≡ false
-    unfolding pushes-byte
-    neither-byte one inside = differs op one byte-opcodes no-byte inside
-
-    neither-number : (one : ℕ) → among one number-opcodes ≡ true → eqb op one ≡ false
-    unfolding takes-number
-    neither-number one inside = differs op one number-opcodes no-number inside
+    neither-operand : (one : ℕ) → among one operand-opcodes ≡ true → eqb op one ≡ false
+    unfolding has-operand
+    neither-operand one inside = differs op one operand-opcodes no-operand inside
 
     executed-other : execute stack memory code registers next op count ≡ stored stack memory code registers next op
     unfolding execute operated plain stored
     executed-other =
-        simp (no-equality, neither-number PUSH-U32 refl, neither-byte PUSH-STATE refl, neither-byte PUSH-TASK-FIELD refl, neither-byte PUSH-MAX-STATES refl, neither-number MULI refl, neither-number JUMP-IF-FALSE refl, neither-plain MUL refl, neither-plain LT refl, neither-plain GT refl, neither-plain DUP refl, neither-plain SWAP refl, neither-plain DROP refl, neither-plain DO refl, neither-plain LOOP refl, neither-plain LOOP-INDEX refl, neither-plain S-LEN refl)
+        simp (no-equality, neither-operand PUSH-U32 refl, neither-operand PUSH-STATE refl, neither-operand PUSH-TASK-FIELD refl, neither-operand PUSH-MAX-STATES refl, neither-operand MULI refl, neither-operand JUMP-IF-FALSE refl, neither-plain MUL refl, neither-plain LT refl, neither-plain GT refl, neither-plain DUP refl, neither-plain SWAP refl, neither-plain DROP refl, neither-plain DO refl, neither-plain LOOP refl, neither-plain LOOP-INDEX refl, neither-plain S-LEN refl)
 
     cut-other : cut stack registers op ≡ cut-stored stack registers op
     unfolding cut cut-stored
-    cut-other = simp (neither-number MULI refl, neither-number JUMP-IF-FALSE refl)
+    cut-other = simp (neither-operand MULI refl, neither-operand JUMP-IF-FALSE refl)
 
 -- ---- the instruction at the place
 
@@ -182,47 +202,53 @@ module _ (stack memory code : List ℕ) (registers : Registers) (count : ℕ) wh
         simp (reach, executed-equality stack memory code registers (registers .place + 1) op-at count e)
 
   -- a byte is pushed
-  byte-whole : registers .place + 2 ≤ length code → pushes-byte op-at ≡ true → kept (push-u8 stack code registers (registers .place + 2)) memory ≡ instruct stack memory code registers count
+  byte-whole : registers .place + 2 ≤ length code → among op-at byte-opcodes ≡ true
+      → kept (push-u8 stack code registers (registers .place + 2)) memory ≡ instruct stack memory code registers count
   unfolding instruct by-extent
   byte-whole inside e =
       let reach : extent code (registers .place) ≡ extents.Next (registers .place + 2) = whole code (registers .place) 1 (byte-operands op-at e) inside in
       simp (reach, executed-byte stack memory code registers (registers .place + 2) op-at count e)
 
-  byte-cut : length code < registers .place + 2 → pushes-byte op-at ≡ true → kept (push-u8 stack code registers (registers .place + 2)) memory ≡ instruct stack memory code registers count
+  byte-cut : length code < registers .place + 2 → among op-at byte-opcodes ≡ true
+      → kept (push-u8 stack code registers (registers .place + 2)) memory ≡ instruct stack memory code registers count
   unfolding instruct by-extent push-u8 operand with-operand
   byte-cut outside e =
       let reach : extent code (registers .place) ≡ extents.Cut = past code (registers .place) 1 (byte-operands op-at e) outside in
       simp (reach, cut-byte stack memory code registers (registers .place + 2) op-at count e, lt-leb (registers .place + 1 + 1) (length code) (omega arith))
 
-  pub instruct-byte : pushes-byte op-at ≡ true → kept (push-u8 stack code registers (registers .place + 2)) memory ≡ instruct stack memory code registers count
-  instruct-byte e = by (decLe (registers .place + 2) (length code))
+  pub instruct-byte : has-operand op-at ≡ true → pushes-byte op-at ≡ true
+      → kept (push-u8 stack code registers (registers .place + 2)) memory ≡ instruct stack memory code registers count
+  instruct-byte e byte = by (decLe (registers .place + 2) (length code))
     where
       by : Dec (registers .place + 2 ≤ length code) → kept (push-u8 stack code registers (registers .place + 2)) memory ≡ instruct stack memory code registers count
-      by (yes inside) = byte-whole inside e
-      by (no outside) = byte-cut (omega arith) e
+      by (yes inside) = byte-whole inside (byte-among op-at e byte)
+      by (no outside) = byte-cut (omega arith) (byte-among op-at e byte)
 
   -- a number is taken
-  pub instruct-number : registers .place + 5 ≤ length code → takes-number op-at ≡ true → kept (numbered stack code registers (registers .place + 5) op-at) memory ≡ instruct stack memory code registers count
+  pub instruct-number : registers .place + 5 ≤ length code → has-operand op-at ≡ true → pushes-byte op-at ≡ false
+      → kept (numbered stack code registers (registers .place + 5) op-at) memory ≡ instruct stack memory code registers count
   unfolding instruct by-extent
-  instruct-number inside e =
-      let reach : extent code (registers .place) ≡ extents.Next (registers .place + 5) = whole code (registers .place) 4 (number-operands op-at e) inside in
-      simp (reach, executed-number stack memory code registers (registers .place + 5) op-at count e)
+  instruct-number inside e number =
+      let taken : among op-at number-opcodes ≡ true = number-among op-at e number in
+      let reach : extent code (registers .place) ≡ extents.Next (registers .place + 5) = whole code (registers .place) 4 (number-operands op-at taken) inside in
+      simp (reach, executed-number stack memory code registers (registers .place + 5) op-at count taken)
 
-  pub instruct-cut : length code < registers .place + 5 → takes-number op-at ≡ true → on-memory (cut stack registers op-at) stack memory ≡ instruct stack memory code registers count
+  pub instruct-cut : length code < registers .place + 5 → has-operand op-at ≡ true → pushes-byte op-at ≡ false
+      → on-memory (cut stack registers op-at) stack memory ≡ instruct stack memory code registers count
   unfolding instruct by-extent
-  instruct-cut outside e =
-      let reach : extent code (registers .place) ≡ extents.Cut = past code (registers .place) 4 (number-operands op-at e) outside in
+  instruct-cut outside e number =
+      let reach : extent code (registers .place) ≡ extents.Cut = past code (registers .place) 4 (number-operands op-at (number-among op-at e number)) outside in
       simp (reach)
 
   -- any other, by the table
-  other-by : (reach : Extent) → is-plain op-at ≡ false → is-equality op-at ≡ false → pushes-byte op-at ≡ false → takes-number op-at ≡ false
+  other-by : (reach : Extent) → is-plain op-at ≡ false → is-equality op-at ≡ false → has-operand op-at ≡ false
       → stored-by stack memory code registers op-at reach ≡ by-extent stack memory code registers op-at count reach
   unfolding by-extent stored-by
-  other-by (extents.Next next) no-plain no-equality no-byte no-number = sym (executed-other stack memory code registers next op-at count no-plain no-equality no-byte no-number)
-  other-by extents.Cut no-plain no-equality no-byte no-number =
-      ap (λ (did : Did). on-memory did stack memory) (sym (cut-other stack memory code registers 0 op-at count no-plain no-equality no-byte no-number))
+  other-by (extents.Next next) no-plain no-equality no-operand = sym (executed-other stack memory code registers next op-at count no-plain no-equality no-operand)
+  other-by extents.Cut no-plain no-equality no-operand =
+      ap (λ (did : Did). on-memory did stack memory) (sym (cut-other stack memory code registers 0 op-at count no-plain no-equality no-operand))
 
-  pub instruct-other : is-plain op-at ≡ false → is-equality op-at ≡ false → pushes-byte op-at ≡ false → takes-number op-at ≡ false
+  pub instruct-other : is-plain op-at ≡ false → is-equality op-at ≡ false → has-operand op-at ≡ false
       → by-table stack memory code registers op-at ≡ instruct stack memory code registers count
   unfolding instruct by-table
   instruct-other = other-by (extent code (registers .place))

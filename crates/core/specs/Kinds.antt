@@ -1,16 +1,18 @@
 -- Instructions by what stands behind their opcode: nothing, a byte, a number of four bytes, or what the table of operand sizes says.
-use Prim.Native.Nat.{ℕ}
+use Prim.Native.Nat.{ℕ, _+_}
 use mathlib.Core.Bool.{Bool, false, cond, _||_}
-use mathlib.Core.List.{List, [], _∷_}
-use lib.Dec.{eqb}
+use mathlib.Core.List.{List, [], _∷_, _++_}
+use lib.Dec.{eqb, ltb}
 use Rattle.errors.specs.declared.Refusal.the-variants.{UnexpectedEOB}
 use Rattle.bytecode.specs.Opcodes.{PUSH-U32, PUSH-STATE, PUSH-TASK-FIELD, PUSH-MAX-STATES, S-LEN, DO, LOOP, LOOP-INDEX, DROP, DUP, SWAP, LT, GT, JUMP-IF-FALSE, M-STI, M-ST, M-MUTA, MULI, MUL}
-use Rattle.bytecode.specs.Operands.{extent}
+use Rattle.bytecode.specs.Operands.{operand, extent}
 use Rattle.bytecode.specs.declared.Extent.{Extent}
 use Rattle.bytecode.specs.declared.Extent.the-variants as extents
 use Rattle.opcodes.specs.Registers.{OnStack, on-stack, OnMemory, on-memory, moved}
+use Rattle.opcodes.specs.Stack.{op-push, op-muli}
+use Rattle.opcodes.specs.Control.{op-jump-if-false}
 use Rattle.opcodes.specs.Store.{op-m-muta}
-use Rattle.core.specs.Operated.{push-u32, muli, jump-if-false, m-st, m-sti}
+use Rattle.core.specs.Operated.{with-operand, m-st, m-sti}
 use Rattle.core.specs.Cut.{cut-m-st}
 use Rattle.core.specs.Execute.{changed}
 use Rattle.opcodes.specs.declared.Registers.{Registers}
@@ -33,20 +35,31 @@ is-plain op = among op plain-opcodes
 abbrev pub byte-opcodes : List ℕ
 byte-opcodes = PUSH-STATE ∷ PUSH-TASK-FIELD ∷ PUSH-MAX-STATES ∷ []
 
-unfoldable pub pushes-byte : ℕ → Bool
-pushes-byte op = among op byte-opcodes
-
 -- a number of four bytes behind it
 abbrev pub number-opcodes : List ℕ
 number-opcodes = PUSH-U32 ∷ MULI ∷ JUMP-IF-FALSE ∷ []
 
-unfoldable pub takes-number : ℕ → Bool
-takes-number op = among op number-opcodes
+-- one operand of a fixed size behind it: one of these
+abbrev pub operand-opcodes : List ℕ
+operand-opcodes = byte-opcodes ++ number-opcodes
 
+unfoldable pub has-operand : ℕ → Bool
+has-operand op = among op operand-opcodes
+
+-- whether such an operand is a byte: by the range in which those opcodes stand
+unfoldable pub pushes-byte : ℕ → Bool
+pushes-byte op = cond (ltb 2 op) (ltb op 7) false
+
+-- an opcode with its number
+unfoldable pub with-number : List ℕ → Registers → ℕ → ℕ → ℕ → OnStack
+with-number stack registers next op number =
+    cond (eqb op PUSH-U32) (op-push stack registers next number)
+    (cond (eqb op MULI) (op-muli stack registers next number) (on-stack (op-jump-if-false stack registers next number) stack))
+
+-- with the number that stands behind it, or 2
 unfoldable pub numbered : List ℕ → List ℕ → Registers → ℕ → ℕ → OnStack
 numbered stack code registers next op =
-    cond (eqb op PUSH-U32) (push-u32 stack code registers next)
-    (cond (eqb op MULI) (muli stack code registers next) (on-stack (jump-if-false stack code registers next) stack))
+    with-operand (λ refusal. on-stack (Refused refusal) stack) (with-number stack registers next op) (operand 4 code (registers .place + 1))
 
 -- any other: over memory, or it does nothing
 unfoldable pub stored : List ℕ → List ℕ → List ℕ → Registers → ℕ → ℕ → OnMemory

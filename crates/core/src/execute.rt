@@ -5,17 +5,16 @@ ghost use Prim.Native.Nat.{_≤_, _<_};
 ghost use lib.ListN.{length, getD};
 ghost use Rattle.opcodes.specs.Registers.{on-stack, on-memory};
 ghost use Rattle.core.specs.Execute.{plain, is-equality, instruct};
-ghost use Rattle.core.specs.Kinds.{is-plain, pushes-byte, takes-number, numbered, stored, by-table};
+ghost use Rattle.core.specs.Kinds.{is-plain, has-operand, pushes-byte, with-number, numbered, stored, by-table};
 use crate::cut::cut;
 use crate::cut::cut_stored;
-use crate::operated::jump_if_false;
 use crate::operated::m_st;
 use crate::operated::m_sti;
-use crate::operated::muli;
 use crate::operated::push_u8;
-use crate::operated::push_u32;
 use arithmetic::op_mul;
+use arithmetic::op_muli;
 use bytecode::Extent;
+use bytecode::OperandResult;
 use bytecode::extents::extent;
 use bytecode::extents::operand_sizes;
 use bytecode::opcodes::*;
@@ -23,10 +22,12 @@ use control::op_do;
 use control::op_loop;
 use control::op_loop_index;
 use equality::op_eq;
+use jumps::op_jump_if_false;
 use mutation::op_m_muta;
 use opcodes::Did;
 use opcodes::Registers;
 use opcodes::stack::moved;
+use operands::prepare_u32_from_be_checked;
 use ordering::op_compare;
 use pushes::op_dup;
 use pushes::op_push;
@@ -105,42 +106,59 @@ fn is_equality(op: u8) -> bool
     op == NEQ
 }
 
-// A byte behind the opcode, which it pushes: PUSH_STATE, PUSH_TASK_FIELD, PUSH_MAX_STATES.
-fn pushes_byte(op: u8) -> bool
-    ensures { λ r. ⌜ r ≡ pushes-byte op ⌝ }
-{
-    match op {
-        0x03 => true,
-        0x05 => true,
-        0x06 => true,
-        _ => false,
-    }
-}
-
-// A number of four bytes behind the opcode: PUSH_U32, JUMP_IF_FALSE, MULI.
-fn takes_number(op: u8) -> bool
-    ensures { λ r. ⌜ r ≡ takes-number op ⌝ }
+// One operand of a fixed size behind the opcode: a byte or a number of four bytes.
+fn has_operand(op: u8) -> bool
+    ensures { λ r. ⌜ r ≡ has-operand op ⌝ }
 {
     match op {
         0x01 => true,
+        0x03 => true,
+        0x05 => true,
+        0x06 => true,
         0x1A => true,
         0x1E => true,
         _ => false,
     }
 }
 
-// The three that take a number.
+// Whether such an operand is a byte: those opcodes stand between PUSH_U32 and T_CREATE. A range, so that the compiler makes one test of it.
+fn pushes_byte(op: u8) -> bool
+    ensures { λ r. ⌜ r ≡ pushes-byte op ⌝ }
+{
+    if 0x02 < op {
+        return op < 0x07;
+    }
+    false
+}
+
+// An opcode with its number: PUSH_U32, MULI, JUMP_IF_FALSE.
+fn with_number(
+    stack: &mut [u64; 1000],
+    registers: Registers,
+    next: usize,
+    op: u8,
+    number: u32,
+) -> Did
+    ensures { λ r. ⌜ on-stack r (now (stack .exit)) ≡ with-number (now (stack .entry)) registers next op number ⌝ }
+{
+    if op == PUSH_U32 {
+        return op_push(stack, registers, next, number);
+    }
+    if op == MULI {
+        return op_muli(stack, registers, next, number);
+    }
+    op_jump_if_false(stack, registers, next, number)
+}
+
+// The same, with the number that stands behind the opcode: it is read in one place, so that its four bytes are loaded as one word.
 fn numbered(stack: &mut [u64; 1000], code: &[u8], registers: Registers, next: usize, op: u8) -> Did
     requires { ⌜ registers .place ≤ 9223372036854775808 ⌝ }
     ensures { λ r. ⌜ on-stack r (now (stack .exit)) ≡ numbered (now (stack .entry)) (now (code .entry)) registers next op ⌝ }
 {
-    if op == PUSH_U32 {
-        return push_u32(stack, code, registers, next);
+    match prepare_u32_from_be_checked(code, registers.place + 1) {
+        OperandResult::NoOperand(refusal) => Did::Refused(refusal),
+        OperandResult::Operand(number) => with_number(stack, registers, next, op, number),
     }
-    if op == MULI {
-        return muli(stack, code, registers, next);
-    }
-    jump_if_false(stack, code, registers, next)
 }
 
 // Any other: M_STI, M_ST and M_MUTA over memory; S_LOAD, and bytes without an opcode, do nothing.
@@ -199,17 +217,17 @@ pub(crate) fn instruct(
 {
     let place = registers.place;
     let op = code[place];
-    if is_equality(op) {
-        return op_eq(stack, memory, registers, place + 1, op == EQ);
-    }
-    if pushes_byte(op) {
-        return push_u8(stack, code, registers, place + 2);
-    }
-    if takes_number(op) {
+    if has_operand(op) {
+        if pushes_byte(op) {
+            return push_u8(stack, code, registers, place + 2);
+        }
         if code.len() - place < 5 {
             return cut(stack, registers, op);
         }
         return numbered(stack, code, registers, place + 5, op);
+    }
+    if is_equality(op) {
+        return op_eq(stack, memory, registers, place + 1, op == EQ);
     }
     by_table(stack, memory, code, registers, op)
 }

@@ -1,35 +1,16 @@
-// Opcodes with operands: each reads its operand, which stands behind the opcode, and goes on as the function of its name.
+// Opcodes with other operands than a number of four bytes: each reads its operands, which stand behind the opcode, and goes on as the function of its name.
 ghost use mathlib.Core.Path.{_≡_};
 ghost use Prim.Native.Nat.{_≤_};
 ghost use Rattle.opcodes.specs.Registers.{on-stack, on-memory};
-ghost use Rattle.core.specs.Operated.{push-u32, push-u8, muli, jump-if-false, m-st, m-sti-of, m-sti};
-use arithmetic::op_muli;
+ghost use Rattle.core.specs.Operated.{push-u8, m-st, m-sti-of, m-sti};
 use bytecode::OperandResult;
-use jumps::op_jump_if_false;
 use opcodes::Did;
 use opcodes::Registers;
 use operands::prepare_u8;
 use operands::prepare_u16_from_be_checked;
-use operands::prepare_u32_from_be_checked;
 use pushes::op_push;
 use store::op_m_st;
 use store::store;
-
-// PUSH_U32.
-pub(crate) fn push_u32(
-    stack: &mut [u64; 1000],
-    code: &[u8],
-    registers: Registers,
-    next: usize,
-) -> Did
-    requires { ⌜ registers .place ≤ 9223372036854775808 ⌝ }
-    ensures { λ r. ⌜ on-stack r (now (stack .exit)) ≡ push-u32 (now (stack .entry)) (now (code .entry)) registers next ⌝ }
-{
-    match prepare_u32_from_be_checked(code, registers.place + 1) {
-        OperandResult::NoOperand(refusal) => Did::Refused(refusal),
-        OperandResult::Operand(number) => op_push(stack, registers, next, number),
-    }
-}
 
 // PUSH_STATE, PUSH_MAX_STATES, PUSH_TASK_FIELD.
 pub(crate) fn push_u8(
@@ -44,33 +25,6 @@ pub(crate) fn push_u8(
     match prepare_u8(code, registers.place + 1) {
         OperandResult::NoOperand(refusal) => Did::Refused(refusal),
         OperandResult::Operand(number) => op_push(stack, registers, next, number),
-    }
-}
-
-// MULI.
-pub(crate) fn muli(stack: &mut [u64; 1000], code: &[u8], registers: Registers, next: usize) -> Did
-    requires { ⌜ registers .place ≤ 9223372036854775808 ⌝ }
-    ensures { λ r. ⌜ on-stack r (now (stack .exit)) ≡ muli (now (stack .entry)) (now (code .entry)) registers next ⌝ }
-{
-    match prepare_u32_from_be_checked(code, registers.place + 1) {
-        OperandResult::NoOperand(refusal) => Did::Refused(refusal),
-        OperandResult::Operand(number) => op_muli(stack, registers, next, number),
-    }
-}
-
-// JUMP_IF_FALSE.
-pub(crate) fn jump_if_false(
-    stack: &[u64; 1000],
-    code: &[u8],
-    registers: Registers,
-    next: usize,
-) -> Did
-    requires { ⌜ registers .place ≤ 9223372036854775808 ⌝ }
-    ensures { λ r. ⌜ r ≡ jump-if-false (now (stack .entry)) (now (code .entry)) registers next ⌝ }
-{
-    match prepare_u32_from_be_checked(code, registers.place + 1) {
-        OperandResult::NoOperand(refusal) => Did::Refused(refusal),
-        OperandResult::Operand(target) => op_jump_if_false(stack, registers, next, target),
     }
 }
 

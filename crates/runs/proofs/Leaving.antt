@@ -1,10 +1,11 @@
 -- CALL and END_CALL leave the table as it is, and go on behind their byte.
 use Prim.Native.Nat.{ℕ, _+_, _-_, _^_, _<_, _≤_}
 use mathlib.Core.Path.{_≡_, refl, sym, _∙_, ap, subst}
-use mathlib.Core.Bool.{true}
+use mathlib.Core.Bool.{true, false}
 use mathlib.Core.List.{List}
 use native.Mathlib.Decide.{decLt}
 use native.Mathlib.Omega.{arith}
+use lib.Dec.{eqb}
 use lib.ListN.{getD, length, drop, length-take, length-drop, List·getD-eq-default}
 use borrow.Author.Tests.{lt-leb}
 use Rattle.bytecode.specs.Opcodes.{CALL, END-CALL}
@@ -20,7 +21,9 @@ use Rattle.calls.specs.Turns.{turned}
 use Rattle.calls.specs.declared.Gone.{Gone}
 use Rattle.calls.specs.declared.Went.{Went}
 use Rattle.act.proofs.Extents.{bare-extent}
-use Rattle.runs.specs.Going.{Acting, acting, after-act, act-turn, next-of, returned, called, Entering, entering, call-turn}
+use Rattle.runs.specs.Behind.{next-of}
+use Rattle.runs.specs.Going.{Acting, acting, after-act, task-turn, slot-at, returned, called, Entering, entering, call-turn, from-entering, state-turn, act-turn}
+use Rattle.runs.specs.States.{stated}
 
 module _ (pool ends : List ℕ) (machine : Machine) where
   abbrev pub place : ℕ
@@ -63,50 +66,43 @@ module _ (table : List Task) (stack memory pool ends : List ℕ) (gone : Gone) (
   with-next went next = acting (turned (gone .machine) (gone .left) (went next)) table stack memory pool ends
 
   -- END_CALL
-  pub returns-turn : op-at pool ends (gone .machine) ≡ END-CALL → acting (returned gone) table stack memory pool ends ≡ act-turn table stack memory pool ends gone
-  unfolding act-turn returned on-frames applied bare
-  returns-turn at =
+  pub returns-turn : (slot : ℕ) → op-at pool ends (gone .machine) ≡ END-CALL → acting (returned gone) table stack memory pool ends ≡ task-turn table stack memory pool ends gone slot
+  unfolding task-turn returned on-frames applied bare
+  returns-turn slot at =
       ap (with-next (op-end-call (gone .machine))) (next-is pool ends (gone .machine) fits (inside pool ends (gone .machine) END-CALL at (λ none. omega arith)))
-      ∙ sym (ap (after-act gone table) (acts-bare stack memory pool ends (gone .machine) (getD table (gone .slot) blank) END-CALL at (λ none. omega arith) refl))
+      ∙ sym (ap (after-act gone slot table) (acts-bare stack memory pool ends (gone .machine) (getD table slot blank) END-CALL at (λ none. omega arith) refl))
 
   -- CALL
-  pub calls-turn : {r : Gone} {table′ : List Task} {stack′ ends′ : List ℕ} → op-at pool ends (gone .machine) ≡ CALL → entering r table′ stack′ ends′ ≡ call-turn table stack ends gone
-      → acting r table′ stack′ memory pool ends′ ≡ act-turn table stack memory pool ends gone
-  unfolding act-turn call-turn called on-frames applied bare
-  calls-turn at made =
-      ap (λ (e : Entering). acting (e .gone) (e .table) (e .stack) memory pool (e .ends)) made
-      ∙ ap (with-next (λ (next : ℕ). op-call stack ends (gone .machine) next (getD table (gone .slot) blank))) (next-is pool ends (gone .machine) fits (inside pool ends (gone .machine) CALL at (λ none. omega arith)))
-      ∙ sym (ap (after-act gone table) (acts-bare stack memory pool ends (gone .machine) (getD table (gone .slot) blank) CALL at (λ none. omega arith) refl))
+  pub calls-turn : op-at pool ends (gone .machine) ≡ CALL → from-entering (call-turn table stack ends gone) memory pool ≡ task-turn table stack memory pool ends gone (slot-at stack gone)
+  unfolding task-turn call-turn called on-frames applied bare
+  calls-turn at =
+      ap (with-next (λ (next : ℕ). op-call stack ends (gone .machine) next (getD table (slot-at stack gone) blank))) (next-is pool ends (gone .machine) fits (inside pool ends (gone .machine) CALL at (λ none. omega arith)))
+      ∙ sym (ap (after-act gone (slot-at stack gone) table) (acts-bare stack memory pool ends (gone .machine) (getD table (slot-at stack gone) blank) CALL at (λ none. omega arith) refl))
 
--- ---- what the calls of each carrier answer, put together
+-- ---- an instruction by its opcode
 
--- the task read, and called
-pub call-turns : (table : List Task) (stack ends : List ℕ) (gone : Gone) {task : Task} {table′ : List Task} {r : Gone} {stack′ ends′ : List ℕ}
-    → after task table′ ≡ after (getD table (gone .slot) blank) table → after (after r stack′) ends′ ≡ after (after (called stack ends gone task) stack) ends
-    → entering r table′ stack′ ends′ ≡ call-turn table stack ends gone
+module _ (table : List Task) (stack memory pool ends : List ℕ) (gone : Gone) where
+  pub at-end-call : eqb (gone .op) END-CALL ≡ true → act-turn table stack memory pool ends gone ≡ acting (returned gone) table stack memory pool ends
+  unfolding act-turn
+  at-end-call is = simp (is)
+
+  pub at-call : eqb (gone .op) END-CALL ≡ false → eqb (gone .op) CALL ≡ true → act-turn table stack memory pool ends gone ≡ from-entering (call-turn table stack ends gone) memory pool
+  unfolding act-turn
+  at-call not is = simp (not, is)
+
+  pub at-other : eqb (gone .op) END-CALL ≡ false → eqb (gone .op) CALL ≡ false
+      → act-turn table stack memory pool ends gone ≡ state-turn table memory pool ends gone (slot-at stack gone) (stated stack (gone .machine) (gone .op) (getD table (slot-at stack gone) blank))
+  unfolding act-turn
+  at-other not none = simp (not, none)
+
+-- ---- what the calls of the carrier answer, put together
+
+-- the slot named, its task read, and called
+pub call-turns : (table : List Task) (stack ends : List ℕ) (gone : Gone) {slot : ℕ} {stack′ : List ℕ} {task : Task} {table′ : List Task} {r : Gone} {stack″ ends′ : List ℕ}
+    → after slot stack′ ≡ after (slot-at stack gone) stack → after task table′ ≡ after (getD table slot blank) table
+    → after (after r stack″) ends′ ≡ after (after (called stack′ ends gone task) stack′) ends → entering r table′ stack″ ends′ ≡ call-turn table stack ends gone
 unfolding call-turn
-call-turns table stack ends gone {task} {table′} read went =
+call-turns table stack ends gone {slot} {stack′} {task} {table′} names read went =
     ap (λ (a : After (After Gone (List ℕ)) (List ℕ)). entering (a .answer .answer) table′ (a .answer .lent) (a .lent)) went
-    ∙ ap (λ (a : After Task (List Task)). entering (called stack ends gone (a .answer)) (a .lent) stack ends) read
-
-module _ (table : List Task) (stack memory pool ends : List ℕ) (gone : Gone) (fits : length pool < 2 ^ 64) {op : ℕ} {pool′ ends′ : List ℕ}
-    (seen : after (after op pool′) ends′ ≡ after (after (op-at pool ends (gone .machine)) pool) ends) where
-  abbrev seen-op : op ≡ op-at pool ends (gone .machine)
-  seen-op = ap (λ (a : After (After ℕ (List ℕ)) (List ℕ)). a .answer .answer) seen
-
-  -- END_CALL
-  pub act-returns : {r : Gone} → op ≡ END-CALL → r ≡ returned gone → acting r table stack memory pool′ ends′ ≡ act-turn table stack memory pool ends gone
-  act-returns {r} is went =
-      ap (λ (a : After (After ℕ (List ℕ)) (List ℕ)). acting r table stack memory (a .answer .lent) (a .lent)) seen
-      ∙ ap (λ (g : Gone). acting g table stack memory pool ends) went ∙ returns-turn table stack memory pool ends gone fits (sym seen-op ∙ is)
-
-  -- CALL
-  pub act-calls : {r : Gone} {table′ : List Task} {stack′ ends″ : List ℕ} → op ≡ CALL → entering r table′ stack′ ends″ ≡ call-turn table stack ends′ gone
-      → acting r table′ stack′ memory pool′ ends″ ≡ act-turn table stack memory pool ends gone
-  act-calls {r} {table′} {stack′} {ends″} is made =
-      ap (λ (a : After (After ℕ (List ℕ)) (List ℕ)). acting r table′ stack′ memory (a .answer .lent) ends″) seen
-      ∙ calls-turn table stack memory pool ends gone fits (sym seen-op ∙ is) (made ∙ ap (λ (a : After (After ℕ (List ℕ)) (List ℕ)). call-turn table stack (a .lent) gone) seen)
-
-  -- any other
-  pub act-others : {after-it : Acting} → after-it ≡ act-turn table stack memory pool′ ends′ gone → after-it ≡ act-turn table stack memory pool ends gone
-  act-others made = made ∙ ap (λ (a : After (After ℕ (List ℕ)) (List ℕ)). act-turn table stack memory (a .answer .lent) (a .lent) gone) seen
+    ∙ ap (λ (a : After Task (List Task)). entering (called stack′ ends gone (a .answer)) (a .lent) stack′ ends) read
+    ∙ ap (λ (a : After ℕ (List ℕ)). entering (called (a .lent) ends gone (getD table (a .answer) blank)) table (a .lent) ends) names

@@ -1,5 +1,5 @@
 -- How a machine on its way gets to the end of its run, a turn at a time.
-use Prim.Native.Nat.{ℕ, zero, suc, _+_, _-_, _*_, _<_, _≤_}
+use Prim.Native.Nat.{ℕ, zero, suc, _+_, _-_, _*_, _^_, _<_, _≤_}
 use mathlib.Core.Bool.{Bool, true, false, cond}
 use mathlib.Core.List.{List}
 use mathlib.Core.Path.{_≡_, refl, sym, ap, _∙_, subst}
@@ -8,6 +8,7 @@ use lib.Dec.{eqb, ltb, leb}
 use lib.ListN.{length, getD}
 use borrow.Author.Tests.{ltb-true, ltb-false, le-leb, lt-leb}
 use Rattle.errors.specs.declared.Refusal.{Refusal}
+use Rattle.bytecode.specs.Opcodes.{S-SAVE}
 use Rattle.storage.specs.declared.Task.{Task}
 use Rattle.storage.specs.Tasks.{blank}
 use Rattle.opcodes.specs.Registers.{OnMemory, on-memory}
@@ -25,7 +26,7 @@ use Rattle.core.specs.declared.Halt.the-variants as halt
 use Rattle.calls.specs.Machines.{current, code-of, registers-of, settled}
 use Rattle.calls.specs.Advance.{GoneOn, ended as outcome-at, at-hand, wanted, halted-at, after-steps, advance}
 use Rattle.calls.specs.Turns.{turned, save-went, saved}
-use Rattle.calls.specs.Act.{OnAll}
+use Rattle.calls.specs.Act.{OnAll, op-at}
 use Rattle.calls.specs.declared.Outcome.the-variants as outcomes
 use Rattle.refusals.proofs.Either.{either}
 use Rattle.refusals.proofs.Acts as acts-law
@@ -35,7 +36,8 @@ use Rattle.refusals.proofs.Instruction.{instruct-leaves}
 use Rattle.runs.specs.World.{World, world, at-end}
 use Rattle.runs.specs.Step.{Stepped, next, refused, outer, inner, inner-did, acts-went, acts, saves-went, saves, step}
 use Rattle.runs.specs.Run.{End, end-at, follow, run}
-use Rattle.runs.specs.Going.{Going, going, beside, after-act, act-turn, after-save, save-turn, from-acting, from-saving, turn, begins, goes-on}
+use Rattle.runs.specs.Going.{Going, going, beside, Acting, after-act, task-turn, slot-at, act-turn, after-save, save-turn, from-acting, from-saving, turn, begins, goes-on}
+use Rattle.runs.proofs.Stating.{acts-whole-record}
 use Rattle.runs.proofs.Settled.{on-bool, registers-settled, code-settled, place-settled, settled-twice, settled-same, op-settled, count-settled}
 
 -- the machine with everything lent to it
@@ -50,7 +52,7 @@ comes-to g = cond (g .gone .running) (run (g .gone .left) (world-of g)) (end-at 
 unfoldable pub finishes : Going → End
 finishes g =
     cond (g .gone .running)
-    (follow (λ v. run (g .gone .left - 1) v) (world-of g) (g .gone .left) (outer (world-of g) (g .gone .saves) (g .gone .slot)))
+    (follow (λ v. run (g .gone .left - 1) v) (world-of g) (g .gone .left) (outer (world-of g) (eqb (g .gone .op) S-SAVE) (slot-at (g .stack) (g .gone))))
     (end-at (world-of g) (g .gone .left) (g .gone .outcome))
 
 -- the turns that may still come
@@ -170,53 +172,70 @@ module _ (code : List ℕ) (count : ℕ) where
       (ends (suc fuel) r s m (omega arith))
 
 -- of the machine that they are put back into
-left-falls : (fuel : ℕ) (s : List ℕ) (machine : Machine) (op : ℕ) (h : Halted) → Spare fuel h → halted-at s machine op (h .at .left) (h .at .halt) .left ≤ fuel
+left-falls : (fuel : ℕ) (machine : Machine) (op : ℕ) (h : Halted) → Spare fuel h → halted-at machine op (h .at .left) (h .at .halt) .left ≤ fuel
 unfolding halted-at
-left-falls fuel s machine op _ (ends left r _ m less) = less
-left-falls fuel s machine op _ (pauses left r _ m less) = less
-left-falls fuel s machine op _ (refuses refusal left r _ m less) = less
-left-falls fuel s machine op _ (waits left r _ m less some) = less
+left-falls fuel machine op _ (ends left r _ m less) = less
+left-falls fuel machine op _ (pauses left r _ m less) = less
+left-falls fuel machine op _ (refuses refusal left r _ m less) = less
+left-falls fuel machine op _ (waits left r _ m less some) = less
 
-waits-fueled : (fuel : ℕ) (s : List ℕ) (machine : Machine) (op : ℕ) (h : Halted) → Spare fuel h → halted-at s machine op (h .at .left) (h .at .halt) .running ≡ true → 0 < halted-at s machine op (h .at .left) (h .at .halt) .left
+waits-fueled : (fuel : ℕ) (machine : Machine) (op : ℕ) (h : Halted) → Spare fuel h → halted-at machine op (h .at .left) (h .at .halt) .running ≡ true → 0 < halted-at machine op (h .at .left) (h .at .halt) .left
 unfolding halted-at
-waits-fueled fuel s machine op _ (ends left r _ m less) running = absurd (never running)
-waits-fueled fuel s machine op _ (pauses left r _ m less) running = absurd (never running)
-waits-fueled fuel s machine op _ (refuses refusal left r _ m less) running = absurd (never running)
-waits-fueled fuel s machine op _ (waits left r _ m less some) running = some
+waits-fueled fuel machine op _ (ends left r _ m less) running = absurd (never running)
+waits-fueled fuel machine op _ (pauses left r _ m less) running = absurd (never running)
+waits-fueled fuel machine op _ (refuses refusal left r _ m less) running = absurd (never running)
+waits-fueled fuel machine op _ (waits left r _ m less some) running = some
 
 -- an instruction at hand has fuel
 fueled : (fuel : ℕ) (w : World) → begins fuel w .gone .running ≡ true → 0 < begins fuel w .gone .left
 unfolding begins advance after-steps
-fueled fuel w running = waits-fueled fuel _ _ _ _ (spare _ _ fuel _ _ _) running
+fueled fuel w running = waits-fueled fuel _ _ _ (spare _ _ fuel _ _ _) running
 
 begins-left : (fuel : ℕ) (w : World) → begins fuel w .gone .left ≤ fuel
 unfolding begins advance after-steps
-begins-left fuel w = left-falls fuel _ _ _ _ (spare _ _ fuel _ _ _)
+begins-left fuel w = left-falls fuel _ _ _ (spare _ _ fuel _ _ _)
 
 -- at an outcome nothing is to be saved
-none-saved : (s : List ℕ) (machine : Machine) (op left : ℕ) (h : Halt) → halted-at s machine op left h .running ≡ false → halted-at s machine op left h .saves ≡ false
+none-saved : (machine : Machine) (op left : ℕ) (h : Halt) → halted-at machine op left h .running ≡ false → eqb (halted-at machine op left h .op) S-SAVE ≡ false
 unfolding halted-at
-none-saved s machine op left halt.AtEnd stopped = refl
-none-saved s machine op left halt.OutOfFuel stopped = refl
-none-saved s machine op left (halt.Refused refusal) stopped = refl
-none-saved s machine op left halt.Outer stopped = absurd (never (sym stopped))
+none-saved machine op left halt.AtEnd stopped = refl
+none-saved machine op left halt.OutOfFuel stopped = refl
+none-saved machine op left (halt.Refused refusal) stopped = refl
+none-saved machine op left halt.Outer stopped = absurd (never (sym stopped))
 
-begins-none-saved : (fuel : ℕ) (w : World) → begins fuel w .gone .running ≡ false → begins fuel w .gone .saves ≡ false
+begins-none-saved : (fuel : ℕ) (w : World) → begins fuel w .gone .running ≡ false → eqb (begins fuel w .gone .op) S-SAVE ≡ false
 unfolding begins advance after-steps
-begins-none-saved fuel w stopped = none-saved _ _ _ _ _ stopped
+begins-none-saved fuel w stopped = none-saved _ _ _ _ stopped
+
+-- on its way the opcode at hand is the one at the place
+shows-op : (p e : List ℕ) (machine : Machine) (op left : ℕ) (h : Halt) → op-at p e machine ≡ op → halted-at machine op left h .running ≡ true → op-at p e (halted-at machine op left h .machine) ≡ halted-at machine op left h .op
+unfolding halted-at
+shows-op p e machine op left halt.AtEnd at running = absurd (never running)
+shows-op p e machine op left halt.OutOfFuel at running = absurd (never running)
+shows-op p e machine op left (halt.Refused refusal) at running = absurd (never running)
+shows-op p e machine op left halt.Outer at running = at
+
+-- the opcode at the place, and a pool that is not too long to count in
+record Seen (g : Going) : Type 0 where
+  at-place : op-at (g .pool) (g .ends) (g .gone .machine) ≡ g .gone .op
+  fits : length (g .pool) < 2 ^ 64
+
+begins-seen : (fuel : ℕ) (w : World) → length (w .pool) < 2 ^ 64 → begins fuel w .gone .running ≡ true → Seen (begins fuel w)
+unfolding begins advance after-steps
+begins-seen fuel w fits running = record { at-place = shows-op (w .pool) (w .ends) _ _ _ _ (op-settled (w .pool) (w .ends) (w .machine) _) running; fits = fits }
 
 -- ---- a turn
 
 -- where the machine goes on after an instruction that was finished, or stays after one that was refused
 data Turns (g : Going) : Going → Stepped → Type 0 where
-  on : (machine : Machine) (table : List Task) (s m p e save : List ℕ) → Turns g (going (at-hand machine (g .gone .left - 1) false 0) table s m p e save) (next (world machine table s m p e save))
+  on : (machine : Machine) (table : List Task) (s m p e save : List ℕ) → Turns g (going (at-hand machine (g .gone .left - 1) 0) table s m p e save) (next (world machine table s m p e save))
   stays : (refusal : Refusal) → Turns g (going (outcome-at (g .gone .machine) (g .gone .left) (outcomes.Refused refusal)) (g .table) (g .stack) (g .memory) (g .pool) (g .ends) (g .save)) (refused refusal)
 
-acts-turns : (g : Going) (a : OnAll) → acts-law.Leaves (g .stack) (g .memory) (g .pool) (g .ends) (getD (g .table) (g .gone .slot) blank) a
-    → Turns g (from-acting (after-act (g .gone) (g .table) a) (g .save)) (acts-went (world-of g) (g .gone .slot) a (a .acted .went))
+acts-turns : (g : Going) (slot : ℕ) (a : OnAll) → acts-law.Leaves (g .stack) (g .memory) (g .pool) (g .ends) (getD (g .table) slot blank) a
+    → Turns g (from-acting (after-act (g .gone) slot (g .table) a) (g .save)) (acts-went (world-of g) slot a (a .acted .went))
 unfolding turned acts-went applied
-acts-turns g _ (acts-law.finished machine change s m p e) = on machine _ s m p e (g .save)
-acts-turns g _ (acts-law.kept refusal) = stays refusal
+acts-turns g slot _ (acts-law.finished machine change s m p e) = on machine _ s m p e (g .save)
+acts-turns g slot _ (acts-law.kept refusal) = stays refusal
 
 pub data Saves (save : List ℕ) : SavedTable → Type 0 where
   has-saved : (length : ℕ) (after : List ℕ) → Saves save (saved-table (Saved length) after)
@@ -237,32 +256,39 @@ unfolding saved turned save-went saves-went
 saves-turns g _ (has-saved length after) = on _ (g .table) (g .stack) (g .memory) (g .pool) (g .ends) after
 saves-turns g _ (not-saved refusal) = stays refusal
 
-turns-by : (g : Going) (b : Bool)
-    → Turns g (cond b (from-saving (save-turn (g .table) (g .pool) (g .ends) (g .save) (g .gone)) (g .stack) (g .memory)) (from-acting (act-turn (g .table) (g .stack) (g .memory) (g .pool) (g .ends) (g .gone)) (g .save)))
-    (outer (world-of g) b (g .gone .slot))
-unfolding outer saves acts save-turn act-turn
-turns-by g true = saves-turns g _ (save-leaves _ (g .table) (g .pool) (g .ends) _ (g .save))
-turns-by g false = acts-turns g _ (act-leaves (g .stack) (g .memory) (g .pool) (g .ends) (g .gone .machine) _)
+-- an instruction that saves, or works on the record of the slot that it names
+abbrev whole-turn : Going → ℕ → Going
+whole-turn g slot = from-acting (task-turn (g .table) (g .stack) (g .memory) (g .pool) (g .ends) (g .gone) slot) (g .save)
+
+abbrev saving-turn : Going → Going
+saving-turn g = from-saving (save-turn (g .table) (g .pool) (g .ends) (g .save) (g .gone)) (g .stack) (g .memory)
+
+turns-by : (g : Going) (b : Bool) (slot : ℕ) → Turns g (cond b (saving-turn g) (whole-turn g slot)) (outer (world-of g) b slot)
+unfolding outer saves acts save-turn task-turn
+turns-by g true slot = saves-turns g _ (save-leaves _ (g .table) (g .pool) (g .ends) _ (g .save))
+turns-by g false slot = acts-turns g slot _ (act-leaves (g .stack) (g .memory) (g .pool) (g .ends) (g .gone .machine) _)
 
 -- a machine on its way turns
-at-work : (g : Going) → g .gone .running ≡ true
-    → turn g ≡ cond (g .gone .saves) (from-saving (save-turn (g .table) (g .pool) (g .ends) (g .save) (g .gone)) (g .stack) (g .memory)) (from-acting (act-turn (g .table) (g .stack) (g .memory) (g .pool) (g .ends) (g .gone)) (g .save))
+at-work : (g : Going) → g .gone .running ≡ true → Seen g → turn g ≡ cond (eqb (g .gone .op) S-SAVE) (saving-turn g) (whole-turn g (slot-at (g .stack) (g .gone)))
 unfolding turn
-at-work g running =
-    ap (λ (b : Bool). cond (g .gone .saves) (from-saving (save-turn (g .table) (g .pool) (g .ends) (g .save) (g .gone)) (g .stack) (g .memory)) (cond b (from-acting (act-turn (g .table) (g .stack) (g .memory) (g .pool) (g .ends) (g .gone)) (g .save)) g)) running
+at-work g running seen =
+    ap (λ (b : Bool). cond (eqb (g .gone .op) S-SAVE) (saving-turn g) (cond b (from-acting (act-turn (g .table) (g .stack) (g .memory) (g .pool) (g .ends) (g .gone)) (g .save)) g)) running
+    ∙ ap (λ (a : Acting). cond (eqb (g .gone .op) S-SAVE) (saving-turn g) (from-acting a (g .save))) (acts-whole-record (g .table) (g .stack) (g .memory) (g .pool) (g .ends) (g .gone) (seen .fits) (seen .at-place))
 
-turns : (g : Going) → g .gone .running ≡ true → Turns g (turn g) (outer (world-of g) (g .gone .saves) (g .gone .slot))
-turns g running = subst (λ (h : Going). Turns g h (outer (world-of g) (g .gone .saves) (g .gone .slot))) (sym (at-work g running)) (turns-by g (g .gone .saves))
+turns : (g : Going) → g .gone .running ≡ true → Seen g → Turns g (turn g) (outer (world-of g) (eqb (g .gone .op) S-SAVE) (slot-at (g .stack) (g .gone)))
+turns g running seen =
+    subst (λ (h : Going). Turns g h (outer (world-of g) (eqb (g .gone .op) S-SAVE) (slot-at (g .stack) (g .gone)))) (sym (at-work g running seen))
+    (turns-by g (eqb (g .gone .op) S-SAVE) (slot-at (g .stack) (g .gone)))
 
 -- one at its outcome stays
-stays-put : (g : Going) → g .gone .running ≡ false → g .gone .saves ≡ false → turn g ≡ g
+stays-put : (g : Going) → g .gone .running ≡ false → eqb (g .gone .op) S-SAVE ≡ false → turn g ≡ g
 unfolding turn
 stays-put g stopped none = simp (none, stopped)
 
 -- ---- where it ends
 
 with-instruction : (g : Going) → g .gone .running ≡ true
-    → finishes g ≡ follow (λ v. run (g .gone .left - 1) v) (world-of g) (g .gone .left) (outer (world-of g) (g .gone .saves) (g .gone .slot))
+    → finishes g ≡ follow (λ v. run (g .gone .left - 1) v) (world-of g) (g .gone .left) (outer (world-of g) (eqb (g .gone .op) S-SAVE) (slot-at (g .stack) (g .gone)))
 unfolding finishes
 with-instruction g running = simp (running)
 
@@ -285,16 +311,16 @@ unfolding comes-to follow
 comes-after g _ _ (on machine table s m p e save) = refl
 comes-after g _ _ (stays refusal) = refl
 
-turned-on : (g : Going) → (g .gone .running ≡ false → g .gone .saves ≡ false) → comes-to (turn g) ≡ finishes g
-turned-on g none =
-    on-bool (g .gone .running) (λ running. comes-after g _ _ (turns g running) ∙ sym (with-instruction g running))
+turned-on : (g : Going) → (g .gone .running ≡ true → Seen g) → (g .gone .running ≡ false → eqb (g .gone .op) S-SAVE ≡ false) → comes-to (turn g) ≡ finishes g
+turned-on g seen none =
+    on-bool (g .gone .running) (λ running. comes-after g _ _ (turns g running (seen running)) ∙ sym (with-instruction g running))
     (λ stopped. ap comes-to (stays-put g stopped (none stopped)) ∙ ended g stopped ∙ sym (without g stopped))
 
 -- after the current code and the instruction that it comes to
-pub went-on : (g : Going) → g .gone .running ≡ true → comes-to (goes-on g) ≡ comes-to g
+pub went-on : (g : Going) → length (g .pool) < 2 ^ 64 → g .gone .running ≡ true → comes-to (goes-on g) ≡ comes-to g
 unfolding goes-on
-went-on g running =
-    turned-on (begins (g .gone .left) (world-of g)) (begins-none-saved (g .gone .left) (world-of g)) ∙ begun (g .gone .left) (world-of g) ∙ sym (on-its-way g running)
+went-on g fits running =
+    turned-on (begins (g .gone .left) (world-of g)) (begins-seen (g .gone .left) (world-of g) fits) (begins-none-saved (g .gone .left) (world-of g)) ∙ begun (g .gone .left) (world-of g) ∙ sym (on-its-way g running)
 
 -- ---- with fewer turns to come
 
@@ -307,14 +333,14 @@ fewer-at-rest fuel g stopped less =
     let none : _≡_ {A = ℕ} (cond (g .gone .running) 1 0) 0 = ap (λ (b : Bool). cond {A = ℕ} b 1 0) stopped in
     omega (arith, less, none)
 
-fewer-than : (fuel : ℕ) (w : World) → turns-left (turn (begins fuel w)) < fuel * 2 + 1
-fewer-than fuel w =
-    on-bool (begins fuel w .gone .running) (λ running. fewer-after fuel (begins fuel w) _ _ (turns (begins fuel w) running) (begins-left fuel w) (fueled fuel w running))
+fewer-than : (fuel : ℕ) (w : World) → length (w .pool) < 2 ^ 64 → turns-left (turn (begins fuel w)) < fuel * 2 + 1
+fewer-than fuel w fits =
+    on-bool (begins fuel w .gone .running) (λ running. fewer-after fuel (begins fuel w) _ _ (turns (begins fuel w) running (begins-seen fuel w fits running)) (begins-left fuel w) (fueled fuel w running))
     (λ stopped. subst (λ (h : Going). turns-left h < fuel * 2 + 1) (sym (stays-put (begins fuel w) stopped (begins-none-saved fuel w stopped))) (fewer-at-rest fuel (begins fuel w) stopped (begins-left fuel w)))
 
-pub fewer : (g : Going) → g .gone .running ≡ true → turns-left (goes-on g) < turns-left g
+pub fewer : (g : Going) → length (g .pool) < 2 ^ 64 → g .gone .running ≡ true → turns-left (goes-on g) < turns-left g
 unfolding goes-on
-fewer g running =
+fewer g fits running =
     let one : _≡_ {A = ℕ} (cond (g .gone .running) 1 0) 1 = ap (λ (b : Bool). cond {A = ℕ} b 1 0) running in
-    let less = fewer-than (g .gone .left) (world-of g) in
+    let less = fewer-than (g .gone .left) (world-of g) fits in
     omega (arith, one, less)

@@ -23,7 +23,7 @@ use Rattle.tasks.specs.Changes.{keep, restate, tasked, applied}
 use Rattle.tasks.specs.declared.Tasked.{Tasked}
 use Rattle.tasks.specs.Fields.{if-found, owner-popped, owner, field-popped, field-of, get-field, get-found, op-t-get-field, state-answered, set-state, set-field, set-popped, set-found, op-t-set-field}
 use Rattle.tasks.specs.declared.FieldResult.the-variants.{Field}
-use Rattle.bytecode.specs.Opcodes.{T-GET-FIELD, T-SET-FIELD}
+use Rattle.bytecode.specs.Opcodes.{T-GET-FIELD, T-SET-FIELD, CALL, END-CALL}
 use Rattle.core.specs.declared.Machine.{Machine}
 use Rattle.calls.specs.Machines.{registers-of}
 use Rattle.calls.specs.Frames.{placed}
@@ -31,11 +31,10 @@ use Rattle.calls.specs.Act.{OnAll, on-all, acted, went-by, tasked-by, after-mem
 use Rattle.calls.specs.Turns.{turned}
 use Rattle.calls.specs.declared.Gone.{Gone}
 use Rattle.calls.specs.declared.Went.the-variants.{Onto}
-use Rattle.runs.specs.Going.{Acting, acting, act-turn}
+use Rattle.runs.specs.Going.{Acting, acting, after-act, task-turn, slot-at, state-turn, act-turn}
 use Rattle.runs.specs.States.{names-state, whole, went-on, got, gets, sets-to, set-third, sets, stated, restated}
 use Rattle.runs.specs.declared.Stated.{Stated}
-use Rattle.runs.proofs.Leaving.{place, inside, next-is, acts-bare}
-use Rattle.runs.proofs.Turns.{act-turns}
+use Rattle.runs.proofs.Leaving.{place, inside, next-is, acts-bare, returns-turn, calls-turn, at-end-call, at-call, at-other}
 use Rattle.runs.proofs.Settled.{on-bool}
 
 never : {A : Type 0} → false ≡ true → A
@@ -172,12 +171,49 @@ module _ (stack memory pool ends : List ℕ) (machine : Machine) (task : Task) w
       on-bool (eqb op T-GET-FIELD) (λ get. gets-answered op fits at get)
       (λ get. on-bool (eqb op T-SET-FIELD) (λ set. sets-answered op fits at get set) (λ set. not-done (simp (get, set))))
 
--- ---- what the calls of the carrier answer, put together
+-- ---- a turn
 
 -- a state set is the change made
 restates : (table : List Task) (slot : ℕ) (task : Task) (s : Stated) → restated table slot s ≡ applied table slot (cond (s .states) (restate task (s .state)) (keep task))
 unfolding restated applied
 restates table slot task s = on-bool (s .states) (λ yes. simp (yes)) (λ no. simp (no))
+
+-- without the rest of the record, or with it, it is the turn on the whole one
+module _ (table : List Task) (stack memory pool ends : List ℕ) (gone : Gone) (slot : ℕ) where
+  abbrev record-of : Task
+  record-of = getD table slot blank
+
+  not-stated : state-turn table memory pool ends gone slot (after (whole (gone .machine)) stack) ≡ task-turn table stack memory pool ends gone slot
+  unfolding state-turn
+  not-stated = refl
+
+  is-stated : (s : Stated) (stack′ : List ℕ) → s .whole ≡ false → act stack memory pool ends (gone .machine) record-of ≡ leaves stack memory pool ends (gone .machine) record-of (after s stack′)
+      → state-turn table memory pool ends gone slot (after s stack′) ≡ task-turn table stack memory pool ends gone slot
+  unfolding state-turn task-turn
+  is-stated s stack′ small acts =
+      let done : cond (s .whole) (task-turn table stack′ memory pool ends gone slot) (acting (turned (gone .machine) (gone .left) (s .went)) (restated table slot s) stack′ memory pool ends)
+      ≡ acting (turned (gone .machine) (gone .left) (s .went)) (restated table slot s) stack′ memory pool ends = simp (small) in
+      done ∙ ap (λ (t : List Task). acting (turned (gone .machine) (gone .left) (s .went)) t stack′ memory pool ends) (restates table slot record-of s)
+      ∙ sym (ap (after-act gone slot table) acts)
+
+  turns-by-answer : (op : ℕ) → Answered stack memory pool ends (gone .machine) record-of op → state-turn table memory pool ends gone slot (stated stack (gone .machine) op record-of) ≡ task-turn table stack memory pool ends gone slot
+  turns-by-answer op (not-done e) = ap (state-turn table memory pool ends gone slot) e ∙ not-stated
+  turns-by-answer op (done {s} {stack′} e small acts) = ap (state-turn table memory pool ends gone slot) e ∙ is-stated s stack′ small acts
+
+  pub states-turn : length pool < 2 ^ 64 → op-at pool ends (gone .machine) ≡ gone .op → state-turn table memory pool ends gone slot (stated stack (gone .machine) (gone .op) record-of) ≡ task-turn table stack memory pool ends gone slot
+  states-turn fits at = turns-by-answer (gone .op) (answered stack memory pool ends (gone .machine) record-of (gone .op) fits at)
+
+-- ---- an instruction by its opcode is the one on the whole record, if its opcode is the one at hand
+
+module _ (table : List Task) (stack memory pool ends : List ℕ) (gone : Gone) (fits : length pool < 2 ^ 64) (at : op-at pool ends (gone .machine) ≡ gone .op) where
+  pub acts-whole-record : act-turn table stack memory pool ends gone ≡ task-turn table stack memory pool ends gone (slot-at stack gone)
+  acts-whole-record =
+      on-bool (eqb (gone .op) END-CALL)
+      (λ is. at-end-call table stack memory pool ends gone is ∙ returns-turn table stack memory pool ends gone fits (slot-at stack gone) (at ∙ eqb-true (gone .op) END-CALL is))
+      (λ not. on-bool (eqb (gone .op) CALL) (λ is. at-call table stack memory pool ends gone not is ∙ calls-turn table stack memory pool ends gone fits (at ∙ eqb-true (gone .op) CALL is))
+      (λ none. at-other table stack memory pool ends gone not none ∙ states-turn table stack memory pool ends gone (slot-at stack gone) fits at))
+
+-- ---- what the calls of the carrier answer, put together
 
 -- set, or not
 pub sets-state : (table : List Task) (slot : ℕ) (s : Stated) {answer : StateResult} {table′ : List Task} → s .states ≡ true → after answer table′ ≡ set-state-at table slot (s .state) → table′ ≡ restated table slot s
@@ -187,32 +223,3 @@ sets-state table slot s sets e = ap (λ (a : After StateResult (List Task)). a .
 pub sets-none : (table : List Task) (slot : ℕ) (s : Stated) → s .states ≡ false → table ≡ restated table slot s
 unfolding restated
 sets-none table slot s none = sym (simp (none))
-
-module _ (table : List Task) (stack memory pool ends : List ℕ) (gone : Gone) (fits : length pool < 2 ^ 64) {op : ℕ} {pool′ ends′ : List ℕ}
-    (seen : after (after op pool′) ends′ ≡ after (after (op-at pool ends (gone .machine)) pool) ends)
-    {task : Task} {table′ : List Task} (read : after task table′ ≡ after (getD table (gone .slot) blank) table)
-    {s : Stated} {stack′ : List ℕ} (did : after s stack′ ≡ stated stack (gone .machine) op task) where
-  abbrev at-hand : Answered stack memory pool ends (gone .machine) task op
-  at-hand = answered stack memory pool ends (gone .machine) task op fits (sym (ap (λ (a : After (After ℕ (List ℕ)) (List ℕ)). a .answer .answer) seen))
-
-  -- without the rest of the record
-  by-answer : Answered stack memory pool ends (gone .machine) task op → s .whole ≡ false → act stack memory pool ends (gone .machine) task ≡ leaves stack memory pool ends (gone .machine) task (after s stack′)
-  by-answer (not-done e) small = never (sym small ∙ ap (λ (a : After Stated (List ℕ)). a .answer .whole) (did ∙ e))
-  by-answer (done e is-small acts) small = acts ∙ ap (leaves stack memory pool ends (gone .machine) task) (sym (did ∙ e))
-
-  pub act-states : {table″ : List Task} {r : Gone} → s .whole ≡ false → table″ ≡ restated table′ (gone .slot) s → r ≡ turned (gone .machine) (gone .left) (s .went)
-      → acting r table″ stack′ memory pool′ ends′ ≡ act-turn table stack memory pool ends gone
-  act-states {table″} {r} small made went =
-      ap (λ (a : After (After ℕ (List ℕ)) (List ℕ)). acting r table″ stack′ memory (a .answer .lent) (a .lent)) seen
-      ∙ act-turns table stack memory pool ends gone read (sym (by-answer at-hand small)) (made ∙ restates table′ (gone .slot) task s) went
-
-  -- with the whole one, the stack as it was
-  kept : Answered stack memory pool ends (gone .machine) task op → s .whole ≡ true → stack′ ≡ stack
-  kept (not-done e) all = ap (λ (a : After Stated (List ℕ)). a .lent) (did ∙ e)
-  kept (done e is-small acts) all = never (sym is-small ∙ sym (ap (λ (a : After Stated (List ℕ)). a .answer .whole) (did ∙ e)) ∙ all)
-
-  pub act-whole : {after-it : Acting} → s .whole ≡ true → after-it ≡ act-turn table′ stack′ memory pool′ ends′ gone → after-it ≡ act-turn table stack memory pool ends gone
-  act-whole all made =
-      made ∙ ap (λ (a : After Task (List Task)). act-turn (a .lent) stack′ memory pool′ ends′ gone) read
-      ∙ ap (λ (st : List ℕ). act-turn table st memory pool′ ends′ gone) (kept at-hand all)
-      ∙ ap (λ (a : After (After ℕ (List ℕ)) (List ℕ)). act-turn table stack memory (a .answer .lent) (a .lent) gone) seen

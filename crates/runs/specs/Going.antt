@@ -1,20 +1,23 @@
 -- A machine on its way, and everything lent to it.
-use Prim.Native.Nat.{ℕ, _+_, _%_, _^_}
+use Prim.Native.Nat.{ℕ}
 use mathlib.Core.Bool.{cond}
 use mathlib.Core.List.{List}
+use lib.Dec.{eqb}
 use lib.ListN.{getD}
+use Rattle.bytecode.specs.Opcodes.{CALL, END-CALL, S-SAVE}
 use Rattle.storage.specs.declared.Task.{Task}
-use Rattle.storage.specs.Tasks.{blank}
+use Rattle.storage.specs.Tasks.{After, blank}
 use Rattle.tasks.specs.Changes.{applied}
 use Rattle.image.specs.Table.{SavedTable, save-table}
-use Rattle.core.specs.declared.Machine.{Machine}
-use Rattle.calls.specs.Machines.{current}
 use Rattle.calls.specs.Frames.{op-call, op-end-call}
 use Rattle.calls.specs.Act.{OnAll, act}
-use Rattle.calls.specs.Advance.{GoneOn, advance}
+use Rattle.calls.specs.Advance.{GoneOn, wanted, advance}
 use Rattle.calls.specs.Turns.{turned, saved}
 use Rattle.calls.specs.declared.Gone.{Gone}
+use Rattle.runs.specs.declared.Stated.{Stated}
 use Rattle.runs.specs.World.{World, world}
+use Rattle.runs.specs.Behind.{next-of}
+use Rattle.runs.specs.States.{stated, restated}
 
 -- the machine, then what is lent, in the order of each call
 pub record Going : Type 0 where
@@ -45,18 +48,18 @@ pub record Acting : Type 0 where
 abbrev pub acting : Gone → List Task → List ℕ → List ℕ → List ℕ → List ℕ → Acting
 acting gone table stack memory pool ends = record { gone = gone; table = table; stack = stack; memory = memory; pool = pool; ends = ends }
 
-abbrev pub after-act : Gone → List Task → OnAll → Acting
-after-act gone table after =
-    acting (turned (gone .machine) (gone .left) (after .acted .went)) (applied table (gone .slot) (after .acted .change)) (after .stack) (after .memory) (after .pool) (after .ends)
+abbrev pub after-act : Gone → ℕ → List Task → OnAll → Acting
+after-act gone slot table after =
+    acting (turned (gone .machine) (gone .left) (after .acted .went)) (applied table slot (after .acted .change)) (after .stack) (after .memory) (after .pool) (after .ends)
 
-unfoldable pub act-turn : List Task → List ℕ → List ℕ → List ℕ → List ℕ → Gone → Acting
-act-turn table stack memory pool ends gone = after-act gone table (act stack memory pool ends (gone .machine) (getD table (gone .slot) blank))
+unfoldable pub task-turn : List Task → List ℕ → List ℕ → List ℕ → List ℕ → Gone → ℕ → Acting
+task-turn table stack memory pool ends gone slot = after-act gone slot table (act stack memory pool ends (gone .machine) (getD table slot blank))
+
+-- the slot that the instruction at hand names
+abbrev pub slot-at : List ℕ → Gone → ℕ
+slot-at stack gone = wanted stack (gone .machine) (gone .op)
 
 -- ---- CALL and END_CALL, which change no slot
-
--- the place behind an instruction without operands
-unfoldable pub next-of : Machine → ℕ
-next-of machine = (current (machine .frames) .place + 1) % 2 ^ 64
 
 -- after END_CALL
 unfoldable pub returned : Gone → Gone
@@ -77,7 +80,24 @@ abbrev pub entering : Gone → List Task → List ℕ → List ℕ → Entering
 entering gone table stack ends = record { gone = gone; table = table; stack = stack; ends = ends }
 
 unfoldable pub call-turn : List Task → List ℕ → List ℕ → Gone → Entering
-call-turn table stack ends gone = entering (called stack ends gone (getD table (gone .slot) blank)) table stack ends
+call-turn table stack ends gone = entering (called stack ends gone (getD table (slot-at stack gone) blank)) table stack ends
+
+abbrev pub from-entering : Entering → List ℕ → List ℕ → Acting
+from-entering e memory pool = acting (e .gone) (e .table) (e .stack) memory pool (e .ends)
+
+-- ---- an instruction by its opcode
+
+-- on a state without the rest of a record, or on the whole one
+unfoldable pub state-turn : List Task → List ℕ → List ℕ → List ℕ → Gone → ℕ → After Stated (List ℕ) → Acting
+state-turn table memory pool ends gone slot a =
+    cond (a .answer .whole) (task-turn table (a .lent) memory pool ends gone slot)
+    (acting (turned (gone .machine) (gone .left) (a .answer .went)) (restated table slot (a .answer)) (a .lent) memory pool ends)
+
+unfoldable pub act-turn : List Task → List ℕ → List ℕ → List ℕ → List ℕ → Gone → Acting
+act-turn table stack memory pool ends gone =
+    cond (eqb (gone .op) END-CALL) (acting (returned gone) table stack memory pool ends)
+    (cond (eqb (gone .op) CALL) (from-entering (call-turn table stack ends gone) memory pool)
+    (state-turn table memory pool ends gone (slot-at stack gone) (stated stack (gone .machine) (gone .op) (getD table (slot-at stack gone) blank))))
 
 -- ---- S_SAVE
 
@@ -110,7 +130,7 @@ from-saving s stack memory = going (s .gone) (s .table) stack memory (s .pool) (
 -- the instruction at hand; a machine at its outcome stays as it is
 unfoldable pub turn : Going → Going
 turn g =
-    cond (g .gone .saves) (from-saving (save-turn (g .table) (g .pool) (g .ends) (g .save) (g .gone)) (g .stack) (g .memory))
+    cond (eqb (g .gone .op) S-SAVE) (from-saving (save-turn (g .table) (g .pool) (g .ends) (g .save) (g .gone)) (g .stack) (g .memory))
     (cond (g .gone .running) (from-acting (act-turn (g .table) (g .stack) (g .memory) (g .pool) (g .ends) (g .gone)) (g .save)) g)
 
 -- the run of the current code, with the table and the save buffer beside it

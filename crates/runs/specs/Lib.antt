@@ -1,5 +1,6 @@
 pub mod World
 pub mod Step
 pub mod Run
-pub mod Going
+pub mod Behind
 pub mod States
+pub mod Going

@@ -13,7 +13,7 @@ use Rattle.core.specs.declared.Machine.{Machine}
 use Rattle.calls.specs.Frames.{placed}
 use Rattle.calls.specs.declared.Went.{Went}
 use Rattle.calls.specs.declared.Went.the-variants.{Onto}
-use Rattle.runs.specs.Going.{next-of}
+use Rattle.runs.specs.Behind.{next-of}
 use Rattle.runs.specs.declared.Stated.{Stated}
 
 -- the field on top is that of a state, with a value below it, and the task is there

@@ -1,15 +1,13 @@
 // What an instruction that needs a task, a frame or the pool makes of a machine on its way: one unit of fuel less, or a refusal.
 ghost use mathlib.Core.Path.{_≡_};
 ghost use Rattle.storage.specs.Tasks.{after};
-ghost use Rattle.calls.specs.Act.{op-at};
 ghost use Rattle.calls.specs.Turns.{begun, spent, turned, saved, ran};
-ghost use Rattle.runs.specs.Going.{next-of, returned, called};
+ghost use Rattle.runs.specs.Behind.{next-of};
+ghost use Rattle.runs.specs.Going.{returned, called};
 use calls::Gone;
 use calls::Outcome;
 use calls::Ran;
 use calls::Went;
-use calls::machines::byte_at;
-use calls::machines::code_of;
 use calls::machines::current;
 use calls::machines::registers_of;
 use calls::machines::settled;
@@ -26,8 +24,7 @@ pub(crate) fn begun(machine: Machine, fuel: u64) -> Gone
         machine,
         left: fuel,
         running: true,
-        saves: false,
-        slot: 0,
+        op: 0,
         outcome: Outcome::Paused,
     }
 }
@@ -51,27 +48,17 @@ pub(crate) fn turned(machine: Machine, left: u64, went: Went) -> Gone
             machine: after,
             left: spent(left),
             running: true,
-            saves: false,
-            slot: 0,
+            op: 0,
             outcome: Outcome::Paused,
         },
         Went::Refused(refusal) => Gone {
             machine,
             left,
             running: false,
-            saves: false,
-            slot: 0,
+            op: 0,
             outcome: Outcome::Refused(refusal),
         },
     }
-}
-
-// The opcode at hand; 0 past the code's end.
-pub(crate) fn op_at(pool: &mut [u8], ends: &mut [u32; 1024], machine: Machine) -> u8
-    ensures { λ r. ⌜ after (after r (now (pool .exit))) (now (ends .exit)) ≡ after (after (op-at (now (pool .entry)) (now (ends .entry)) machine) (now (pool .entry))) (now (ends .entry)) ⌝ }
-{
-    let frame = current(machine.frames);
-    byte_at(code_of(pool, ends, machine), frame.place)
 }
 
 // The place behind an instruction without operands.

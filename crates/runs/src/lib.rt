@@ -1,17 +1,19 @@
 // The run of a machine over everything lent to it: the functions that carry the lent table of tasks from instruction to instruction.
 mod gone;
 mod states;
+mod wanted;
 
 ghost use mathlib.Core.Path.{_≡_};
 ghost use Rattle.tasks.specs.Changes.{applied};
 ghost use Rattle.runs.specs.World.{world};
-ghost use Rattle.runs.specs.Going.{going, acting, act-turn, entering, call-turn, saving, save-turn, turn};
+ghost use Rattle.runs.specs.Going.{going, acting, task-turn, act-turn, entering, call-turn, saving, save-turn, turn};
 ghost use Rattle.runs.specs.Run.{ran-to, run};
 ghost use Rattle.runs.specs.States.{restated};
 use act::act;
 use advance::advance;
 use bytecode::opcodes::CALL;
 use bytecode::opcodes::END_CALL;
+use bytecode::opcodes::S_SAVE;
 use calls::Gone;
 use calls::Ran;
 use calls::Went;
@@ -49,12 +51,13 @@ fn task_turn(
     pool: &mut [u8],
     ends: &mut [u32; 1024],
     gone: Gone,
+    slot: usize,
 ) -> Gone
-    ensures { λ r. ⌜ acting r (now (table .exit)) (now (stack .exit)) (now (memory .exit)) (now (pool .exit)) (now (ends .exit)) ≡ act-turn (now (table .entry)) (now (stack .entry)) (now (memory .entry)) (now (pool .entry)) (now (ends .entry)) gone ⌝ }
+    ensures { λ r. ⌜ acting r (now (table .exit)) (now (stack .exit)) (now (memory .exit)) (now (pool .exit)) (now (ends .exit)) ≡ task-turn (now (table .entry)) (now (stack .entry)) (now (memory .entry)) (now (pool .entry)) (now (ends .entry)) gone slot ⌝ }
 {
-    let task = table::get(table, gone.slot);
+    let task = table::get(table, slot);
     let acted = act(stack, memory, pool, ends, gone.machine, task);
-    apply(table, gone.slot, acted.change);
+    apply(table, slot, acted.change);
     crate::gone::turned(gone.machine, gone.left, acted.went)
 }
 
@@ -77,7 +80,8 @@ fn call_turn(
 ) -> Gone
     ensures { λ r. ⌜ entering r (now (table .exit)) (now (stack .exit)) (now (ends .exit)) ≡ call-turn (now (table .entry)) (now (stack .entry)) (now (ends .entry)) gone ⌝ }
 {
-    let task = table::get(table, gone.slot);
+    let slot = crate::wanted::slot_of(stack, gone);
+    let task = table::get(table, slot);
     crate::gone::called(stack, ends, gone, task)
 }
 
@@ -92,19 +96,20 @@ fn act_turn(
 ) -> Gone
     ensures { λ r. ⌜ acting r (now (table .exit)) (now (stack .exit)) (now (memory .exit)) (now (pool .exit)) (now (ends .exit)) ≡ act-turn (now (table .entry)) (now (stack .entry)) (now (memory .entry)) (now (pool .entry)) (now (ends .entry)) gone ⌝ }
 {
-    let op = crate::gone::op_at(pool, ends, gone.machine);
+    let op = gone.op;
     if op == END_CALL {
         return crate::gone::returned(gone);
     }
     if op == CALL {
         return call_turn(table, stack, ends, gone);
     }
-    let task = table::get(table, gone.slot);
+    let slot = crate::wanted::slot_of(stack, gone);
+    let task = table::get(table, slot);
     let stated = crate::states::stated(stack, gone.machine, op, task);
     if stated.whole {
-        return task_turn(table, stack, memory, pool, ends, gone);
+        return task_turn(table, stack, memory, pool, ends, gone, slot);
     }
-    restate(table, gone.slot, stated);
+    restate(table, slot, stated);
     crate::gone::turned(gone.machine, gone.left, stated.went)
 }
 
@@ -141,7 +146,7 @@ fn turn(
 ) -> Gone
     ensures { λ r. ⌜ going r (now (table .exit)) (now (stack .exit)) (now (memory .exit)) (now (pool .exit)) (now (ends .exit)) (now (save .exit)) ≡ turn (going gone (now (table .entry)) (now (stack .entry)) (now (memory .entry)) (now (pool .entry)) (now (ends .entry)) (now (save .entry))) ⌝ }
 {
-    if gone.saves {
+    if gone.op == S_SAVE {
         return save_turn(table, pool, ends, save, gone);
     }
     if gone.running {

@@ -25,12 +25,12 @@ use Rattle.core.proofs.steps.steps.Reads as steps-reads
 -- what the calls answer, put together
 advanced : (stack memory pool ends : List ℕ) (machine : Machine) (fuel : ℕ) {code : List ℕ} {registers : Registers} {reached : Stepped} {stack′ memory′ : List ℕ} {op : ℕ} {after : Machine} {r : Gone}
     → code ≡ code-of pool ends machine → registers ≡ registers-of machine → stepped reached stack′ memory′ ≡ steps fuel stack memory code registers (machine .count)
-    → op ≡ getD code (reached .registers .place) 0 → after ≡ settled machine (reached .registers) → r ≡ halted-at stack′ after op (reached .left) (reached .halt)
+    → op ≡ getD code (reached .registers .place) 0 → after ≡ settled machine (reached .registers) → r ≡ halted-at after op (reached .left) (reached .halt)
     → gone-on r stack′ memory′ pool ends ≡ advance stack memory pool ends machine fuel
 unfolding advance after-steps
 advanced stack memory pool ends machine fuel {code} {registers} {reached} {stack′} {memory′} {op} {after} {r} of-code of-registers did read put halts =
     (λ j. gone-on (halts j) stack′ memory′ pool ends)
-    ∙ (λ j. gone-on (halted-at stack′ (put j) ((read ∙ ap (λ (c : List ℕ). getD c (reached .registers .place) 0) of-code) j) (reached .left) (reached .halt)) stack′ memory′ pool ends)
+    ∙ (λ j. gone-on (halted-at (put j) ((read ∙ ap (λ (c : List ℕ). getD c (reached .registers .place) 0) of-code) j) (reached .left) (reached .halt)) stack′ memory′ pool ends)
     ∙ ap (after-steps pool ends machine) (did ∙ (λ j. steps fuel stack memory (of-code j) (of-registers j) (machine .count)))
 
 code-of-requires : tie.Need-code-of-requires
@@ -59,7 +59,7 @@ same-length-2 c = search needs
 
 returns : tie.Need-returns
 returns c =
-    advanced _ _ _ _ _ _ (c .before .before .before .before .before .before .before .before .before .before .code-of .ensures) (c .before .before .before .before .before .before .before .registers-of .ensures) (c .before .before .before .before .before .before .steps .ensures) (c .before .before .before .byte-at .ensures) (c .before .before .settled .ensures) (c .halted-at .ensures)
+    advanced _ _ _ _ _ _ (c .before .before .before .before .before .before .before .before .before .code-of .ensures) (c .before .before .before .before .before .before .registers-of .ensures) (c .before .before .before .before .before .steps .ensures) (c .before .before .byte-at .ensures) (c .before .settled .ensures) (c .halted-at .ensures)
 
 pub advance-spec : {M : Type 1} → statement M
 advance-spec =

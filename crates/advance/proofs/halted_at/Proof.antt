@@ -5,7 +5,6 @@ use Rattle.advance.proofs.halted_at.Statement.{statement}
 use Rattle.advance.proofs.halted_at.Tie as tie
 use Rattle.advance.proofs.halted_at.Reads as reads
 use Rattle.advance.proofs.halted_at.Lts as lts
-use Rattle.advance.proofs.wanted.Reads as wanted-reads
 
 enum-told : tie.Need-enum-told
 enum-told c = search needs
@@ -18,9 +17,6 @@ enum-known-halt c = search needs
 
 enum-told-3 : tie.Need-enum-told-3
 enum-told-3 c = search needs
-
-wanted-requires : tie.Need-wanted-requires
-wanted-requires c κs = search needs
 
 returns : tie.Need-returns
 unfolding halted-at
@@ -40,7 +36,7 @@ returns-3 c =
 returns-4 : tie.Need-returns-4
 unfolding halted-at
 returns-4 c =
-    simp (← c .wanted .ensures, c .before .enum-told3 .given .1)
+    simp (c .enum-told3 .given .1)
 
 pub halted-at-spec : {M : Type 1} → statement M
 halted-at-spec =
@@ -50,7 +46,6 @@ halted-at-spec =
     enum-told-2
     enum-known-halt
     enum-told-3
-    wanted-requires
     returns
     returns-2
     returns-3

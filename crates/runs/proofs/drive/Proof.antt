@@ -1,6 +1,6 @@
 -- `runs::drive` meets its contract: a walk of its MIR by hand, with a loop that carries all that is lent from turn to turn.
 use Prim.Native.Nat.{ℕ, _<_, _^_, _-_}
-use mathlib.Core.Path.{_≡_, refl}
+use mathlib.Core.Path.{_≡_, refl, sym, subst}
 use mathlib.Core.Bool.{true, false}
 use mathlib.Core.WellFounded.{InvImage·wf}
 use mathlib.Core.List.{[], _∷_, List}
@@ -220,6 +220,10 @@ module _ {M : Type 1} (𝓤 : URA M) (H : Heap 𝓤) (A : Atoms 𝓤) (W : Given
           freed ! $
           by ! (exits r₁ (s .ts) (s .st) (s .me) (s .po) (s .en) (s .sv) is₁ (s .ts-len) (s .me-len) (s .po-len) (s .sv-len) (ends-run (now-at s) out e₁ (s .so-far))))))
 
+      -- the pool is not too long to count in
+      pool-fits : (s : State n₀ n₂ n₃ n₅ y₀) → length (s .po) < 2 ^ 64
+      pool-fits s = subst (λ (n : ℕ). n < 2 ^ 64) (sym (s .po-len)) (g₃ .0)
+
       -- the instruction that the code comes to
       takes-turn : (s : State n₀ n₂ n₃ n₅ y₀) (r : Gone) (st me po en : List ℕ) → s .g .running ≡ true → Is gone.the-row r (gone-vals r) → length me ≡ n₂ → length po ≡ n₃ → gone-on r st me po en ≡ advance-of (s .st) (s .me) (s .po) (s .en) (s .g .machine) (s .g .left)
           → Sq W (Has (s .ts) st me po en (s .sv) (With r)) (runs C Λ En (past 9 mir.turn-1) (anyQ (Turned s)))
@@ -255,8 +259,8 @@ module _ {M : Type 1} (𝓤 : URA M) (H : Heap 𝓤) (A : Atoms 𝓤) (W : Given
             me-len = f₂ .1 .1 .0;
             po-len = f₂ .1 .1 .1 .0;
             sv-len = f₂ .1 .1 .1 .1 .1 .0;
-            so-far = goes-same (now-at s) (goes-at (now-at s) e e₂) more (s .so-far);
-          }) (goes-fewer (now-at s) (goes-at (now-at s) e e₂) more))))
+            so-far = goes-same (now-at s) (pool-fits s) (goes-at (now-at s) e e₂) more (s .so-far);
+          }) (goes-fewer (now-at s) (pool-fits s) (goes-at (now-at s) e e₂) more))))
 
       -- the current code, and that instruction
       goes : (s : State n₀ n₂ n₃ n₅ y₀) → s .g .running ≡ true → Sq W (At s) (runs C Λ En (past 2 mir.turn-1) (anyQ (Turned s)))

@@ -1,35 +1,43 @@
 -- `core::execute::numbered` meets its contract.
-use borrow.Author.Tests.{eq-eqb, ne-eqb}
-use Rattle.core.specs.Kinds.{numbered}
 use borrow.Author.Needs.{needs}
 use Rattle.core.proofs.execute.numbered.Statement.{statement}
+use Rattle.core.specs.Operated.{with-operand}
+use Rattle.core.specs.Kinds.{numbered}
 use Rattle.core.proofs.execute.numbered.Tie as tie
 
-push-u32-requires : tie.Need-push-u32-requires
-push-u32-requires c κs = search needs
+add-prepare-u32-from-be-checked : tie.Need-add-prepare-u32-from-be-checked
+add-prepare-u32-from-be-checked c = search needs
+
+prepare-u32-from-be-checked-requires : tie.Need-prepare-u32-from-be-checked-requires
+prepare-u32-from-be-checked-requires c κs = search needs
+
+enum-known-refusal : tie.Need-enum-known-refusal
+enum-known-refusal c = search needs
+
+enum-known-number : tie.Need-enum-known-number
+enum-known-number c = search needs
+
+with-number-requires : tie.Need-with-number-requires
+with-number-requires c κs = search needs
 
 returns : tie.Need-returns
-unfolding numbered
+unfolding numbered with-operand
 returns c =
-    simp (← c .push-u32 .ensures, eq-eqb _ _ (c .before .before .if1 .taken))
-
-muli-requires : tie.Need-muli-requires
-muli-requires c κs = search needs
+    simp (c .before .refusal .given .1, ← c .before .before .before .prepare-u32-from-be-checked .ensures)
 
 returns-2 : tie.Need-returns-2
-unfolding numbered
+unfolding numbered with-operand
 returns-2 c =
-    simp (← c .muli .ensures, eq-eqb _ _ (c .before .before .if2 .taken), ne-eqb _ _ (c .before .before .before .if1 .left))
-
-jump-if-false-requires : tie.Need-jump-if-false-requires
-jump-if-false-requires c κs = search needs
-
-returns-3 : tie.Need-returns-3
-unfolding numbered
-returns-3 c =
-    simp (← c .jump-if-false .ensures, ne-eqb _ _ (c .before .before .if2 .left), ne-eqb _ _ (c .before .before .before .if1 .left))
+    simp (← c .with-number .ensures, c .before .before .before .number .given .1, ← c .before .before .before .before .before .prepare-u32-from-be-checked .ensures)
 
 pub numbered-spec : {M : Type 1} → statement M
 numbered-spec =
     tie.close
-    (tie.spec push-u32-requires returns muli-requires returns-2 jump-if-false-requires returns-3)
+    (tie.spec
+    add-prepare-u32-from-be-checked
+    prepare-u32-from-be-checked-requires
+    enum-known-refusal
+    enum-known-number
+    with-number-requires
+    returns
+    returns-2)

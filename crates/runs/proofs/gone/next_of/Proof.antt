@@ -1,6 +1,6 @@
 -- `runs::gone::next_of` meets its contract.
 use borrow.Author.Needs.{needs}
-use Rattle.runs.specs.Going.{next-of}
+use Rattle.runs.specs.Behind.{next-of}
 use Rattle.runs.proofs.gone.next_of.Statement.{statement}
 use Rattle.runs.proofs.gone.next_of.Tie as tie
 use Rattle.runs.proofs.gone.next_of.Reads as reads

@@ -1,10 +1,10 @@
--- `advance::named` meets its contract.
+-- `runs::wanted::named` meets its contract.
 use Rattle.calls.specs.Advance.{named, named-by}
 use borrow.Author.Needs.{needs}
-use Rattle.advance.proofs.named.Statement.{statement}
-use Rattle.advance.proofs.named.Tie as tie
-use Rattle.advance.proofs.named.Reads as reads
-use Rattle.advance.proofs.named.Lts as lts
+use Rattle.runs.proofs.wanted.named.Statement.{statement}
+use Rattle.runs.proofs.wanted.named.Tie as tie
+use Rattle.runs.proofs.wanted.named.Reads as reads
+use Rattle.runs.proofs.wanted.named.Lts as lts
 use Rattle.inlinevec.proofs.pop.Reads as pop-reads
 use Rattle.values.proofs.to_u32.Reads as to-u32-reads
 

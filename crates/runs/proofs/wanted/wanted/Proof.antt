@@ -1,12 +1,12 @@
--- `advance::wanted` meets its contract.
+-- `runs::wanted::wanted` meets its contract.
 use borrow.Author.Tests.{eq-eqb, ne-eqb}
 use Rattle.calls.specs.Advance.{wanted}
 use borrow.Author.Needs.{needs}
-use Rattle.advance.proofs.wanted.Statement.{statement}
-use Rattle.advance.proofs.wanted.Tie as tie
-use Rattle.advance.proofs.wanted.Reads as reads
-use Rattle.advance.proofs.wanted.Lts as lts
-use Rattle.advance.proofs.named.Reads as named-reads
+use Rattle.runs.proofs.wanted.wanted.Statement.{statement}
+use Rattle.runs.proofs.wanted.wanted.Tie as tie
+use Rattle.runs.proofs.wanted.wanted.Reads as reads
+use Rattle.runs.proofs.wanted.wanted.Lts as lts
+use Rattle.runs.proofs.wanted.named.Reads as named-reads
 
 cast-result : tie.Need-cast-result
 cast-result c = search needs
