@@ -44,7 +44,7 @@ pub zeros-pool : replicate 65536 0 ≡ new-pool
 unfolding new-pool
 zeros-pool = refl
 
-pub zeros-lines : replicate 65536 0 ≡ new-lines
+pub zeros-lines : replicate 36864 0 ≡ new-lines
 unfolding new-lines
 zeros-lines = refl
 

@@ -17,7 +17,7 @@ unfoldable pub new-pool : List ℕ
 new-pool = replicate 65536 0
 
 unfoldable pub new-lines : List ℕ
-new-lines = replicate 65536 0
+new-lines = replicate 36864 0
 
 unfoldable pub new-scratch : List ℕ
 new-scratch = replicate 196608 0

@@ -32,11 +32,11 @@ fn new_pool() -> [u8; 65536]
     [0u8; 65536]
 }
 
-// Room for the lines of the tasks.
-fn new_lines() -> [u8; 65536]
+// Room for the lines of the tasks: 256 of at most 142 bytes, behind their count.
+fn new_lines() -> [u8; 36864]
     ensures { λ r. ⌜ r ≡ new-lines ⌝ }
 {
-    [0u8; 65536]
+    [0u8; 36864]
 }
 
 // Room for one line, which is measured there.
