@@ -9,6 +9,7 @@ use lib.Dec.{eqb}
 use lib.ListN.{getD, length, drop, length-take, length-drop, List·getD-eq-default}
 use borrow.Author.Tests.{lt-leb}
 use Rattle.bytecode.specs.Opcodes.{CALL, END-CALL}
+use Rattle.inlinevec.specs.Stacks.{if-some, pop}
 use Rattle.pools.specs.Pool.{entry-of, end-of, start-of}
 use Rattle.storage.specs.declared.Task.{Task}
 use Rattle.storage.specs.Tasks.{blank, After, after}
@@ -17,12 +18,14 @@ use Rattle.core.specs.declared.Machine.{Machine}
 use Rattle.calls.specs.Machines.{current, code-of}
 use Rattle.calls.specs.Frames.{op-call, op-end-call}
 use Rattle.calls.specs.Act.{on-frames, op-at, act-by, act-at, act, bare}
+use Rattle.calls.specs.Advance.{named-by, named, wanted}
 use Rattle.calls.specs.Turns.{turned}
 use Rattle.calls.specs.declared.Gone.{Gone}
 use Rattle.calls.specs.declared.Went.{Went}
 use Rattle.act.proofs.Extents.{bare-extent}
+use Rattle.runs.proofs.Settled.{on-bool}
 use Rattle.runs.specs.Behind.{next-of}
-use Rattle.runs.specs.Going.{Acting, acting, after-act, task-turn, slot-at, returned, called, Entering, entering, call-turn, from-entering, state-turn, act-turn}
+use Rattle.runs.specs.Going.{Acting, acting, after-act, task-turn, slot-at, returned, called, slot-of-call, Entering, entering, call-turn, from-entering, state-turn, act-turn}
 use Rattle.runs.specs.States.{stated}
 
 module _ (pool ends : List ℕ) (machine : Machine) where
@@ -60,23 +63,29 @@ module _ (stack memory pool ends : List ℕ) (machine : Machine) (task : Task) w
       let here = inside pool ends machine op at some in
       simp (lt-leb _ _ here, bare-extent (code-of pool ends machine) (place pool ends machine) here (subst (λ (o : ℕ). bare o ≡ true) (sym at) alone), at)
 
+-- CALL names the slot of the value on top, past the last one where there is none
+names-top : (stack : List ℕ) (gone : Gone) → gone .op ≡ CALL → slot-at stack gone ≡ slot-of-call stack gone
+unfolding wanted named named-by pop if-some
+names-top stack gone is = on-bool (eqb (gone .machine .height) 0) (λ none. simp (is, none)) (λ some. simp (is, some))
+
 module _ (table : List Task) (stack memory pool ends : List ℕ) (gone : Gone) (fits : length pool < 2 ^ 64) where
   -- the same turn, its answer and its next place given
   abbrev with-next : (ℕ → Went) → ℕ → Acting
   with-next went next = acting (turned (gone .machine) (gone .left) (went next)) table stack memory pool ends
 
   -- END_CALL
-  pub returns-turn : (slot : ℕ) → op-at pool ends (gone .machine) ≡ END-CALL → acting (returned gone) table stack memory pool ends ≡ task-turn table stack memory pool ends gone slot
+  pub returns-turn : op-at pool ends (gone .machine) ≡ END-CALL → acting (returned gone) table stack memory pool ends ≡ task-turn table stack memory pool ends gone
   unfolding task-turn returned on-frames applied bare
-  returns-turn slot at =
+  returns-turn at =
       ap (with-next (op-end-call (gone .machine))) (next-is pool ends (gone .machine) fits (inside pool ends (gone .machine) END-CALL at (λ none. omega arith)))
-      ∙ sym (ap (after-act gone slot table) (acts-bare stack memory pool ends (gone .machine) (getD table slot blank) END-CALL at (λ none. omega arith) refl))
+      ∙ sym (ap (after-act gone (slot-at stack gone) table) (acts-bare stack memory pool ends (gone .machine) (getD table (slot-at stack gone) blank) END-CALL at (λ none. omega arith) refl))
 
   -- CALL
-  pub calls-turn : op-at pool ends (gone .machine) ≡ CALL → from-entering (call-turn table stack ends gone) memory pool ≡ task-turn table stack memory pool ends gone (slot-at stack gone)
+  pub calls-turn : gone .op ≡ CALL → op-at pool ends (gone .machine) ≡ CALL → from-entering (call-turn table stack ends gone) memory pool ≡ task-turn table stack memory pool ends gone
   unfolding task-turn call-turn called on-frames applied bare
-  calls-turn at =
-      ap (with-next (λ (next : ℕ). op-call stack ends (gone .machine) next (getD table (slot-at stack gone) blank))) (next-is pool ends (gone .machine) fits (inside pool ends (gone .machine) CALL at (λ none. omega arith)))
+  calls-turn is at =
+      ap (λ (slot : ℕ). acting (called stack ends gone (getD table slot blank)) table stack memory pool ends) (sym (names-top stack gone is))
+      ∙ ap (with-next (λ (next : ℕ). op-call stack ends (gone .machine) next (getD table (slot-at stack gone) blank))) (next-is pool ends (gone .machine) fits (inside pool ends (gone .machine) CALL at (λ none. omega arith)))
       ∙ sym (ap (after-act gone (slot-at stack gone) table) (acts-bare stack memory pool ends (gone .machine) (getD table (slot-at stack gone) blank) CALL at (λ none. omega arith) refl))
 
 -- ---- an instruction by its opcode
@@ -99,7 +108,7 @@ module _ (table : List Task) (stack memory pool ends : List ℕ) (gone : Gone) w
 
 -- the slot named, its task read, and called
 pub call-turns : (table : List Task) (stack ends : List ℕ) (gone : Gone) {slot : ℕ} {stack′ : List ℕ} {task : Task} {table′ : List Task} {r : Gone} {stack″ ends′ : List ℕ}
-    → after slot stack′ ≡ after (slot-at stack gone) stack → after task table′ ≡ after (getD table slot blank) table
+    → after slot stack′ ≡ after (slot-of-call stack gone) stack → after task table′ ≡ after (getD table slot blank) table
     → after (after r stack″) ends′ ≡ after (after (called stack′ ends gone task) stack′) ends → entering r table′ stack″ ends′ ≡ call-turn table stack ends gone
 unfolding call-turn
 call-turns table stack ends gone {slot} {stack′} {task} {table′} names read went =

@@ -37,7 +37,7 @@ use Rattle.runs.specs.World.{World, world, at-end}
 use Rattle.runs.specs.Step.{Stepped, next, refused, outer, inner, inner-did, acts-went, acts, saves-went, saves, step}
 use Rattle.runs.specs.Run.{End, end-at, follow, run}
 use Rattle.runs.specs.Going.{Going, going, beside, Acting, after-act, task-turn, slot-at, act-turn, after-save, save-turn, from-acting, from-saving, turn, begins, goes-on}
-use Rattle.runs.proofs.Stating.{acts-whole-record}
+use Rattle.runs.proofs.Stating.{acts-on-record}
 use Rattle.runs.proofs.Settled.{on-bool, registers-settled, code-settled, place-settled, settled-twice, settled-same, op-settled, count-settled}
 
 -- the machine with everything lent to it
@@ -257,28 +257,28 @@ saves-turns g _ (has-saved length after) = on _ (g .table) (g .stack) (g .memory
 saves-turns g _ (not-saved refusal) = stays refusal
 
 -- an instruction that saves, or works on the record of the slot that it names
-abbrev whole-turn : Going → ℕ → Going
-whole-turn g slot = from-acting (task-turn (g .table) (g .stack) (g .memory) (g .pool) (g .ends) (g .gone) slot) (g .save)
+abbrev record-turn : Going → Going
+record-turn g = from-acting (task-turn (g .table) (g .stack) (g .memory) (g .pool) (g .ends) (g .gone)) (g .save)
 
 abbrev saving-turn : Going → Going
 saving-turn g = from-saving (save-turn (g .table) (g .pool) (g .ends) (g .save) (g .gone)) (g .stack) (g .memory)
 
-turns-by : (g : Going) (b : Bool) (slot : ℕ) → Turns g (cond b (saving-turn g) (whole-turn g slot)) (outer (world-of g) b slot)
+turns-by : (g : Going) (b : Bool) → Turns g (cond b (saving-turn g) (record-turn g)) (outer (world-of g) b (slot-at (g .stack) (g .gone)))
 unfolding outer saves acts save-turn task-turn
-turns-by g true slot = saves-turns g _ (save-leaves _ (g .table) (g .pool) (g .ends) _ (g .save))
-turns-by g false slot = acts-turns g slot _ (act-leaves (g .stack) (g .memory) (g .pool) (g .ends) (g .gone .machine) _)
+turns-by g true = saves-turns g _ (save-leaves _ (g .table) (g .pool) (g .ends) _ (g .save))
+turns-by g false = acts-turns g (slot-at (g .stack) (g .gone)) _ (act-leaves (g .stack) (g .memory) (g .pool) (g .ends) (g .gone .machine) _)
 
 -- a machine on its way turns
-at-work : (g : Going) → g .gone .running ≡ true → Seen g → turn g ≡ cond (eqb (g .gone .op) S-SAVE) (saving-turn g) (whole-turn g (slot-at (g .stack) (g .gone)))
+at-work : (g : Going) → g .gone .running ≡ true → Seen g → turn g ≡ cond (eqb (g .gone .op) S-SAVE) (saving-turn g) (record-turn g)
 unfolding turn
 at-work g running seen =
     ap (λ (b : Bool). cond (eqb (g .gone .op) S-SAVE) (saving-turn g) (cond b (from-acting (act-turn (g .table) (g .stack) (g .memory) (g .pool) (g .ends) (g .gone)) (g .save)) g)) running
-    ∙ ap (λ (a : Acting). cond (eqb (g .gone .op) S-SAVE) (saving-turn g) (from-acting a (g .save))) (acts-whole-record (g .table) (g .stack) (g .memory) (g .pool) (g .ends) (g .gone) (seen .fits) (seen .at-place))
+    ∙ ap (λ (a : Acting). cond (eqb (g .gone .op) S-SAVE) (saving-turn g) (from-acting a (g .save))) (acts-on-record (g .table) (g .stack) (g .memory) (g .pool) (g .ends) (g .gone) (seen .fits) (seen .at-place))
 
 turns : (g : Going) → g .gone .running ≡ true → Seen g → Turns g (turn g) (outer (world-of g) (eqb (g .gone .op) S-SAVE) (slot-at (g .stack) (g .gone)))
 turns g running seen =
     subst (λ (h : Going). Turns g h (outer (world-of g) (eqb (g .gone .op) S-SAVE) (slot-at (g .stack) (g .gone)))) (sym (at-work g running seen))
-    (turns-by g (eqb (g .gone .op) S-SAVE) (slot-at (g .stack) (g .gone)))
+    (turns-by g (eqb (g .gone .op) S-SAVE))
 
 -- one at its outcome stays
 stays-put : (g : Going) → g .gone .running ≡ false → eqb (g .gone .op) S-SAVE ≡ false → turn g ≡ g

@@ -50,15 +50,16 @@ module _ (table : List Task) (slot : ℕ) (change : Change) where
 
 -- ---- an instruction on the record of the slot it names
 
--- the record read, the instruction done, its change made
-pub task-turns : (table : List Task) (stack memory pool ends : List ℕ) (gone : Gone) (slot : ℕ) {task : Task} {table′ table″ : List Task} {acted : Acted} {stack′ memory′ pool′ ends′ : List ℕ} {r : Gone}
-    → after task table′ ≡ after (getD table slot blank) table → on-all acted stack′ memory′ pool′ ends′ ≡ act stack memory pool ends (gone .machine) task
+-- the slot named, its record read, the instruction done, its change made
+pub task-turns : (table : List Task) (stack memory pool ends : List ℕ) (gone : Gone) {slot : ℕ} {stack′ : List ℕ} {task : Task} {table′ table″ : List Task} {acted : Acted} {stack″ memory′ pool′ ends′ : List ℕ} {r : Gone}
+    → after slot stack′ ≡ after (slot-at stack gone) stack → after task table′ ≡ after (getD table slot blank) table → on-all acted stack″ memory′ pool′ ends′ ≡ act stack′ memory pool ends (gone .machine) task
     → table″ ≡ applied table′ slot (acted .change) → r ≡ turned (gone .machine) (gone .left) (acted .went)
-    → acting r table″ stack′ memory′ pool′ ends′ ≡ task-turn table stack memory pool ends gone slot
+    → acting r table″ stack″ memory′ pool′ ends′ ≡ task-turn table stack memory pool ends gone
 unfolding task-turn
-task-turns table stack memory pool ends gone slot {task} {table′} {table″} {acted} {stack′} {memory′} {pool′} {ends′} read did made went =
-    (λ j. acting (went j) (made j) stack′ memory′ pool′ ends′) ∙ ap (after-act gone slot table′) did
-    ∙ ap (λ (a : After Task (List Task)). after-act gone slot (a .lent) (act stack memory pool ends (gone .machine) (a .answer))) read
+task-turns table stack memory pool ends gone {slot} {stack′} {task} {table′} {table″} {acted} {stack″} {memory′} {pool′} {ends′} names read did made went =
+    (λ j. acting (went j) (made j) stack″ memory′ pool′ ends′) ∙ ap (after-act gone slot table′) did
+    ∙ ap (λ (a : After Task (List Task)). after-act gone slot (a .lent) (act stack′ memory pool ends (gone .machine) (a .answer))) read
+    ∙ ap (λ (a : After ℕ (List ℕ)). after-act gone (a .answer) table (act (a .lent) memory pool ends (gone .machine) (getD table (a .answer) blank))) names
 
 -- ---- an instruction by its opcode
 
@@ -83,10 +84,10 @@ module _ (table : List Task) (stack memory pool ends : List ℕ) (gone : Gone) w
         ∙ sym (at-other table stack memory pool ends gone not-end not-call)
 
     -- with the whole record
-    pub acts-whole : {after-it : Acting} → s .whole ≡ true → after-it ≡ task-turn table′ stack″ memory pool ends gone slot → after-it ≡ act-turn table stack memory pool ends gone
+    pub acts-whole : {after-it : Acting} → s .whole ≡ true → after-it ≡ task-turn table′ stack″ memory pool ends gone → after-it ≡ act-turn table stack memory pool ends gone
     unfolding state-turn
     acts-whole all made =
-        let with-it : state-turn table′ memory pool ends gone slot (after s stack″) ≡ task-turn table′ stack″ memory pool ends gone slot = simp (all) in
+        let with-it : state-turn table′ memory pool ends gone slot (after s stack″) ≡ task-turn table′ stack″ memory pool ends gone = simp (all) in
         made ∙ sym with-it ∙ told
 
     -- without it

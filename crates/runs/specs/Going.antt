@@ -11,7 +11,7 @@ use Rattle.tasks.specs.Changes.{applied}
 use Rattle.image.specs.Table.{SavedTable, save-table}
 use Rattle.calls.specs.Frames.{op-call, op-end-call}
 use Rattle.calls.specs.Act.{OnAll, act}
-use Rattle.calls.specs.Advance.{GoneOn, wanted, advance}
+use Rattle.calls.specs.Advance.{GoneOn, named, wanted, advance}
 use Rattle.calls.specs.Turns.{turned, saved}
 use Rattle.calls.specs.declared.Gone.{Gone}
 use Rattle.runs.specs.declared.Stated.{Stated}
@@ -52,12 +52,13 @@ abbrev pub after-act : Gone → ℕ → List Task → OnAll → Acting
 after-act gone slot table after =
     acting (turned (gone .machine) (gone .left) (after .acted .went)) (applied table slot (after .acted .change)) (after .stack) (after .memory) (after .pool) (after .ends)
 
-unfoldable pub task-turn : List Task → List ℕ → List ℕ → List ℕ → List ℕ → Gone → ℕ → Acting
-task-turn table stack memory pool ends gone slot = after-act gone slot table (act stack memory pool ends (gone .machine) (getD table slot blank))
-
 -- the slot that the instruction at hand names
 abbrev pub slot-at : List ℕ → Gone → ℕ
 slot-at stack gone = wanted stack (gone .machine) (gone .op)
+
+unfoldable pub task-turn : List Task → List ℕ → List ℕ → List ℕ → List ℕ → Gone → Acting
+task-turn table stack memory pool ends gone =
+    after-act gone (slot-at stack gone) table (act stack memory pool ends (gone .machine) (getD table (slot-at stack gone) blank))
 
 -- ---- CALL and END_CALL, which change no slot
 
@@ -68,6 +69,10 @@ returned gone = turned (gone .machine) (gone .left) (op-end-call (gone .machine)
 -- after CALL of a task
 unfoldable pub called : List ℕ → List ℕ → Gone → Task → Gone
 called stack ends gone task = turned (gone .machine) (gone .left) (op-call stack ends (gone .machine) (next-of (gone .machine)) task)
+
+-- the slot that it names
+abbrev pub slot-of-call : List ℕ → Gone → ℕ
+slot-of-call stack gone = named stack (gone .machine .height)
 
 -- without memory, the pool and the save buffer
 pub record Entering : Type 0 where
@@ -80,7 +85,7 @@ abbrev pub entering : Gone → List Task → List ℕ → List ℕ → Entering
 entering gone table stack ends = record { gone = gone; table = table; stack = stack; ends = ends }
 
 unfoldable pub call-turn : List Task → List ℕ → List ℕ → Gone → Entering
-call-turn table stack ends gone = entering (called stack ends gone (getD table (slot-at stack gone) blank)) table stack ends
+call-turn table stack ends gone = entering (called stack ends gone (getD table (slot-of-call stack gone) blank)) table stack ends
 
 abbrev pub from-entering : Entering → List ℕ → List ℕ → Acting
 from-entering e memory pool = acting (e .gone) (e .table) (e .stack) memory pool (e .ends)
@@ -90,7 +95,7 @@ from-entering e memory pool = acting (e .gone) (e .table) (e .stack) memory pool
 -- on a state without the rest of a record, or on the whole one
 unfoldable pub state-turn : List Task → List ℕ → List ℕ → List ℕ → Gone → ℕ → After Stated (List ℕ) → Acting
 state-turn table memory pool ends gone slot a =
-    cond (a .answer .whole) (task-turn table (a .lent) memory pool ends gone slot)
+    cond (a .answer .whole) (task-turn table (a .lent) memory pool ends gone)
     (acting (turned (gone .machine) (gone .left) (a .answer .went)) (restated table slot (a .answer)) (a .lent) memory pool ends)
 
 unfoldable pub act-turn : List Task → List ℕ → List ℕ → List ℕ → List ℕ → Gone → Acting

@@ -51,10 +51,10 @@ fn task_turn(
     pool: &mut [u8],
     ends: &mut [u32; 1024],
     gone: Gone,
-    slot: usize,
 ) -> Gone
-    ensures { λ r. ⌜ acting r (now (table .exit)) (now (stack .exit)) (now (memory .exit)) (now (pool .exit)) (now (ends .exit)) ≡ task-turn (now (table .entry)) (now (stack .entry)) (now (memory .entry)) (now (pool .entry)) (now (ends .entry)) gone slot ⌝ }
+    ensures { λ r. ⌜ acting r (now (table .exit)) (now (stack .exit)) (now (memory .exit)) (now (pool .exit)) (now (ends .exit)) ≡ task-turn (now (table .entry)) (now (stack .entry)) (now (memory .entry)) (now (pool .entry)) (now (ends .entry)) gone ⌝ }
 {
+    let slot = crate::wanted::slot_of(stack, gone);
     let task = table::get(table, slot);
     let acted = act(stack, memory, pool, ends, gone.machine, task);
     apply(table, slot, acted.change);
@@ -80,7 +80,7 @@ fn call_turn(
 ) -> Gone
     ensures { λ r. ⌜ entering r (now (table .exit)) (now (stack .exit)) (now (ends .exit)) ≡ call-turn (now (table .entry)) (now (stack .entry)) (now (ends .entry)) gone ⌝ }
 {
-    let slot = crate::wanted::slot_of(stack, gone);
+    let slot = crate::wanted::slot_of_call(stack, gone);
     let task = table::get(table, slot);
     crate::gone::called(stack, ends, gone, task)
 }
@@ -107,7 +107,7 @@ fn act_turn(
     let task = table::get(table, slot);
     let stated = crate::states::stated(stack, gone.machine, op, task);
     if stated.whole {
-        return task_turn(table, stack, memory, pool, ends, gone, slot);
+        return task_turn(table, stack, memory, pool, ends, gone);
     }
     restate(table, slot, stated);
     crate::gone::turned(gone.machine, gone.left, stated.went)

@@ -39,6 +39,13 @@ fn wanted(stack: &[u64; 1000], machine: Machine, op: u8) -> usize
     named(stack, height)
 }
 
+// The slot that CALL names.
+pub(crate) fn slot_of_call(stack: &mut [u64; 1000], gone: Gone) -> usize
+    ensures { λ r. ⌜ after r (now (stack .exit)) ≡ after (named (now (stack .entry)) (gone .machine .height)) (now (stack .entry)) ⌝ }
+{
+    named(stack, gone.machine.height)
+}
+
 // The slot that the instruction at hand names.
 pub(crate) fn slot_of(stack: &mut [u64; 1000], gone: Gone) -> usize
     ensures { λ r. ⌜ after r (now (stack .exit)) ≡ after (wanted (now (stack .entry)) (gone .machine) (gone .op)) (now (stack .entry)) ⌝ }

@@ -219,10 +219,10 @@ module _ {M : Type 1} (𝓤 : URA M) (H : Heap 𝓤) (A : Atoms 𝓤) (W : Given
           assigns ! (addr ! (from ! (fld ! refl (hop ! (look-in ! 54 (sub ! 0 refl (whole !))) (stop !))))) (from ! (stop !)) (init ! 12 refl (tt, tt)) $
           assigns ! (agg ! (and-then ! (load ! (from ! (stop !)) (look ! 12 refl)) (and-then ! (load ! (from ! (fld ! refl (stop !))) (look-in ! 54 (sub ! 1 refl (whole !)))) (no-more !)))) (from ! (stop !)) (init ! 10 refl (tt, (tt, (record { fits = g₃ .0 }, tt)))) $
           assigns ! (addr ! (from ! (hop ! (look ! 52 refl) (stop !)))) (from ! (stop !)) (init ! 8 refl (tt, tt)) $
-          lent 5 All (tt, (tt, (tt, (tt, (tt, tt))))) (gone.the-row ∷ usize ∷ []) gone.the-row 𝓤 (others.clauses 𝓤 H A at-mem run) (ts, (st′, (x₂, (x₃, (x₄, tt))))) (g, (slot, tt)) (gone-vals g, (vint w64 slot ∷ [], tt)) ! (fmOf 𝓤 H (W .laws) 𝓣) known-others
-          (g₀, (tt, (g₂, (g₃, (tt, tt))))) (m₀, (tt, (refl, (refl, (tt, tt))))) (gone-makes 𝓤 H A g _ g-is, (uint-makes 𝓤 H A W w64 slot _ (refl, fits), tt)) (λ αs δs. tt) (λ αs δs. id⊢ 𝓤 (emp 𝓤))
-          (λ αs δs. (and-then ! (load ! (from ! (stop !)) (look ! 20 refl)) (and-then ! (load ! (from ! (stop !)) (look ! 18 refl)) (and-then ! (load ! (from ! (stop !)) (look ! 14 refl)) (and-then ! (load ! (from ! (stop !)) (look ! 10 refl)) (and-then ! (load ! (from ! (stop !)) (look ! 8 refl)) (and-then ! (load ! (from ! (stop !)) (look ! 50 refl)) (and-then ! (load ! (from ! (stop !)) (look ! 46 refl)) (no-more !)))))))))
-          (λ αs δs w₁ r₁ z₁ f₁. heard ! (acting r₁ (z₁ .0) (z₁ .1 .0) (z₁ .1 .1 .0) (z₁ .1 .1 .1 .0) (z₁ .1 .1 .1 .1 .0) ≡ task-turn ts st′ x₂ x₃ x₄ g slot) (λ e₁. landed-by ! gone.the-row gone-vals gone-tells r₁ w₁ (λ is₁.
+          lent 5 All (tt, (tt, (tt, (tt, (tt, tt))))) (gone.the-row ∷ []) gone.the-row 𝓤 (others.clauses 𝓤 H A at-mem run) (ts, (st′, (x₂, (x₃, (x₄, tt))))) (g, tt) (gone-vals g, tt) ! (fmOf 𝓤 H (W .laws) 𝓣) known-others
+          (g₀, (tt, (g₂, (g₃, (tt, tt))))) (m₀, (tt, (refl, (refl, (tt, tt))))) (gone-makes 𝓤 H A g _ g-is, tt) (λ αs δs. tt) (λ αs δs. id⊢ 𝓤 (emp 𝓤))
+          (λ αs δs. (and-then ! (load ! (from ! (stop !)) (look ! 20 refl)) (and-then ! (load ! (from ! (stop !)) (look ! 18 refl)) (and-then ! (load ! (from ! (stop !)) (look ! 14 refl)) (and-then ! (load ! (from ! (stop !)) (look ! 10 refl)) (and-then ! (load ! (from ! (stop !)) (look ! 8 refl)) (and-then ! (load ! (from ! (stop !)) (look ! 50 refl)) (no-more !))))))))
+          (λ αs δs w₁ r₁ z₁ f₁. heard ! (acting r₁ (z₁ .0) (z₁ .1 .0) (z₁ .1 .1 .0) (z₁ .1 .1 .1 .0) (z₁ .1 .1 .1 .1 .0) ≡ task-turn ts st′ x₂ x₃ x₄ g) (λ e₁. landed-by ! gone.the-row gone-vals gone-tells r₁ w₁ (λ is₁.
           land ! (from ! (stop !)) (init ! 62 refl (gone-typed 𝓤 H A W r₁ is₁)) $
           returns-within ! Post refl (look ! 62 refl) $ emptied ! refl $
           ends r₁ (z₁ .0) (z₁ .1 .0) (z₁ .1 .1 .0) (z₁ .1 .1 .1 .0) (z₁ .1 .1 .1 .1 .0) is₁ (f₁ .0) (f₁ .1 .1 .0) (f₁ .1 .1 .1 .0) (acts-whole x₀ x₁ x₂ x₃ x₄ g not-end not-call names read did (is-true (s .whole) yes) e₁)))))

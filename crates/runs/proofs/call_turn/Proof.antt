@@ -46,19 +46,19 @@ use Rattle.storage.specs.declared.Task.{Task}
 use Rattle.storage.specs.Tasks.{blank, after}
 use Rattle.storage.proofs.Records.{R, table-ty, val, makes, typed}
 use Rattle.calls.specs.declared.Gone.{Gone}
-use Rattle.runs.specs.Going.{slot-at, called as called-of, entering, call-turn}
+use Rattle.runs.specs.Going.{slot-of-call, called as called-of, entering, call-turn}
 use Rattle.runs.proofs.Values.{gone-shut, gone-vals}
 use Rattle.runs.proofs.Leaving.{call-turns}
-use Rattle.runs.proofs.wanted.slot_of.Symbol.{name as #names}
+use Rattle.runs.proofs.wanted.slot_of_call.Symbol.{name as #names}
 use Rattle.table.proofs.get.Symbol.{name as #gets}
 use Rattle.runs.proofs.gone.called.Symbol.{name as #calls}
 use Rattle.runs.proofs.call_turn.Key.{name as #this}
 use Rattle.storage.proofs.Task as task
 use Rattle.storage.proofs.Task.Laws as task-laws
 use Rattle.calls.proofs.Gone as gone
-use Rattle.runs.proofs.wanted.slot_of as names
-use Rattle.runs.proofs.wanted.slot_of.Symbol as names-def
-use Rattle.runs.proofs.wanted.slot_of.Met as names-thm
+use Rattle.runs.proofs.wanted.slot_of_call as names
+use Rattle.runs.proofs.wanted.slot_of_call.Symbol as names-def
+use Rattle.runs.proofs.wanted.slot_of_call.Met as names-thm
 use Rattle.table.proofs.get as gets
 use Rattle.table.proofs.get.Symbol as gets-def
 use Rattle.table.proofs.get.Met as gets-thm
@@ -157,7 +157,7 @@ module _ {M : Type 1} (𝓤 : URA M) (H : Heap 𝓤) (A : Atoms 𝓤) (W : Given
           lent-some 1 All Stack (tt, tt) (gone.the-row ∷ []) usize 𝓤 (names.clauses 𝓤 H A at-mem run) (x₀, (x₁, (x₂, tt))) (g, tt) (gone-vals g, tt) ! (fmOf 𝓤 H (W .laws) 𝓣) known-names
           (tt, tt) (tt, tt) (gone-makes 𝓤 H A g _ g-is, tt) (λ αs δs. tt) (λ αs δs. id⊢ 𝓤 (emp 𝓤))
           (λ αs δs. (and-then ! (load ! (from ! (stop !)) (look ! 12 refl)) (and-then ! (load ! (from ! (stop !)) (look ! 18 refl)) (no-more !))))
-          (λ αs δs w₀ r₀ z₀ f₀. heard ! (after r₀ (z₀ .0) ≡ after (slot-at x₁ g) x₁) (λ e₀. landed-by ! usize (uint-vals w64) (uint-tells w64) r₀ w₀ (λ is₀.
+          (λ αs δs w₀ r₀ z₀ f₀. heard ! (after r₀ (z₀ .0) ≡ after (slot-of-call x₁ g) x₁) (λ e₀. landed-by ! usize (uint-vals w64) (uint-tells w64) r₀ w₀ (λ is₀.
           land ! (from ! (stop !)) (init ! 14 refl (tt, record { fits = is₀ .1 })) $
           assigns ! (addr ! (from ! (fld ! refl (hop ! (look-in ! 22 (sub ! 0 refl (whole !))) (stop !))))) (from ! (stop !)) (init ! 8 refl (tt, tt)) $
           assigns ! (agg ! (and-then ! (load ! (from ! (stop !)) (look ! 8 refl)) (and-then ! (load ! (from ! (fld ! refl (stop !))) (look-in ! 22 (sub ! 1 refl (whole !)))) (no-more !)))) (from ! (stop !)) (init ! 6 refl (tt, (tt, (record { fits = g₀ .0 }, tt)))) $
@@ -208,6 +208,6 @@ call-turn-spec 𝓤 H 𝓜 𝓖 𝓡 =
     entered 𝓤 H (tripleOf 𝓤 H (𝓖 .A) f.signature (f.spec 𝓤 H (𝓖 .A) (𝓜 .mem) (𝓡 .run)))
     (tables 𝓤 H 𝓜 𝓡 code.env .C) (tables 𝓤 H 𝓜 𝓡 code.env .Λ) #this code.function (code.unfolded 𝓤 H 𝓜 𝓡)
     (meets 𝓤 H (𝓖 .A) (givenOf 𝓤 H 𝓜 𝓖) (𝓜 .mem) (𝓡 .run) (tablesOf 𝓤 H 𝓜 (tables 𝓤 H 𝓜 𝓡 code.env))
-    (cited 𝓤 H (names-con 𝓤 H (𝓖 .A) (𝓜 .mem) (𝓡 .run)) 𝓜 𝓡 code.env #names names-def.routine code.calls-runs·wanted·slot-of (names-thm.met 𝓤 H 𝓜 𝓖 𝓡))
+    (cited 𝓤 H (names-con 𝓤 H (𝓖 .A) (𝓜 .mem) (𝓡 .run)) 𝓜 𝓡 code.env #names names-def.routine code.calls-runs·wanted·slot-of-call (names-thm.met 𝓤 H 𝓜 𝓖 𝓡))
     (cited 𝓤 H (gets-con 𝓤 H (𝓖 .A) (𝓜 .mem) (𝓡 .run)) 𝓜 𝓡 code.env #gets gets-def.routine code.calls-table·get (gets-thm.met 𝓤 H 𝓜 𝓖 𝓡))
     (cited 𝓤 H (calls-con 𝓤 H (𝓖 .A) (𝓜 .mem) (𝓡 .run)) 𝓜 𝓡 code.env #calls calls-def.routine code.calls-runs·gone·called (calls-thm.met 𝓤 H 𝓜 𝓖 𝓡)))

@@ -1,8 +1,4 @@
 -- `runs::wanted::slot_of` meets its contract.
-use Prim.Native.Nat.{ℕ}
-use mathlib.Core.List.{List}
-use mathlib.Core.Path.{ap}
-use Rattle.storage.specs.Tasks.{after}
 use borrow.Author.Needs.{needs}
 use Rattle.runs.proofs.wanted.slot_of.Statement.{statement}
 use Rattle.runs.proofs.wanted.slot_of.Tie as tie
@@ -11,7 +7,8 @@ wanted-requires : tie.Need-wanted-requires
 wanted-requires c κs = search needs
 
 returns : tie.Need-returns
-returns c = simp (← c .wanted .ensures)
+returns c =
+    simp (← c .wanted .ensures)
 
 pub slot-of-spec : {M : Type 1} → statement M
 slot-of-spec = tie.close (tie.spec wanted-requires returns)
