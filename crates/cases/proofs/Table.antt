@@ -1,4 +1,4 @@
--- The cases of document 01, C1 to C12, as one table: each program run by its definition, each answer computed.
+-- The cases of document 01, C1 to C12, and the order of T_CREATE's tests, as one table: each program run by its definition, each answer computed.
 use Prim.Native.Nat.{ℕ}
 use mathlib.Core.Bool.{Bool, true, false}
 use mathlib.Core.List.{List, [], _∷_, _++_}
@@ -113,6 +113,10 @@ C10 = 0x01 ∷ 0x00 ∷ []
 abbrev C11 : List ℕ
 C11 = 0x01 ∷ 0x00 ∷ 0x00 ∷ 0x00 ∷ 0x01 ∷ 0x01 ∷ 0x00 ∷ 0x00 ∷ 0x00 ∷ 0x01 ∷ 0x16 ∷ 0x01 ∷ 0x00 ∷ 0x00 ∷ 0x00 ∷ 0x01 ∷ 0x01 ∷ 0x00 ∷ 0x00 ∷ 0x00 ∷ 0x02 ∷ 0x16 ∷ 0x16 ∷ []
 
+-- 06 00 04 0000 07
+abbrev No-title : List ℕ
+No-title = 0x06 ∷ 0x00 ∷ 0x04 ∷ 0x00 ∷ 0x00 ∷ 0x07 ∷ []
+
 -- the table
 pub record Cases : Type 0 where
   -- one value, 99, after five instructions
@@ -139,6 +143,8 @@ pub record Cases : Type 0 where
   pub c11 : after C11 .outcome ≡ Refused TypeMismatch
   -- image I1 loads
   pub c12 : read-image I1 ≡ sound Ab
+  -- T_CREATE with 0 states gives 8 before it looks for a title: there is none
+  pub no-title : after No-title .outcome ≡ Refused MaxStatesError
 
 pub cases : Cases
 unfolding bytecode-opcodes.operand-size bytecode-operands.big-endian bytecode-operands.operand bytecode-operands.data-size bytecode-operands.behind bytecode-operands.extent bytecode-operands.behind-by bytecode-operands.extent-by inlinevec-stacks.if-room inlinevec-stacks.if-some inlinevec-stacks.push inlinevec-stacks.pop inlinevec-stacks.last inlinevec-stacks.values-of inlinevec-stacks.push-two inlinevec-stacks.last-two inlinevec-stacks.pop-two inlinevec-stacks.change-two inlinevec-stacks.two-of inlinevec-stacks.push-loop inlinevec-stacks.pop-loop inlinevec-stacks.last-loop inlinevec-stacks.push-frame inlinevec-stacks.pop-frame values-values.make-scalar-tagged values-values.make-vec-tagged values-values.to-vec-val values-values.to-bool-val values-values.is-qnan values-values.is-scalar values-values.is-vec values-values.raw-tag values-values.tag-of values-values.is-u32-val values-values.to-u32 values-values.fat-pointer values-values.to-fat-pointer values-values.bool-not values-values.product values-values.mul-checked values-values.mul-checked-i values-values.alike values-values.value-eq values-values.turned values-values.value-neq values-values.value-cmp values-values.vec-type values-values.scalar-type values-values.get-value-type memory-allocation.offset-aligned memory-allocation.is-element-tag memory-allocation.vector memory-allocation.filling memory-allocation.stored memory-allocation.alloc memory-change.element-size-bytes memory-change.scaled memory-change.little-endian memory-change.inside memory-change.changed memory-change.mut-vec memory-reads.is-m-slice-eq memory-reads.get-slice-as-str memory-reads.get-slice-as-u32 pools-pool.end-of pools-pool.start-of pools-pool.bounds pools-pool.entry-of pools-pool.entries-of pools-pool.has-room pools-pool.interned pools-pool.part-in-use pools-pool.never-fall pools-pool.end-to-end opcodes-stack.pop-second opcodes-stack.pop-first opcodes-stack.pop-two opcodes-stack.pushed-to opcodes-stack.push-value opcodes-stack.finish opcodes-stack.op-push opcodes-stack.on-two opcodes-stack.op-mul opcodes-stack.op-compare opcodes-stack.on-one opcodes-stack.op-muli opcodes-stack.dup-last opcodes-stack.op-dup opcodes-stack.swapped opcodes-stack.op-swap opcodes-stack.dropped opcodes-stack.op-drop opcodes-control.opened-to opcodes-control.do-two opcodes-control.op-do opcodes-control.looped opcodes-control.op-loop opcodes-control.index-of opcodes-control.op-loop-index opcodes-control.jumped opcodes-control.op-jump-if-false opcodes-equality.eq-right opcodes-equality.eq-left opcodes-equality.eq-vectors opcodes-equality.eq-tagged opcodes-equality.eq-right-tag opcodes-equality.eq-left-tag opcodes-equality.eq-values opcodes-equality.turned-if opcodes-equality.op-eq opcodes-store.full-by opcodes-store.full opcodes-store.placed opcodes-store.store opcodes-store.sized opcodes-store.op-m-st opcodes-store.mut-in-use opcodes-store.mutated opcodes-store.mutate-at opcodes-store.mutate opcodes-store.mutate-last opcodes-store.mutate-two opcodes-store.op-m-muta core-cut.cut-value core-cut.cut-muli core-cut.cut-size core-cut.cut-m-st core-cut.cut-skip core-cut.cut-jump core-cut.cut core-operated.with-operand core-operated.push-u32 core-operated.push-u8 core-operated.muli core-operated.jump-if-false core-operated.m-st core-operated.payload-of core-operated.m-sti-of core-operated.m-sti core-execute.plain core-execute.operated core-execute.is-equality core-execute.execute core-execute.by-extent core-execute.instruct core-steps.is-outer core-steps.onward core-steps.turn core-steps.steps tasks-changes.applied tasks-titles.within tasks-titles.title-bytes tasks-create.with-room tasks-create.if-within tasks-create.new tasks-create.if-vector tasks-create.with-title tasks-create.titled tasks-create.with-state tasks-create.with-two tasks-create.op-t-create tasks-create.delete-found tasks-create.delete-popped tasks-create.op-t-delete tasks-fields.if-found tasks-fields.owner-popped tasks-fields.owner tasks-fields.field-popped tasks-fields.field-of tasks-fields.get-field tasks-fields.get-found tasks-fields.op-t-get-field tasks-fields.title-within tasks-fields.set-title tasks-fields.title-vector tasks-fields.state-answered tasks-fields.set-state tasks-fields.set-instructions tasks-fields.set-field tasks-fields.set-popped tasks-fields.set-found tasks-fields.op-t-set-field storage-tasks.no-title storage-tasks.blank storage-tasks.default-state storage-tasks.with-state storage-tasks.title-of storage-tasks.new-task storage-tasks.set-state storage-storage.slot-of storage-storage.find storage-storage.room storage-storage.len-after storage-table.set-state-at storage-table.lives storage-table.living-of storage-table.sound-slot storage-table.sound-slots storage-table.sound-counts storage-table.sound-table calls-machines.current calls-machines.with-current calls-machines.code-of calls-machines.registers-of calls-machines.settled calls-frames.intern-sized calls-frames.intern-calldata calls-frames.with-entry calls-frames.calldata-pushed calls-frames.push-calldata calls-frames.framed calls-frames.enter-bounded calls-frames.enter calls-frames.call-popped calls-frames.op-call calls-frames.left-frame calls-frames.op-end-call calls-act.went-by calls-act.created calls-act.tasked-by calls-act.created-by calls-act.on-task calls-act.on-frames calls-act.op-at calls-act.act-by calls-act.act-at calls-act.act calls-advance.named-by calls-advance.named calls-advance.wanted calls-advance.halted-at calls-advance.after-steps calls-advance.advance calls-turns.turned calls-turns.save-went calls-turns.saved calls-turns.rewound runs-world.at-end runs-step.inner-did runs-step.inner runs-step.acts-went runs-step.acts runs-step.saves-went runs-step.saves runs-step.outer runs-step.step runs-run.follow runs-run.run slices-same.same
@@ -155,4 +161,5 @@ cases = record {
   c10 = refl;
   c11 = refl;
   c12 = I1-loads;
+  no-title = refl;
 }
