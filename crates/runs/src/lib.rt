@@ -22,7 +22,7 @@ use storage::Task;
 use tasks::Change;
 
 // What an instruction answers that reads or sets the state of a task: whether it needs the whole record after all, and which state it sets.
-pub struct Stated {
+pub(crate) struct Stated {
     pub whole: bool,
     pub states: bool,
     pub state: u32,
