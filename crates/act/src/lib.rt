@@ -9,7 +9,6 @@ ghost use Rattle.calls.specs.Act.{went-by, created, tasked-by, created-by, bare
 use bytecode::Extent;
 use bytecode::OperandResult;
 use bytecode::extents::extent;
-use bytecode::extents::operand_sizes;
 use bytecode::opcodes::CALL;
 use bytecode::opcodes::END_CALL;
 use bytecode::opcodes::PUSH_CALLDATA;
@@ -256,7 +255,7 @@ fn bare(op: u8) -> bool
     }
 }
 
-// How far the instruction at a place reaches; the table of operand sizes is made only where it is needed.
+// How far the instruction at a place reaches: most have no operands.
 fn reach(code: &[u8], place: usize, op: u8) -> Extent
     requires { ⌜ (place < length (now code)) × (op ≡ getD (now code) place 0) ⌝ }
     ensures { λ r. ⌜ r ≡ extent (now (code .entry)) place ⌝ }
@@ -264,8 +263,7 @@ fn reach(code: &[u8], place: usize, op: u8) -> Extent
     if bare(op) {
         return Extent::Next(place + 1);
     }
-    let sizes = operand_sizes();
-    extent(&sizes, code, place)
+    extent(code, place)
 }
 
 // An instruction that the code's end cuts.

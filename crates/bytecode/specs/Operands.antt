@@ -35,6 +35,10 @@ behind code at = at + 1 + operand-size (getD code at 0) + data-size code at
 unfoldable pub extent : List ℕ → ℕ → Extent
 extent code at = cond (leb (behind code at) (length code)) (Next (behind code at)) Cut
 
+-- the same for an instruction with so many bytes of operands
+unfoldable pub reaching : List ℕ → ℕ → ℕ → Extent
+reaching code at operands = cond (leb (at + 1 + operands + data-size code at) (length code)) (Next (at + 1 + operands + data-size code at)) Cut
+
 -- a table that has the operand size of each opcode byte
 pub record Follows (sizes : List ℕ) : Type 0 where
   pub rule : (op : ℕ) → op < 256 → getD sizes op 0 ≡ operand-size op

@@ -2,7 +2,8 @@
 ghost use mathlib.Core.Path.{_≡_};
 ghost use Prim.Native.Nat.{_<_};
 ghost use lib.ListN.{length, getD};
-ghost use Rattle.bytecode.specs.Operands.{data-size, Follows, extent-by};
+ghost use Rattle.bytecode.specs.Opcodes.{operand-size};
+ghost use Rattle.bytecode.specs.Operands.{data-size, reaching, extent, Follows, extent-by};
 use crate::Extent;
 use crate::opcodes::*;
 
@@ -13,7 +14,7 @@ fn wide(byte: u8) -> u32
     byte as u32
 }
 
-// The table of operand sizes, to be lent to `extent`: a constant that is indexed is built anew at each call.
+// The table of operand sizes, to be lent to `extent_by`: a constant that is indexed is built anew at each call.
 pub fn operand_sizes() -> [u8; 256]
     ensures { λ r. ⌜ Follows r ⌝ }
 {
@@ -48,17 +49,54 @@ fn data_size(code: &[u8], at: usize) -> usize
     0
 }
 
-// The place behind the instruction at a place, by a table of operand sizes, or that the code's end cuts it.
-pub fn extent(sizes: &[u8; 256], code: &[u8], at: usize) -> Extent
+// How many bytes of operands follow an opcode: what the table says, told by tests, for a run, which would make the table anew at each instruction.
+fn operand_size(op: u8) -> usize
+    ensures { λ r. ⌜ (r ≡ operand-size op) × (r < 256) ⌝ }
+{
+    match op {
+        0x01 => 4,
+        0x03 => 1,
+        0x04 => 2,
+        0x05 => 1,
+        0x06 => 1,
+        0x1A => 4,
+        0x1B => 4,
+        0x1C => 1,
+        0x1E => 4,
+        _ => 0,
+    }
+}
+
+// The place behind an instruction with so many bytes of operands, or that the code's end cuts it.
+fn reaching(code: &[u8], at: usize, operands: usize) -> Extent
+    requires { ⌜ (at < length (now code)) × (operands < 256) ⌝ }
+    ensures { λ r. ⌜ r ≡ reaching (now (code .entry)) at operands ⌝ }
+{
+    let next = at + 1 + operands + data_size(code, at);
+    if next <= code.len() {
+        return Extent::Next(next);
+    }
+    Extent::Cut
+}
+
+// The place behind the instruction at a place, or that the code's end cuts it.
+pub fn extent(code: &[u8], at: usize) -> Extent
+    ensures { λ r. ⌜ r ≡ extent (now (code .entry)) at ⌝ }
+{
+    if code.len() <= at {
+        return Extent::Cut;
+    }
+    let operands = operand_size(code[at]);
+    reaching(code, at, operands)
+}
+
+// The same, by a table of operand sizes.
+pub fn extent_by(sizes: &[u8; 256], code: &[u8], at: usize) -> Extent
     ensures { λ r. ⌜ r ≡ extent-by (now (sizes .entry)) (now (code .entry)) at ⌝ }
 {
     if code.len() <= at {
         return Extent::Cut;
     }
     let operands = wide(sizes[code[at] as usize]) as usize;
-    let next = at + 1 + operands + data_size(code, at);
-    if next <= code.len() {
-        return Extent::Next(next);
-    }
-    Extent::Cut
+    reaching(code, at, operands)
 }

@@ -24,7 +24,7 @@ use Rattle.opcodes.specs.declared.Did.the-variants.{Refused}
 use Rattle.core.specs.Cut.{cut}
 use Rattle.core.specs.Operated.{with-operand, push-u32, push-u8, muli, jump-if-false}
 use Rattle.core.specs.Execute.{kept, plain, operated, is-equality, execute, by-extent, instruct}
-use Rattle.core.specs.Kinds.{among, plain-opcodes, is-plain, byte-opcodes, number-opcodes, operand-opcodes, has-operand, pushes-byte, with-number, numbered, stored, cut-stored, stored-by, by-table}
+use Rattle.core.specs.Kinds.{among, plain-opcodes, is-plain, byte-opcodes, number-opcodes, operand-opcodes, has-operand, pushes-byte, with-number, numbered, stored, cut-stored, stored-by, whole-or-cut}
 
 -- ---- opcodes among some
 
@@ -249,8 +249,8 @@ module _ (stack memory code : List ℕ) (registers : Registers) (count : ℕ) wh
       ap (λ (did : Did). on-memory did stack memory) (sym (cut-other stack memory code registers 0 op-at count no-plain no-equality no-operand))
 
   pub instruct-other : is-plain op-at ≡ false → is-equality op-at ≡ false → has-operand op-at ≡ false
-      → by-table stack memory code registers op-at ≡ instruct stack memory code registers count
-  unfolding instruct by-table
+      → whole-or-cut stack memory code registers op-at ≡ instruct stack memory code registers count
+  unfolding instruct whole-or-cut
   instruct-other = other-by (extent code (registers .place))
 
   -- the count is read by a plain one alone

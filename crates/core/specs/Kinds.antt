@@ -1,4 +1,4 @@
--- Instructions by what stands behind their opcode: nothing, a byte, a number of four bytes, or what the table of operand sizes says.
+-- Instructions by what stands behind their opcode: nothing, a byte, a number of four bytes, or what the operand rule says.
 use Prim.Native.Nat.{ℕ, _+_}
 use mathlib.Core.Bool.{Bool, false, cond, _||_}
 use mathlib.Core.List.{List, [], _∷_, _++_}
@@ -77,5 +77,5 @@ unfoldable pub stored-by : List ℕ → List ℕ → List ℕ → Registers → 
 stored-by stack memory code registers op (extents.Next next) = stored stack memory code registers next op
 stored-by stack memory code registers op extents.Cut = on-memory (cut-stored stack registers op) stack memory
 
-unfoldable pub by-table : List ℕ → List ℕ → List ℕ → Registers → ℕ → OnMemory
-by-table stack memory code registers op = stored-by stack memory code registers op (extent code (registers .place))
+unfoldable pub whole-or-cut : List ℕ → List ℕ → List ℕ → Registers → ℕ → OnMemory
+whole-or-cut stack memory code registers op = stored-by stack memory code registers op (extent code (registers .place))

@@ -5,7 +5,7 @@ ghost use Prim.Native.Nat.{_≤_, _<_};
 ghost use lib.ListN.{length, getD};
 ghost use Rattle.opcodes.specs.Registers.{on-stack, on-memory};
 ghost use Rattle.core.specs.Execute.{plain, is-equality, instruct};
-ghost use Rattle.core.specs.Kinds.{is-plain, has-operand, pushes-byte, with-number, numbered, stored, by-table};
+ghost use Rattle.core.specs.Kinds.{is-plain, has-operand, pushes-byte, with-number, numbered, stored, whole-or-cut};
 use crate::cut::cut;
 use crate::cut::cut_stored;
 use crate::operated::m_st;
@@ -16,7 +16,6 @@ use arithmetic::op_muli;
 use bytecode::Extent;
 use bytecode::OperandResult;
 use bytecode::extents::extent;
-use bytecode::extents::operand_sizes;
 use bytecode::opcodes::*;
 use control::op_do;
 use control::op_loop;
@@ -185,8 +184,8 @@ fn stored(
     Did::Next(moved(registers, next, registers.height))
 }
 
-// The same, by the table of operand sizes.
-fn by_table(
+// The same at its place, whole or cut by the code's end.
+fn whole_or_cut(
     stack: &mut [u64; 1000],
     memory: &mut [u8],
     code: &[u8],
@@ -194,17 +193,16 @@ fn by_table(
     op: u8,
 ) -> Did
     requires { ⌜ registers .place < length (now code) ⌝ }
-    ensures { λ r. ⌜ on-memory r (now (stack .exit)) (now (memory .exit)) ≡ by-table (now (stack .entry)) (now (memory .entry)) (now (code .entry)) registers op ⌝ }
+    ensures { λ r. ⌜ on-memory r (now (stack .exit)) (now (memory .exit)) ≡ whole-or-cut (now (stack .entry)) (now (memory .entry)) (now (code .entry)) registers op ⌝ }
 {
-    let sizes = operand_sizes();
-    match extent(&sizes, code, registers.place) {
+    match extent(code, registers.place) {
         Extent::Next(next) => stored(stack, memory, code, registers, next, op),
         Extent::Cut => cut_stored(stack, registers, op),
     }
 }
 
 // The instruction at the place, which lies in the code and is none of the plain ones. For most opcodes the next place is a constant further, so that a
-// run does not wait for the table; each function here is called at one place, so that the compiler makes one loop of them. The count is read by S_LEN alone,
+// run does not wait for it; each function here is called at one place, so that the compiler makes one loop of them. The count is read by S_LEN alone,
 // which is plain: any will do.
 pub(crate) fn instruct(
     stack: &mut [u64; 1000],
@@ -229,5 +227,5 @@ pub(crate) fn instruct(
     if is_equality(op) {
         return op_eq(stack, memory, registers, place + 1, op == EQ);
     }
-    by_table(stack, memory, code, registers, op)
+    whole_or_cut(stack, memory, code, registers, op)
 }

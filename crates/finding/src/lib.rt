@@ -9,7 +9,7 @@ ghost use Rattle.labels.specs.declared.Exchange.the-variants.{Adds, Turns, Gets
 ghost use Rattle.elements.specs.Found.{found-by};
 use bytecode::Extent;
 use bytecode::OperandResult;
-use bytecode::extents::extent;
+use bytecode::extents::extent_by;
 use bytecode::opcodes::*;
 use elements::Found;
 use labels::Element;
@@ -204,7 +204,7 @@ pub fn find(sizes: &[u8; 256], code: &[u8], at: usize) -> Found
             next: at + 3,
         };
     }
-    match extent(sizes, code, at) {
+    match extent_by(sizes, code, at) {
         Extent::Next(next) => Found::Whole {
             element: whole_element(code, at, op),
             next,

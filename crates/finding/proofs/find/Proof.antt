@@ -26,8 +26,8 @@ unfolding found-by found-extent
 returns-2 c =
     simp (← c .whole-element .ensures, c .before .if2 .taken, ← c .before .before .joined .ensures)
 
-extent-requires : tie.Need-extent-requires
-extent-requires c κs = search needs
+extent-by-requires : tie.Need-extent-by-requires
+extent-by-requires c κs = search needs
 
 enum-known-next : tie.Need-enum-known-next
 enum-known-next c = search needs
@@ -41,12 +41,12 @@ enum-told c = search needs
 returns-3 : tie.Need-returns-3
 unfolding found-by found-extent
 returns-3 c =
-    simp (← c .whole-element2 .ensures, c .before .before .next .given .1, ← c .before .before .before .before .extent .ensures, c .before .before .before .before .before .if2 .left, ← c .before .before .before .before .before .before .joined .ensures)
+    simp (← c .whole-element2 .ensures, c .before .before .next .given .1, ← c .before .before .before .before .extent-by .ensures, c .before .before .before .before .before .if2 .left, ← c .before .before .before .before .before .before .joined .ensures)
 
 returns-4 : tie.Need-returns-4
 unfolding found-by found-extent
 returns-4 c =
-    simp (c .enum-told .given .1, ← c .before .before .extent .ensures, c .before .before .before .if2 .left, ← c .before .before .before .before .joined .ensures)
+    simp (c .enum-told .given .1, ← c .before .before .extent-by .ensures, c .before .before .before .if2 .left, ← c .before .before .before .before .joined .ensures)
 
 pub find-spec : {M : Type 1} → statement M
 find-spec =
@@ -58,7 +58,7 @@ find-spec =
     whole-element-requires
     add-t12
     returns-2
-    extent-requires
+    extent-by-requires
     enum-known-next
     whole-element-requires-2
     enum-told

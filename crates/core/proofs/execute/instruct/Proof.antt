@@ -72,8 +72,8 @@ returns-4 c =
     let given = c .before .before .before .before .before .before .before .before .before .before .args in
     ap (λ (after : OnStack). kept after (given .memory .now)) (c .op-eq .ensures) ∙ instruct-equality (given .stack .now) (given .memory .now) (given .code .now) (given .registers) 0 (c .before .before .before .before .before .before .before .before .before .before .pre .0) (sym (c .before .before .before .before .is-equality .ensures) ∙ c .before .before .before .if4 .taken)
 
-by-table-requires : tie.Need-by-table-requires
-by-table-requires c κs = search needs
+whole-or-cut-requires : tie.Need-whole-or-cut-requires
+whole-or-cut-requires c κs = search needs
 
 same-length-2 : tie.Need-same-length-2
 same-length-2 c = search needs
@@ -81,7 +81,7 @@ same-length-2 c = search needs
 returns-5 : tie.Need-returns-5
 returns-5 c =
     let given = c .before .before .before .before .before .before .before .before .before .before .before .before .args in
-    c .before .before .by-table .ensures ∙ instruct-other (given .stack .now) (given .memory .now) (given .code .now) (given .registers) 0 (c .before .before .before .before .before .before .before .before .before .before .before .before .pre .1) (sym (c .before .before .before .before .before .before .is-equality .ensures) ∙ c .before .before .before .before .before .if4 .left) (sym (c .before .before .before .before .before .before .before .before .has-operand .ensures) ∙ c .before .before .before .before .before .before .before .if1 .left)
+    c .before .before .whole-or-cut .ensures ∙ instruct-other (given .stack .now) (given .memory .now) (given .code .now) (given .registers) 0 (c .before .before .before .before .before .before .before .before .before .before .before .before .pre .1) (sym (c .before .before .before .before .before .before .is-equality .ensures) ∙ c .before .before .before .before .before .if4 .left) (sym (c .before .before .before .before .before .before .before .before .has-operand .ensures) ∙ c .before .before .before .before .before .before .before .if1 .left)
 
 pub instruct-spec : {M : Type 1} → statement M
 instruct-spec =
@@ -104,6 +104,6 @@ instruct-spec =
     op-eq-requires
     same-length
     returns-4
-    by-table-requires
+    whole-or-cut-requires
     same-length-2
     returns-5)
