@@ -45,10 +45,10 @@ pub fn registers_of(machine: Machine) -> Registers
     let frame = current(machine.frames);
     let loops = machine.loops;
     Registers {
+        memory: machine.memory,
         place: frame.place,
         height: machine.height,
         loops,
-        memory: machine.memory,
     }
 }
 

@@ -19,10 +19,10 @@ fn looping(registers: Registers, place: usize, height: usize, loops: Loops) -> R
     ensures { λ r. ⌜ r ≡ looping registers place height loops ⌝ }
 {
     Registers {
+        memory: registers.memory,
         place,
         height,
         loops,
-        memory: registers.memory,
     }
 }
 

@@ -4,13 +4,13 @@ pub mod stack;
 use errors::Refusal;
 use inlinevec::Loops;
 
-// What an instruction that needs no task, frame or pool changes of the machine: the place in the current code, the height of the stack, the
-// open loops, the length of memory in use.
+// What an instruction that needs no task, frame or pool changes of the machine: the length of memory in use, the place in the current code, the height of
+// the stack, the open loops. The length that fewest change comes first, where a refusal lies in `Did`: what lies there goes through memory.
 pub struct Registers {
+    pub memory: usize,
     pub place: usize,
     pub height: usize,
     pub loops: Loops,
-    pub memory: usize,
 }
 
 // What such an instruction answers.

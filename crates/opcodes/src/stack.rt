@@ -15,10 +15,10 @@ pub fn moved(registers: Registers, place: usize, height: usize) -> Registers
 {
     let loops = registers.loops;
     Registers {
+        memory: registers.memory,
         place,
         height,
         loops,
-        memory: registers.memory,
     }
 }
 

@@ -41,10 +41,10 @@ pub fn store(
             stack[height] = value;
             let loops = registers.loops;
             Did::Next(Registers {
+                memory: used,
                 place: next,
                 height: height + 1,
                 loops,
-                memory: used,
             })
         }
     }
