@@ -1,5 +1,5 @@
 -- The end of the check: empty arrays, the kinds written, and the answer by what the sweep and the jumps' test found.
-use Prim.Native.Nat.{ℕ, zero, suc, _+_, _-_, _%_, _≤_, _<_}
+use Prim.Native.Nat.{ℕ, zero, suc, _+_, _-_, _*_, _%_, _≤_, _<_}
 use mathlib.Core.Path.{_≡_, refl, sym, _∙_, ap, ap₂, subst}
 use mathlib.Core.Bool.{Bool, true, false}
 use mathlib.Core.List.{List, [], _∷_, _++_, reverse, reverseAux, reverseAux-eq}
@@ -93,8 +93,16 @@ written-is cells (kind ∷ kinds) node buffer e =
     byte-letter Numbers = refl
 
 -- arrays of zeros are fresh
-pub fresh : {cells nodes loops : List ℕ} → Zeros 131072 cells → Zeros 65536 nodes → Zeros 65536 loops → Fresh cells nodes loops
-fresh c n l = record { cells-size = c .sized; nodes-size = n .sized; loops-size = l .sized; no-loops = l .zero-at 0; unseen = n .zero-at }
+pub fresh : (places : ℕ) (code : List ℕ) {cells nodes loops : List ℕ} → length code < places → Zeros (2 * places) cells → Zeros places nodes → Zeros places loops
+    → Fresh (length loops) code cells nodes loops
+fresh places code few c n l = record {
+  enough = omega (arith, few, l .sized);
+  cells-size = omega (arith, c .sized, l .sized);
+  nodes-size = omega (arith, n .sized, l .sized);
+  loops-size = refl;
+  no-loops = l .zero-at 0;
+  unseen = n .zero-at;
+}
 
 -- no loop is open exactly if the word is 0
 closed-word : {cells nodes : List ℕ} {at word : ℕ} {loops : List Open} → Opens cells nodes at word loops → loops ≡ [] → word ≡ 0

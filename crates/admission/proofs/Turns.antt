@@ -161,13 +161,13 @@ third-is (x ∷ []) = refl
 third-is (x ∷ y ∷ list) = refl
 
 -- what is known after an element
-abbrev pub Goes : List ℕ → ℕ → Step → List ℕ → List ℕ → List ℕ → Type 0
-Goes code at Stuck others marks words = WithoutRule code at
-Goes code at (On next more rest) others marks words = (at < next) × Standing code others marks words next more rest
+abbrev pub Goes : ℕ → List ℕ → ℕ → Step → List ℕ → List ℕ → List ℕ → Type 0
+Goes places code at Stuck others marks words = WithoutRule code at
+Goes places code at (On next more rest) others marks words = (at < next) × Standing places code others marks words next more rest
 
-module _ (code cells nodes loops : List ℕ) (at height free : ℕ) (s : Standing code cells nodes loops at height free) (inside : at < length code) (short : length code ≤ 65535) where
+module _ (places : ℕ) (code cells nodes loops : List ℕ) (at height free : ℕ) (s : Standing places code cells nodes loops at height free) (inside : at < length code) (short : length code ≤ 65535) where
   abbrev goes : Stepped → Type 0
-  goes x = Goes code at (x .step) (x .cells) (x .nodes) (x .loops)
+  goes x = Goes places code at (x .step) (x .cells) (x .nodes) (x .loops)
 
   abbrev next : ℕ
   next = after code at
@@ -252,9 +252,9 @@ module _ (code cells nodes loops : List ℕ) (at height free : ℕ) (s : Standin
     stands =
         let top-small = given-small left high (given low (drop taken (letters kinds))) spelled in
         let low-small = given-small (top-small .1 .0) low (drop taken (letters kinds)) (top-small .1 .1) in
-        given-stacked cells₁ second-free middle high (omega (arith, given-length cells free base low, s .cells-size, s .room, low-one)) middle-low (omega (arith, s .room, low-one)) (top-small .0)
+        given-stacked cells₁ second-free middle high (omega (arith, given-length cells free base low, s .cells-size, s .enough, s .room, low-one)) middle-low (omega (arith, s .room, low-one)) (top-small .0)
         ∙ ap (given high)
-        (given-stacked cells free base low (omega (arith, s .cells-size, s .room)) base-low (omega (arith, s .room)) (low-small .0)
+        (given-stacked cells free base low (omega (arith, s .cells-size, s .enough, s .room)) base-low (omega (arith, s .room)) (low-small .0)
         ∙ ap (given low) (lowered-is cells taken node ∙ ap (drop taken) (s .noted .kinds)))
         ∙ sym spelled
 
@@ -272,11 +272,11 @@ module _ (code cells nodes loops : List ℕ) (at height free : ℕ) (s : Standin
 
     mark-is : getD marks next 0 ≡ last + 1
     mark-is =
-        getD-set-same nodes next (last % 131072 + 1) 0 (omega (arith, s .nodes-size))
+        getD-set-same nodes next (last % 131072 + 1) 0 (omega (arith, s .nodes-size, s .enough))
         ∙ (let e : last % 131072 + 1 ≡ last + 1 = omega (arith, last-low, s .room, low-one, high-one) in e)
 
     word-is : getD words next 0 ≡ word
-    word-is = getD-set-same loops next word 0 (omega (arith, s .loops-size))
+    word-is = getD-set-same loops next word 0 (omega (arith, s .loops-size, s .enough))
 
     holds-next : stacked cells₂ (getD marks next 0 - 1) ≡ letters left
     holds-next = ap (stacked cells₂) (let e : getD marks next 0 - 1 ≡ last = omega (arith, mark-is) in e) ∙ stands
@@ -328,7 +328,7 @@ module _ (code cells nodes loops : List ℕ) (at height free : ℕ) (s : Standin
         by true e = subst (λ z. getD marks z 0 ≤ rest) (sym (eqb-true place next e)) (omega (arith, mark-is, last-low))
         by false e = omega (arith, other-mark place (eqb-false place next e), s .marks place)
 
-    advance : Standing code cells₂ marks words next (height-after height taken low high) rest
+    advance : Standing places code cells₂ marks words next (height-after height taken low high) rest
     advance =
         let high-is : height-after height taken low high ≡ length left = height-is kinds left height taken low high (s .high) spelled in
         record {
@@ -342,6 +342,7 @@ module _ (code cells nodes loops : List ℕ) (at height free : ℕ) (s : Standin
           later = λ place less. other-mark place (λ e. omega arith) ∙ s .later place (omega (arith, far));
           marks = marked;
           room = omega (arith, s .room, low-one, high-one, far);
+          enough = s .enough;
           cells-size = given-length cells₁ second-free middle high ∙ given-length cells free base low ∙ s .cells-size;
           nodes-size = length-set nodes next (last % 131072 + 1) ∙ s .nodes-size;
           loops-size = length-set loops next word ∙ s .loops-size;
@@ -392,27 +393,27 @@ module _ (code cells nodes loops : List ℕ) (at height free : ℕ) (s : Standin
       by false t = stuck (ruled NoRule (cond-false (leb next (length code)) _ _ t) ∙ rule-cut next (s .now))
 
   -- the same for what the code answered
-  pub turned : (answer : Step) (others marks words : List ℕ) → stepped answer others marks words ≡ step cells nodes loops code at height free → Goes code at answer others marks words
+  pub turned : (answer : Step) (others marks words : List ℕ) → stepped answer others marks words ≡ step cells nodes loops code at height free → Goes places code at answer others marks words
   turned answer others marks words e = subst goes (sym e) turn
 
-module _ {code cells nodes loops : List ℕ} {at height free : ℕ} (s : Standing code cells nodes loops at height free) (inside : at < length code) (short : length code ≤ 65535)
+module _ {places : ℕ} {code cells nodes loops : List ℕ} {at height free : ℕ} (s : Standing places code cells nodes loops at height free) (inside : at < length code) (short : length code ≤ 65535)
     {answer : Step} {others marks words : List ℕ} (e : stepped answer others marks words ≡ step cells nodes loops code at height free) where
-  went : Goes code at answer others marks words
-  went = turned code cells nodes loops at height free s inside short answer others marks words e
+  went : Goes places code at answer others marks words
+  went = turned places code cells nodes loops at height free s inside short answer others marks words e
 
   pub stuck-here : answer ≡ Stuck → Swept code others marks words (StuckAt at)
-  stuck-here is = stuck-at (subst (λ a. Goes code at a others marks words) is went)
+  stuck-here is = stuck-at (subst (λ a. Goes places code at a others marks words) is went)
 
-  pub goes-on : {next more rest : ℕ} → answer ≡ On next more rest → Standing code others marks words next more rest
-  goes-on is = subst (λ a. Goes code at a others marks words) is went .1
+  pub goes-on : {next more rest : ℕ} → answer ≡ On next more rest → Standing places code others marks words next more rest
+  goes-on is = subst (λ a. Goes places code at a others marks words) is went .1
 
   pub goes-far : {next more rest : ℕ} → answer ≡ On next more rest → at < next
-  goes-far is = subst (λ a. Goes code at a others marks words) is went .0
+  goes-far is = subst (λ a. Goes places code at a others marks words) is went .0
 
 -- the sweep begins
-pub begun : (code cells nodes loops : List ℕ) → Fresh cells nodes loops → Standing code cells (set nodes 0 1) loops 0 0 1
-begun code cells nodes loops f =
-    let mark : getD (set nodes 0 1) 0 0 ≡ 1 = getD-set-same nodes 0 1 0 (omega (arith, f .nodes-size)) in
+pub begun : (places : ℕ) (code cells nodes loops : List ℕ) → Fresh places code cells nodes loops → Standing places code cells (set nodes 0 1) loops 0 0 1
+begun places code cells nodes loops f =
+    let mark : getD (set nodes 0 1) 0 0 ≡ 1 = getD-set-same nodes 0 1 0 (omega (arith, f .nodes-size, f .enough)) in
     let none-there : stacked cells (getD (set nodes 0 1) 0 0 - 1) ≡ [] = ap (stacked cells) (let e : getD (set nodes 0 1) 0 0 - 1 ≡ 0 = omega (arith, mark) in e) ∙ stack-bottom cells in
     record {
       now = empty;
@@ -425,6 +426,7 @@ begun code cells nodes loops f =
       later = λ place less. getD-set-other nodes 0 place 1 0 (λ e. omega arith) ∙ f .unseen place;
       marks = marked;
       room = omega arith;
+      enough = f .enough;
       cells-size = f .cells-size;
       nodes-size = length-set nodes 0 1 ∙ f .nodes-size;
       loops-size = f .loops-size;
@@ -434,12 +436,12 @@ begun code cells nodes loops f =
     marked place = by (eqb place 0) refl
       where
         by : (b : Bool) → eqb place 0 ≡ b → getD (set nodes 0 1) place 0 ≤ 1
-        by true e = subst (λ z. getD (set nodes 0 1) z 0 ≤ 1) (sym (eqb-true place 0 e)) (omega (arith, getD-set-same nodes 0 1 0 (omega (arith, f .nodes-size))))
+        by true e = subst (λ z. getD (set nodes 0 1) z 0 ≤ 1) (sym (eqb-true place 0 e)) (omega (arith, getD-set-same nodes 0 1 0 (omega (arith, f .nodes-size, f .enough))))
         by false e = omega (arith, getD-set-other nodes 0 place 1 0 (eqb-false place 0 e), f .unseen place)
 
 -- the sweep ends
-pub done : (code cells nodes loops : List ℕ) (at height free : ℕ) → Standing code cells nodes loops at height free → length code ≤ at → Swept code cells nodes loops (EndedWith height)
-done code cells nodes loops at height free s end =
+pub done : (places : ℕ) (code cells nodes loops : List ℕ) (at height free : ℕ) → Standing places code cells nodes loops at height free → length code ≤ at → Swept code cells nodes loops (EndedWith height)
+done places code cells nodes loops at height free s end =
     let is : at ≡ length code = omega (arith, s .inside) in
     ended (record { last = s .now; reached = subst (λ z. Reached code z (s .now)) is (s .reached) }) (s .high) (s .most) tells
   where

@@ -37,8 +37,8 @@ pub data Tells (code cells nodes loops : List ℕ) (at : ℕ) : Type 0 where
   nothing : getD nodes at 0 ≡ 0 → ((now : Label) → Reached code at now → ⊥) → Tells code cells nodes loops at
   this : {now : Label} → Reached code at now → Noted cells nodes loops at now → Tells code cells nodes loops at
 
--- the sweep stands at an element's start, with so many kinds, and the nodes from `free` on are free
-pub record Standing (code cells nodes loops : List ℕ) (at height free : ℕ) : Type 0 where
+-- the sweep stands at an element's start, with so many kinds, and the nodes from `free` on are free; the arrays have so many places
+pub record Standing (places : ℕ) (code cells nodes loops : List ℕ) (at height free : ℕ) : Type 0 where
   pub now : Label
   pub reached : Reached code at now
   pub noted : Noted cells nodes loops at now
@@ -49,15 +49,17 @@ pub record Standing (code cells nodes loops : List ℕ) (at height free : ℕ) :
   pub later : (place : ℕ) → at < place → getD nodes place 0 ≡ 0
   pub marks : (place : ℕ) → getD nodes place 0 ≤ free
   pub room : free ≤ 2 * at + 1
-  pub cells-size : length cells ≡ 131072
-  pub nodes-size : length nodes ≡ 65536
-  pub loops-size : length loops ≡ 65536
+  pub enough : length code < places
+  pub cells-size : length cells ≡ 2 * places
+  pub nodes-size : length nodes ≡ places
+  pub loops-size : length loops ≡ places
 
--- the arrays before the sweep
-pub record Fresh (cells nodes loops : List ℕ) : Type 0 where
-  pub cells-size : length cells ≡ 131072
-  pub nodes-size : length nodes ≡ 65536
-  pub loops-size : length loops ≡ 65536
+-- the arrays before the sweep: two cells and a number for each place of the code, its length included
+pub record Fresh (places : ℕ) (code cells nodes loops : List ℕ) : Type 0 where
+  pub enough : length code < places
+  pub cells-size : length cells ≡ 2 * places
+  pub nodes-size : length nodes ≡ places
+  pub loops-size : length loops ≡ places
   pub no-loops : getD loops 0 0 ≡ 0
   pub unseen : (place : ℕ) → getD nodes place 0 ≡ 0
 

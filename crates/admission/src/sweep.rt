@@ -250,7 +250,7 @@ pub(crate) fn sweep(
     sizes: &[u8; 256],
     code: &[u8],
 ) -> SweepResult
-    requires { ⌜ (length (now code) ≤ 65535) × Follows (now sizes) × Fresh (now cells) (now nodes) (now loops) ⌝ }
+    requires { ⌜ (length (now code) ≤ 65535) × Follows (now sizes) × Fresh (length (now loops)) (now code) (now cells) (now nodes) (now loops) ⌝ }
     ensures { λ r. ⌜ Swept (now (code .entry)) (now (cells .exit)) (now (nodes .exit)) (now (loops .exit)) r ⌝ }
 {
     put(nodes, 0, 1);

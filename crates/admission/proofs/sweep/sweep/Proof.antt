@@ -9,7 +9,7 @@ use Rattle.admission.proofs.sweep.sweep.Statement.{statement}
 use Rattle.admission.proofs.sweep.sweep.Tie as tie
 
 abbrev Inv-loop : tie.InvT-loop
-Inv-loop cells₀ nodes₀ loops₀ sizes code at₀ height₀ free₀ cells nodes loops at height free = Standing code cells nodes loops at height free
+Inv-loop cells₀ nodes₀ loops₀ sizes code at₀ height₀ free₀ cells nodes loops at height free = Standing (length loops₀) code cells nodes loops at height free
 
 abbrev μ-loop : tie.MeasureT-loop
 μ-loop cells₀ nodes₀ loops₀ sizes code at₀ height₀ free₀ cells nodes loops at height free = length code - at
@@ -20,7 +20,7 @@ put-requires c κs =
 
 loop-holds : tie.Need-loop-holds Inv-loop μ-loop
 loop-holds c =
-    rw (c .before .before .put .ensures) (begun _ _ _ _ (c .before .before .before .before .before .before .before .before .pre .2))
+    rw (c .before .before .put .ensures) (begun _ _ _ _ _ (c .before .before .before .before .before .before .before .before .pre .2))
 
 step-requires : tie.Need-step-requires Inv-loop μ-loop
 step-requires c κs =
@@ -72,7 +72,7 @@ same-length-6 c =
 
 returns-2 : tie.Need-returns-2 Inv-loop μ-loop
 returns-2 c =
-    done _ _ _ _ _ _ _ (c .before .loop .inv) (c .loop-test .left)
+    done _ _ _ _ _ _ _ _ (c .before .loop .inv) (c .loop-test .left)
 
 pub sweep-spec : {M : Type 1} → statement M
 sweep-spec =
