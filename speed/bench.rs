@@ -189,7 +189,7 @@ fn main() {
         assert!(l.new_image[..bytes.len()] == bytes[..]);
         println!("tasks loaded, listed and saved\t{count}\t{best:.3}");
     }
-    for size in [16383, 32767, 65535] {
+    for size in [1023, 16383, 32767, 65535] {
         let code = vec![0u8; size];
         let mut kinds = [0u8; 1000];
         let best = (0..TURNS).map(|_| milliseconds(|| { black_box(unsafe { rafenuma_admit(code.as_ptr(), size, kinds.as_mut_ptr()) }); })).fold(f64::MAX, f64::min);
