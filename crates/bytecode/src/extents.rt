@@ -49,21 +49,19 @@ fn data_size(code: &[u8], at: usize) -> usize
     0
 }
 
-// How many bytes of operands follow an opcode: what the table says, told by tests, for a run, which would make the table anew at each instruction.
+// How many bytes of operands follow an opcode, by the table. M_STI, M_ST and M_MUTA are told first: the table is built anew at each call, and a run of
+// them would wait for it.
 fn operand_size(op: u8) -> usize
     ensures { λ r. ⌜ (r ≡ operand-size op) × (r < 256) ⌝ }
 {
     match op {
-        0x01 => 4,
-        0x03 => 1,
-        0x04 => 2,
-        0x05 => 1,
-        0x06 => 1,
-        0x1A => 4,
         0x1B => 4,
         0x1C => 1,
-        0x1E => 4,
-        _ => 0,
+        0x1D => 0,
+        _ => {
+            let sizes = operand_sizes();
+            wide(sizes[op as usize]) as usize
+        }
     }
 }
 
