@@ -1,59 +1,17 @@
 // Creation: its tests, the program as the pool's first entry, the image's tasks.
 ghost use mathlib.Core.Path.{_≡_};
 ghost use Rattle.vm.specs.declared.CreateResult.the-variants.{NotCreated};
-ghost use Rattle.vm.specs.Creation.{new-machine, prepared, unfit, prepare, created, made, create};
+ghost use Rattle.vm.specs.Creation.{prepared, unfit, prepare, created, made, create};
 use core::Machine;
-use core::Phase;
 use creation::CreationResult;
 use creation::creation_tests;
 use errors::Refusal;
-use inlinevec::Frame;
-use inlinevec::Frames;
-use inlinevec::Loop;
-use inlinevec::Loops;
-use pools::InstructionsRef;
 use pools::InternResult;
 use storage::Task;
 use tables::InUse;
 use vm::CreateResult;
 use vm::Prepared;
-
-// A machine that has not run, with so many bytes and entries in its pool.
-fn new_machine(bytes: usize, entries: usize, next_id: u32, count: u32) -> Machine
-    ensures { λ r. ⌜ r ≡ new-machine bytes entries «next_id» count ⌝ }
-{
-    let none = Loop {
-        place: 0,
-        index: 0,
-        limit: 0,
-    };
-    let main = Frame {
-        entry: InstructionsRef(0),
-        place: 0,
-    };
-    let loops = Loops {
-        count: 0,
-        outer: none,
-        inner: none,
-    };
-    let frames = Frames {
-        count: 1,
-        main,
-        task: main,
-    };
-    Machine {
-        phase: Phase::New,
-        height: 0,
-        loops,
-        frames,
-        memory: 0,
-        pool: bytes,
-        entries,
-        next_id,
-        count,
-        saved: 0,
-    }
-}
+use vm::machines::new_machine;
 
 // A creation that is refused.
 fn unfit(refusal: Refusal) -> Prepared

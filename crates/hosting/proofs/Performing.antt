@@ -13,11 +13,11 @@ use Rattle.vm.specs.declared.CreateResult.{CreateResult}
 use Rattle.vm.specs.declared.Report.{Report}
 use Rattle.vm.specs.declared.SaveReport.{SaveReport}
 use Rattle.vm.specs.Calls.{reported, start}
-use Rattle.vm.specs.Creation.{made, create}
+use Rattle.vm.specs.Creation.{machine-of, made, create}
 use Rattle.vm.specs.Reads.{saved-to, host-save}
 use Rattle.hosting.specs.declared.Performed.{Performed}
 use Rattle.hosting.specs.Lines.{task-lines}
-use Rattle.hosting.specs.Hosting.{machine-of, to-save, performed, PerformedIn, performed-in, with-lines, with-save, with-run, with-creation, perform, owned, without-table, blank-table, own}
+use Rattle.hosting.specs.Hosting.{to-save, performed, PerformedIn, performed-in, with-lines, with-save, with-run, with-creation, perform, owned, without-table, blank-table, own}
 
 -- creation, start, save and the lines of the tasks
 pub performs : (fuel : ℕ) (table : List Task) (stack memory pool ends save image program lines : List ℕ)

@@ -9,7 +9,6 @@ use Rattle.text.specs.Lines.{Lined}
 use Rattle.listing.specs.declared.Head.{Head}
 use Rattle.listing.specs.declared.Head.the-variants as head
 use Rattle.core.specs.declared.Machine.{Machine}
-use Rattle.core.specs.declared.Phase.the-variants.{Stopped}
 use Rattle.calls.specs.Machines.{with-ids}
 use Rattle.calls.specs.declared.Outcome.{Outcome}
 use Rattle.calls.specs.declared.Outcome.the-variants.{Done, Paused, Refused}
@@ -18,22 +17,13 @@ use Rattle.vm.specs.declared.CreateResult.{CreateResult}
 use Rattle.vm.specs.declared.CreateResult.the-variants.{Created, NotCreated}
 use Rattle.vm.specs.declared.Report.{Report}
 use Rattle.vm.specs.declared.SaveReport.{SaveReport}
-use Rattle.vm.specs.Calls.{phased, Reported, start}
-use Rattle.vm.specs.Creation.{new-machine, Made, create}
+use Rattle.vm.specs.Calls.{Reported, start}
+use Rattle.vm.specs.Creation.{machine-of, Made, create}
 use Rattle.vm.specs.Reads.{SavedTo, host-save}
 use Rattle.hosting.specs.Lines.{task-lines}
 use Rattle.hosting.specs.declared.Performed.{Performed}
 
 -- ---- between the calls
-
--- a machine that does not start
-abbrev pub stopped : Machine
-stopped = phased (new-machine 0 0 0 0) Stopped
-
--- the machine that is started: one that is stopped, if none was created
-unfoldable pub machine-of : CreateResult → Machine
-machine-of (Created machine) = machine
-machine-of (NotCreated refusal) = stopped
 
 -- a machine that no save takes: its next id is above 256
 abbrev pub unsavable : Machine → Machine

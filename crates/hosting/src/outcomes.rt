@@ -1,67 +1,14 @@
 // What a creation, a run and a save come to, between the calls of the machine.
 ghost use mathlib.Core.Path.{_≡_};
-ghost use Rattle.hosting.specs.Hosting.{stopped, machine-of, unsavable, to-save, head-of, height-of, performed};
+ghost use Rattle.hosting.specs.Hosting.{unsavable, to-save, head-of, height-of, performed};
 use crate::Performed;
 use calls::Outcome;
 use core::Machine;
-use core::Phase;
-use inlinevec::Frame;
-use inlinevec::Frames;
-use inlinevec::Loop;
-use inlinevec::Loops;
 use listing::Head;
-use pools::InstructionsRef;
 use text::LineResult;
 use vm::CreateResult;
 use vm::Report;
 use vm::SaveReport;
-
-// A machine that does not start.
-fn stopped() -> Machine
-    ensures { λ r. ⌜ r ≡ stopped ⌝ }
-{
-    let none = Loop {
-        place: 0,
-        index: 0,
-        limit: 0,
-    };
-    let main = Frame {
-        entry: InstructionsRef(0),
-        place: 0,
-    };
-    let loops = Loops {
-        count: 0,
-        outer: none,
-        inner: none,
-    };
-    let frames = Frames {
-        count: 1,
-        main,
-        task: main,
-    };
-    Machine {
-        phase: Phase::Stopped,
-        height: 0,
-        loops,
-        frames,
-        memory: 0,
-        pool: 0,
-        entries: 0,
-        next_id: 0,
-        count: 0,
-        saved: 0,
-    }
-}
-
-// The machine that is started: one that is stopped, if none was created.
-pub(crate) fn machine_of(creation: CreateResult) -> Machine
-    ensures { λ r. ⌜ r ≡ machine-of creation ⌝ }
-{
-    match creation {
-        CreateResult::Created(machine) => machine,
-        CreateResult::NotCreated(_) => stopped(),
-    }
-}
 
 // A machine that no save takes: its next id is above 256.
 fn unsavable(machine: Machine) -> Machine

@@ -3,11 +3,11 @@ ghost use mathlib.Core.Path.{_≡_};
 ghost use Rattle.hosting.specs.Hosting.{performed-in, perform, owned, own};
 use crate::Performed;
 use crate::lines::put_tasks;
-use crate::outcomes::machine_of;
 use crate::outcomes::performed;
 use crate::outcomes::to_save;
 use storage::Task;
 use vm::Verb;
+use vm::machines::machine_of;
 
 // Creates a machine over an image's tasks, starts it, saves it where the run was not refused, and lists its tasks.
 fn perform(

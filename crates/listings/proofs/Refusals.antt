@@ -21,10 +21,10 @@ use Rattle.vm.specs.declared.Allowed.{Allowed}
 use Rattle.vm.specs.Sound.{sound-record, sound-world}
 use Rattle.vm.specs.declared.Verb.the-variants.{Start}
 use Rattle.vm.specs.Calls.{may-start, allowed, not-allowed, Reported, reports, is-sound, call-with, call, start}
-use Rattle.vm.specs.Creation.{PreparedIn, prepare-fit, prepare, Made, create-as, create}
+use Rattle.vm.specs.Creation.{PreparedIn, prepare-fit, prepare, Made, create-as, create, stopped, machine-of}
 use Rattle.vm.specs.Reads.{saved-to, not-saved, host-save}
 use Rattle.hosting.specs.Lines.{task-lines}
-use Rattle.hosting.specs.Hosting.{stopped, machine-of, unsavable, saving, with-lines, with-save, with-run, with-creation, perform, blank-table, own}
+use Rattle.hosting.specs.Hosting.{unsavable, saving, with-lines, with-save, with-run, with-creation, perform, blank-table, own}
 
 -- ---- the image and the program
 

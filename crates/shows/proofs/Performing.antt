@@ -16,10 +16,10 @@ use Rattle.vm.specs.declared.Report.{Report}
 use Rattle.vm.specs.declared.SaveReport.{SaveReport}
 use Rattle.vm.specs.declared.Verb.{Verb}
 use Rattle.vm.specs.Calls.{Reported, reported, call}
-use Rattle.vm.specs.Creation.{made, create}
+use Rattle.vm.specs.Creation.{machine-of, made, create}
 use Rattle.vm.specs.Reads.{SavedTo, saved-to, host-save}
 use Rattle.printing.specs.declared.Answered.{Answered}
-use Rattle.shows.specs.Asked.{verb-at, fuel-at, verb-of, ran, saved, machine-of, count-of}
+use Rattle.shows.specs.Asked.{verb-at, fuel-at, verb-of, ran, saved, count-of}
 use Rattle.shows.specs.Shows.{Acted, acted, as-run, as-save, performed, left, after-call, after-calls, lent, without-table, played, blank-table, own}
 
 -- ---- one call

@@ -10,7 +10,6 @@ use Rattle.image.specs.declared.SaveResult.the-variants.{Saved, NotSaved}
 use Rattle.listing.specs.declared.Head.{Head}
 use Rattle.listing.specs.declared.Head.the-variants as head
 use Rattle.core.specs.declared.Machine.{Machine}
-use Rattle.core.specs.declared.Phase.the-variants.{Stopped}
 use Rattle.calls.specs.declared.Outcome.{Outcome}
 use Rattle.calls.specs.declared.Outcome.the-variants.{Done, Paused, Refused}
 use Rattle.vm.specs.declared.CreateResult.{CreateResult}
@@ -19,8 +18,6 @@ use Rattle.vm.specs.declared.Report.{Report}
 use Rattle.vm.specs.declared.SaveReport.{SaveReport}
 use Rattle.vm.specs.declared.Verb.{Verb}
 use Rattle.vm.specs.declared.Verb.the-variants.{Start, Continue}
-use Rattle.vm.specs.Calls.{phased}
-use Rattle.vm.specs.Creation.{new-machine}
 use Rattle.printing.specs.declared.Answered.{Answered}
 
 -- ---- calls as bytes
@@ -64,15 +61,6 @@ unfoldable pub saved : SaveReport → Answered
 saved report = answered (report .machine) (kept (report .result))
 
 -- ---- before the first call
-
--- a machine that does not start
-abbrev pub stopped : Machine
-stopped = phased (new-machine 0 0 0 0) Stopped
-
--- the machine that was created; one that is stopped, if none was
-unfoldable pub machine-of : CreateResult → Machine
-machine-of (Created machine) = machine
-machine-of (NotCreated refusal) = stopped
 
 -- how many calls are performed: none without a machine
 unfoldable pub count-of : CreateResult → ℕ → ℕ

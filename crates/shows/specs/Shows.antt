@@ -8,10 +8,10 @@ use Rattle.storage.specs.declared.Task.{Task}
 use Rattle.storage.specs.Tasks.{blank}
 use Rattle.runs.specs.World.{World, world}
 use Rattle.vm.specs.Calls.{Reported, call}
-use Rattle.vm.specs.Creation.{Made, create}
+use Rattle.vm.specs.Creation.{machine-of, Made, create}
 use Rattle.vm.specs.Reads.{SavedTo, host-save}
 use Rattle.printing.specs.declared.Answered.{Answered}
-use Rattle.shows.specs.Asked.{verb-at, fuel-at, verb-of, ran, saved, machine-of, count-of}
+use Rattle.shows.specs.Asked.{verb-at, fuel-at, verb-of, ran, saved, count-of}
 
 -- ---- one call
 

@@ -4,17 +4,11 @@ ghost use Prim.Native.Nat.{_<_};
 ghost use lib.ListN.{getD};
 ghost use Rattle.storage.specs.Tasks.{after};
 ghost use Rattle.image.specs.Numbers.{number-at};
-ghost use Rattle.shows.specs.Asked.{call-at, verb-at, fuel-at, verb-of, ended, ran, kept, saved, stopped, machine-of, count-of};
+ghost use Rattle.shows.specs.Asked.{call-at, verb-at, fuel-at, verb-of, ended, ran, kept, saved, count-of};
 use calls::Outcome;
 use core::Machine;
-use core::Phase;
 use image::SaveResult;
-use inlinevec::Frame;
-use inlinevec::Frames;
-use inlinevec::Loop;
-use inlinevec::Loops;
 use listing::Head;
-use pools::InstructionsRef;
 use printing::Answered;
 use vm::CreateResult;
 use vm::Report;
@@ -139,53 +133,6 @@ pub(crate) fn machine_after(answered: Answered) -> Machine
     ensures { λ r. ⌜ r ≡ answered .machine ⌝ }
 {
     answered.machine
-}
-
-// A machine that does not start.
-fn stopped() -> Machine
-    ensures { λ r. ⌜ r ≡ stopped ⌝ }
-{
-    let none = Loop {
-        place: 0,
-        index: 0,
-        limit: 0,
-    };
-    let main = Frame {
-        entry: InstructionsRef(0),
-        place: 0,
-    };
-    let loops = Loops {
-        count: 0,
-        outer: none,
-        inner: none,
-    };
-    let frames = Frames {
-        count: 1,
-        main,
-        task: main,
-    };
-    Machine {
-        phase: Phase::Stopped,
-        height: 0,
-        loops,
-        frames,
-        memory: 0,
-        pool: 0,
-        entries: 0,
-        next_id: 0,
-        count: 0,
-        saved: 0,
-    }
-}
-
-// The machine that was created; one that is stopped, if none was.
-pub(crate) fn machine_of(creation: CreateResult) -> Machine
-    ensures { λ r. ⌜ r ≡ machine-of creation ⌝ }
-{
-    match creation {
-        CreateResult::Created(machine) => machine,
-        CreateResult::NotCreated(_) => stopped(),
-    }
 }
 
 // How many calls are performed: none without a machine.

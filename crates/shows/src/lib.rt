@@ -4,24 +4,26 @@ ghost use Rattle.storage.specs.Tasks.{after};
 ghost use Rattle.runs.specs.World.{world};
 ghost use Rattle.shows.specs.Shows.{acted, performed, after-call, after-calls, lent, own};
 
+mod answer_lines;
 mod asked;
+mod machine_lines;
 
+use crate::answer_lines::show_answer;
 use crate::asked::count_of;
 use crate::asked::fuel_at;
 use crate::asked::machine_after;
-use crate::asked::machine_of;
 use crate::asked::ran;
 use crate::asked::saved;
 use crate::asked::verb_at;
 use crate::asked::verb_of;
-use answer_lines::show_answer;
+use crate::machine_lines::show_machine;
 use core::Machine;
-use machine_lines::show_machine;
 use printing::Answered;
 use printing::show_count;
 use printing::show_creation;
 use printing::show_task;
 use storage::Task;
+use vm::machines::machine_of;
 
 // The tasks, by id.
 fn show_tasks(table: &mut [Task])

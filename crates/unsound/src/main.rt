@@ -1,18 +1,14 @@
 // Starts machines whose record, table or pool was forged, one to a part of 26, and prints what each start answers; the first is honest.
 use calls::Outcome;
 use core::Machine;
-use core::Phase;
 use inlinevec::Frame;
-use inlinevec::Frames;
-use inlinevec::Loop;
-use inlinevec::Loops;
 use libc::STDOUT_FILENO;
 use pools::InstructionsRef;
 use storage::Task;
 use storage::TaskId;
-use vm::CreateResult;
 use vm::Report;
 use vm::Verb;
+use vm::machines::machine_of;
 
 // Room for the stack.
 fn stack_room() -> [u64; 1000] {
@@ -63,49 +59,6 @@ fn one_task() -> [u8; 30] {
         65u8,
         98u8,
     ]
-}
-
-// A machine that does not start.
-fn stopped() -> Machine {
-    let none = Loop {
-        place: 0,
-        index: 0,
-        limit: 0,
-    };
-    let main = Frame {
-        entry: InstructionsRef(0),
-        place: 0,
-    };
-    let loops = Loops {
-        count: 0,
-        outer: none,
-        inner: none,
-    };
-    let frames = Frames {
-        count: 1,
-        main,
-        task: main,
-    };
-    Machine {
-        phase: Phase::Stopped,
-        height: 0,
-        loops,
-        frames,
-        memory: 0,
-        pool: 0,
-        entries: 0,
-        next_id: 0,
-        count: 0,
-        saved: 0,
-    }
-}
-
-// The machine that was created.
-fn machine_of(creation: CreateResult) -> Machine {
-    match creation {
-        CreateResult::Created(machine) => machine,
-        CreateResult::NotCreated(_) => stopped(),
-    }
 }
 
 // Lengths above their capacity or their buffer: values, loops, memory, the pool, its entries, the saved image.

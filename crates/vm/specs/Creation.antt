@@ -19,8 +19,9 @@ use Rattle.creation.specs.declared.CreationResult.the-variants.{Fit, Unfit}
 use Rattle.inlinevec.specs.declared.Loop.{Loop}
 use Rattle.inlinevec.specs.declared.Frame.{Frame}
 use Rattle.core.specs.declared.Machine.{Machine}
-use Rattle.core.specs.declared.Phase.the-variants.{New}
+use Rattle.core.specs.declared.Phase.the-variants.{New, Stopped}
 use Rattle.calls.specs.Machines.{with-pool}
+use Rattle.vm.specs.Calls.{phased}
 use Rattle.vm.specs.declared.CreateResult.{CreateResult}
 use Rattle.vm.specs.declared.CreateResult.the-variants.{Created, NotCreated}
 use Rattle.vm.specs.declared.Prepared.{Prepared}
@@ -114,3 +115,14 @@ create-as table p =
 -- creation
 unfoldable pub create : List Task → List ℕ → List ℕ → List ℕ → List ℕ → Made
 create table pool ends image program = create-as table (prepare pool ends image program (length table))
+
+-- ---- after it
+
+-- a machine that does not start
+abbrev pub stopped : Machine
+stopped = phased (new-machine 0 0 0 0) Stopped
+
+-- the machine that was created; one that does not start, if none was
+unfoldable pub machine-of : CreateResult → Machine
+machine-of (Created machine) = machine
+machine-of (NotCreated refusal) = stopped

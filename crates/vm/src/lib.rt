@@ -1,4 +1,6 @@
 // What the calls of a host answer: creation, start and continue, the reads, the save.
+pub mod machines;
+
 use calls::Outcome;
 use core::Machine;
 use errors::Refusal;

@@ -7,7 +7,7 @@ use Rattle.creating.proofs.prepare.Reads as reads
 use Rattle.creating.proofs.prepare.Lts as lts
 use Rattle.creation.proofs.creation_tests.Reads as creation-tests-reads
 use Rattle.interning.proofs.intern_instructions.Reads as intern-instructions-reads
-use Rattle.creating.proofs.new_machine.Reads as new-machine-reads
+use Rattle.vm.proofs.machines.new_machine.Reads as new-machine-reads
 use Rattle.creating.proofs.unfit.Reads as unfit-reads
 
 creation-tests-requires : tie.Need-creation-tests-requires

@@ -5,7 +5,7 @@ use Rattle.creating.proofs.unfit.Statement.{statement}
 use Rattle.creating.proofs.unfit.Tie as tie
 use Rattle.creating.proofs.unfit.Reads as reads
 use Rattle.creating.proofs.unfit.Lts as lts
-use Rattle.creating.proofs.new_machine.Reads as new-machine-reads
+use Rattle.vm.proofs.machines.new_machine.Reads as new-machine-reads
 
 new-machine-requires : tie.Need-new-machine-requires
 new-machine-requires c κs = search needs

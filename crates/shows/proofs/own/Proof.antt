@@ -54,10 +54,10 @@ use Rattle.storage.proofs.Records.{R, typed}
 use Rattle.core.proofs.Machine as machine
 use Rattle.runs.specs.World.{world}
 use Rattle.runs.proofs.Values.{machine-shut, machine-vals}
-use Rattle.vm.specs.Creation.{made, create as create-of}
+use Rattle.vm.specs.Creation.{machine-of, made, create as create-of}
 use Rattle.vm.proofs.CreateResult as created
 use Rattle.vm.proofs.Values.{created-shut, created-vals}
-use Rattle.shows.specs.Asked.{machine-of, count-of}
+use Rattle.shows.specs.Asked.{count-of}
 use Rattle.shows.specs.Shows.{after-calls, lent as lent-of, own as own-of}
 use Rattle.shows.proofs.Performing.{owns-it}
 use Rattle.owned.proofs.Owned.{held-at, all-typed, array-in, lend-array, comes-back}
@@ -73,10 +73,10 @@ use Rattle.printing.proofs.show_creation.Symbol.{name as #shows-creation}
 use Rattle.printing.proofs.show_creation as shows-creation
 use Rattle.printing.proofs.show_creation.Symbol as shows-creation-def
 use Rattle.printing.proofs.show_creation.Met as shows-creation-thm
-use Rattle.shows.proofs.asked.machine_of.Symbol.{name as #begins}
-use Rattle.shows.proofs.asked.machine_of as begins
-use Rattle.shows.proofs.asked.machine_of.Symbol as begins-def
-use Rattle.shows.proofs.asked.machine_of.Met as begins-thm
+use Rattle.vm.proofs.machines.machine_of.Symbol.{name as #begins}
+use Rattle.vm.proofs.machines.machine_of as begins
+use Rattle.vm.proofs.machines.machine_of.Symbol as begins-def
+use Rattle.vm.proofs.machines.machine_of.Met as begins-thm
 use Rattle.shows.proofs.asked.count_of.Symbol.{name as #allows}
 use Rattle.shows.proofs.asked.count_of as allows
 use Rattle.shows.proofs.asked.count_of.Symbol as allows-def
@@ -276,6 +276,6 @@ own-spec 𝓤 H 𝓜 𝓖 𝓡 =
     (cited 𝓤 H (blanks-con 𝓤 H (𝓖 .A) (𝓜 .mem) (𝓡 .run)) 𝓜 𝓡 code.env #blanks blanks-def.routine code.calls-storage·task-types·blank (blanks-thm.met 𝓤 H 𝓜 𝓖 𝓡))
     (cited 𝓤 H (creates-con 𝓤 H (𝓖 .A) (𝓜 .mem) (𝓡 .run)) 𝓜 𝓡 code.env #creates creates-def.routine code.calls-creating·create (creates-thm.met 𝓤 H 𝓜 𝓖 𝓡))
     (cited 𝓤 H (shows-creation-con 𝓤 H (𝓖 .A) (𝓜 .mem) (𝓡 .run)) 𝓜 𝓡 code.env #shows-creation shows-creation-def.routine code.calls-printing·show-creation (shows-creation-thm.met 𝓤 H 𝓜 𝓖 𝓡))
-    (cited 𝓤 H (begins-con 𝓤 H (𝓖 .A) (𝓜 .mem) (𝓡 .run)) 𝓜 𝓡 code.env #begins begins-def.routine code.calls-shows·asked·machine-of (begins-thm.met 𝓤 H 𝓜 𝓖 𝓡))
+    (cited 𝓤 H (begins-con 𝓤 H (𝓖 .A) (𝓜 .mem) (𝓡 .run)) 𝓜 𝓡 code.env #begins begins-def.routine code.calls-vm·machines·machine-of (begins-thm.met 𝓤 H 𝓜 𝓖 𝓡))
     (cited 𝓤 H (allows-con 𝓤 H (𝓖 .A) (𝓜 .mem) (𝓡 .run)) 𝓜 𝓡 code.env #allows allows-def.routine code.calls-shows·asked·count-of (allows-thm.met 𝓤 H 𝓜 𝓖 𝓡))
     (cited 𝓤 H (plays-con 𝓤 H (𝓖 .A) (𝓜 .mem) (𝓡 .run)) 𝓜 𝓡 code.env #plays plays-def.routine code.calls-shows·play (plays-thm.met 𝓤 H 𝓜 𝓖 𝓡)))

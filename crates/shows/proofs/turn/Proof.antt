@@ -68,18 +68,18 @@ use Rattle.shows.proofs.act.Symbol.{name as #acts}
 use Rattle.shows.proofs.act as acts
 use Rattle.shows.proofs.act.Symbol as acts-def
 use Rattle.shows.proofs.act.Met as acts-thm
-use Rattle.answer_lines.proofs.show_answer.Symbol.{name as #shows-answer}
-use Rattle.answer_lines.proofs.show_answer as shows-answer
-use Rattle.answer_lines.proofs.show_answer.Symbol as shows-answer-def
-use Rattle.answer_lines.proofs.show_answer.Met as shows-answer-thm
+use Rattle.shows.proofs.answer_lines.show_answer.Symbol.{name as #shows-answer}
+use Rattle.shows.proofs.answer_lines.show_answer as shows-answer
+use Rattle.shows.proofs.answer_lines.show_answer.Symbol as shows-answer-def
+use Rattle.shows.proofs.answer_lines.show_answer.Met as shows-answer-thm
 use Rattle.shows.proofs.show_tasks.Symbol.{name as #shows-tasks}
 use Rattle.shows.proofs.show_tasks as shows-tasks
 use Rattle.shows.proofs.show_tasks.Symbol as shows-tasks-def
 use Rattle.shows.proofs.show_tasks.Met as shows-tasks-thm
-use Rattle.machine_lines.proofs.show_machine.Symbol.{name as #shows-machine}
-use Rattle.machine_lines.proofs.show_machine as shows-machine
-use Rattle.machine_lines.proofs.show_machine.Symbol as shows-machine-def
-use Rattle.machine_lines.proofs.show_machine.Met as shows-machine-thm
+use Rattle.shows.proofs.machine_lines.show_machine.Symbol.{name as #shows-machine}
+use Rattle.shows.proofs.machine_lines.show_machine as shows-machine
+use Rattle.shows.proofs.machine_lines.show_machine.Symbol as shows-machine-def
+use Rattle.shows.proofs.machine_lines.show_machine.Met as shows-machine-thm
 use Rattle.shows.proofs.asked.machine_after.Symbol.{name as #machine-after}
 use Rattle.shows.proofs.asked.machine_after as machine-after
 use Rattle.shows.proofs.asked.machine_after.Symbol as machine-after-def
@@ -301,7 +301,7 @@ turn-spec 𝓤 H 𝓜 𝓖 𝓡 =
     (cited 𝓤 H (verbs-con 𝓤 H (𝓖 .A) (𝓜 .mem) (𝓡 .run)) 𝓜 𝓡 code.env #verbs verbs-def.routine code.calls-shows·asked·verb-at (verbs-thm.met 𝓤 H 𝓜 𝓖 𝓡))
     (cited 𝓤 H (fuels-con 𝓤 H (𝓖 .A) (𝓜 .mem) (𝓡 .run)) 𝓜 𝓡 code.env #fuels fuels-def.routine code.calls-shows·asked·fuel-at (fuels-thm.met 𝓤 H 𝓜 𝓖 𝓡))
     (cited 𝓤 H (acts-con 𝓤 H (𝓖 .A) (𝓜 .mem) (𝓡 .run)) 𝓜 𝓡 code.env #acts acts-def.routine code.calls-shows·act (acts-thm.met 𝓤 H 𝓜 𝓖 𝓡))
-    (cited 𝓤 H (shows-answer-con 𝓤 H (𝓖 .A) (𝓜 .mem) (𝓡 .run)) 𝓜 𝓡 code.env #shows-answer shows-answer-def.routine code.calls-answer-lines·show-answer (shows-answer-thm.met 𝓤 H 𝓜 𝓖 𝓡))
+    (cited 𝓤 H (shows-answer-con 𝓤 H (𝓖 .A) (𝓜 .mem) (𝓡 .run)) 𝓜 𝓡 code.env #shows-answer shows-answer-def.routine code.calls-shows·answer-lines·show-answer (shows-answer-thm.met 𝓤 H 𝓜 𝓖 𝓡))
     (cited 𝓤 H (shows-tasks-con 𝓤 H (𝓖 .A) (𝓜 .mem) (𝓡 .run)) 𝓜 𝓡 code.env #shows-tasks shows-tasks-def.routine code.calls-shows·show-tasks (shows-tasks-thm.met 𝓤 H 𝓜 𝓖 𝓡))
-    (cited 𝓤 H (shows-machine-con 𝓤 H (𝓖 .A) (𝓜 .mem) (𝓡 .run)) 𝓜 𝓡 code.env #shows-machine shows-machine-def.routine code.calls-machine-lines·show-machine (shows-machine-thm.met 𝓤 H 𝓜 𝓖 𝓡))
+    (cited 𝓤 H (shows-machine-con 𝓤 H (𝓖 .A) (𝓜 .mem) (𝓡 .run)) 𝓜 𝓡 code.env #shows-machine shows-machine-def.routine code.calls-shows·machine-lines·show-machine (shows-machine-thm.met 𝓤 H 𝓜 𝓖 𝓡))
     (cited 𝓤 H (machine-after-con 𝓤 H (𝓖 .A) (𝓜 .mem) (𝓡 .run)) 𝓜 𝓡 code.env #machine-after machine-after-def.routine code.calls-shows·asked·machine-after (machine-after-thm.met 𝓤 H 𝓜 𝓖 𝓡)))

@@ -57,11 +57,11 @@ use Rattle.vm.proofs.SaveReport as save-report
 use Rattle.vm.proofs.CreateResult as created
 use Rattle.vm.proofs.Values.{verb-shut, start-val, start-typed, report-shut, report-vals, save-report-shut, save-report-vals, created-shut, created-vals, start-is}
 use Rattle.vm.specs.Calls.{reported, start as start-of}
-use Rattle.vm.specs.Creation.{made, create as create-of}
+use Rattle.vm.specs.Creation.{machine-of, made, create as create-of}
 use Rattle.vm.specs.Reads.{saved-to, host-save}
 use Rattle.hosting.specs.declared.Performed.{Performed}
 use Rattle.hosting.specs.Lines.{task-lines}
-use Rattle.hosting.specs.Hosting.{machine-of, to-save, performed-in, perform}
+use Rattle.hosting.specs.Hosting.{to-save, performed-in, perform}
 use Rattle.hosting.specs.Hosting.{performed as performed-of}
 use Rattle.hosting.proofs.Performed as performed
 use Rattle.hosting.proofs.Values.{line-shut, line-vals, performed-shut, performed-vals}
@@ -70,10 +70,10 @@ use Rattle.creating.proofs.create.Symbol.{name as #creates}
 use Rattle.creating.proofs.create as creates
 use Rattle.creating.proofs.create.Symbol as creates-def
 use Rattle.creating.proofs.create.Met as creates-thm
-use Rattle.hosting.proofs.outcomes.machine_of.Symbol.{name as #begins}
-use Rattle.hosting.proofs.outcomes.machine_of as begins
-use Rattle.hosting.proofs.outcomes.machine_of.Symbol as begins-def
-use Rattle.hosting.proofs.outcomes.machine_of.Met as begins-thm
+use Rattle.vm.proofs.machines.machine_of.Symbol.{name as #begins}
+use Rattle.vm.proofs.machines.machine_of as begins
+use Rattle.vm.proofs.machines.machine_of.Symbol as begins-def
+use Rattle.vm.proofs.machines.machine_of.Met as begins-thm
 use Rattle.calling.proofs.call.Symbol.{name as #starts}
 use Rattle.calling.proofs.call as starts
 use Rattle.calling.proofs.call.Symbol as starts-def
@@ -324,7 +324,7 @@ perform-spec 𝓤 H 𝓜 𝓖 𝓡 =
     (tables 𝓤 H 𝓜 𝓡 code.env .C) (tables 𝓤 H 𝓜 𝓡 code.env .Λ) #this code.function (code.unfolded 𝓤 H 𝓜 𝓡)
     (meets 𝓤 H (𝓖 .A) (givenOf 𝓤 H 𝓜 𝓖) (𝓜 .mem) (𝓡 .run) (tablesOf 𝓤 H 𝓜 (tables 𝓤 H 𝓜 𝓡 code.env))
     (cited 𝓤 H (creates-con 𝓤 H (𝓖 .A) (𝓜 .mem) (𝓡 .run)) 𝓜 𝓡 code.env #creates creates-def.routine code.calls-creating·create (creates-thm.met 𝓤 H 𝓜 𝓖 𝓡))
-    (cited 𝓤 H (begins-con 𝓤 H (𝓖 .A) (𝓜 .mem) (𝓡 .run)) 𝓜 𝓡 code.env #begins begins-def.routine code.calls-hosting·outcomes·machine-of (begins-thm.met 𝓤 H 𝓜 𝓖 𝓡))
+    (cited 𝓤 H (begins-con 𝓤 H (𝓖 .A) (𝓜 .mem) (𝓡 .run)) 𝓜 𝓡 code.env #begins begins-def.routine code.calls-vm·machines·machine-of (begins-thm.met 𝓤 H 𝓜 𝓖 𝓡))
     (cited 𝓤 H (starts-con 𝓤 H (𝓖 .A) (𝓜 .mem) (𝓡 .run)) 𝓜 𝓡 code.env #starts starts-def.routine code.calls-calling·call (starts-thm.met 𝓤 H 𝓜 𝓖 𝓡))
     (cited 𝓤 H (chooses-con 𝓤 H (𝓖 .A) (𝓜 .mem) (𝓡 .run)) 𝓜 𝓡 code.env #chooses chooses-def.routine code.calls-hosting·outcomes·to-save (chooses-thm.met 𝓤 H 𝓜 𝓖 𝓡))
     (cited 𝓤 H (saves-con 𝓤 H (𝓖 .A) (𝓜 .mem) (𝓡 .run)) 𝓜 𝓡 code.env #saves saves-def.routine code.calls-saving·save (saves-thm.met 𝓤 H 𝓜 𝓖 𝓡))

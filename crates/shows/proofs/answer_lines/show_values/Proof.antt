@@ -1,10 +1,10 @@
--- `answer_lines::show_values` meets its contract.
+-- `shows::answer_lines::show_values` meets its contract.
 use Prim.Native.Nat.{_-_, _≤_}
 use mathlib.Core.Path.{_≡_}
 use lib.ListN.{length}
 use borrow.Author.Needs.{needs}
-use Rattle.answer_lines.proofs.show_values.Statement.{statement}
-use Rattle.answer_lines.proofs.show_values.Tie as tie
+use Rattle.shows.proofs.answer_lines.show_values.Statement.{statement}
+use Rattle.shows.proofs.answer_lines.show_values.Tie as tie
 
 abbrev Inv-loop : tie.InvT-loop
 Inv-loop stack memory pool ends room₀ entries height position₀ room position = (position ≤ length stack) × (length room ≡ length room₀)

@@ -1,10 +1,10 @@
--- `machine_lines::show_hex` meets its contract.
+-- `shows::machine_lines::show_hex` meets its contract.
 use Prim.Native.Nat.{_-_, _≤_}
 use mathlib.Core.Path.{_≡_}
 use lib.ListN.{length}
 use borrow.Author.Needs.{needs}
-use Rattle.machine_lines.proofs.show_hex.Statement.{statement}
-use Rattle.machine_lines.proofs.show_hex.Tie as tie
+use Rattle.shows.proofs.machine_lines.show_hex.Statement.{statement}
+use Rattle.shows.proofs.machine_lines.show_hex.Tie as tie
 
 abbrev Inv-loop : tie.InvT-loop
 Inv-loop room₀ bytes at₀ room at = (at ≤ length bytes) × (length room ≡ length room₀)

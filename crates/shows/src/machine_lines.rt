@@ -72,7 +72,7 @@ fn show_image(image: &[u8]) {
 }
 
 // Where everything is shown: the machine after a call, its open loops and frames, its memory in use and the image.
-pub fn show_machine(memory: &mut [u8], save: &mut [u8], answered: Answered, everything: bool)
+pub(crate) fn show_machine(memory: &mut [u8], save: &mut [u8], answered: Answered, everything: bool)
     ensures { λ _. ⌜ (now (memory .exit) ≡ now (memory .entry)) × (now (save .exit) ≡ now (save .entry)) ⌝ }
 {
     if everything {

@@ -70,7 +70,7 @@ fn call_of(verb: u8, fuel: u64) -> Report {
 }
 
 // How a call ended, and its values; where everything is shown, the call before them.
-pub fn show_answer(
+pub(crate) fn show_answer(
     stack: &mut [u64; 1000],
     memory: &mut [u8],
     pool: &mut [u8],
