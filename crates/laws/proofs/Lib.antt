@@ -3,3 +3,4 @@ pub mod Fuel
 pub mod Phases
 pub mod Calls
 pub mod Living
+pub mod Unsound
