@@ -1,12 +1,12 @@
--- The cases of document 01, C1 to C12, and the order of T_CREATE's tests, as one table: each program run by its definition, each answer computed.
+-- The cases of document 01, C1 to C12, as one table, and beside it small programs for single instructions: each run by its definition, each answer computed.
 use Prim.Native.Nat.{ℕ}
 use mathlib.Core.Bool.{Bool, true, false}
 use mathlib.Core.List.{List, [], _∷_, _++_}
 use mathlib.Core.Path.{_≡_, refl}
 use lib.ListN.{length, replicate, take, getD}
-use Rattle.errors.specs.declared.Refusal.the-variants.{UnexpectedEOB, TypeMismatch, MultiplicationOverflowed, MaxStatesError, MSliceOutOfBounds}
+use Rattle.errors.specs.declared.Refusal.the-variants.{UnexpectedEOB, TypeMismatch, MultiplicationOverflowed, MaxStatesError, TaskNotFound, InvalidTaskField, InvalidStatus, MSliceOutOfBounds, SaveBufferTooShort}
 use Rattle.calls.specs.declared.Outcome.{Outcome}
-use Rattle.calls.specs.declared.Outcome.the-variants.{Done, Refused}
+use Rattle.calls.specs.declared.Outcome.the-variants.{Done, Paused, Refused}
 use Rattle.core.specs.declared.Machine.{Machine}
 use Rattle.core.specs.declared.Phase.the-variants.{New}
 use Rattle.storage.specs.Tasks.{blank}
@@ -48,40 +48,28 @@ use Rattle.runs.specs.World as runs-world
 use Rattle.runs.specs.Step as runs-step
 use Rattle.runs.specs.Run as runs-run
 use Rattle.slices.specs.Same as slices-same
-
--- a machine for a program and no tasks, lent 64 bytes of memory
-abbrev fresh : List ℕ → World
-fresh program =
-    world (record {
-      phase = New;
-      height = 0;
-      loops = record { count = 0; outer = record { place = 0; index = 0; limit = 0 }; inner = record { place = 0; index = 0; limit = 0 } };
-      frames = record { count = 1; main = record { entry = record { 0 = 0 }; place = 0 }; task = record { entry = record { 0 = 0 }; place = 0 } };
-      memory = 0;
-      pool = length program;
-      entries = 1;
-      «next_id» = 0;
-      count = 0;
-      saved = 0;
-    }) (replicate 256 blank) (replicate 1000 0) (replicate 64 0) (program ++ replicate 16 0) (length program ∷ replicate 1023 0) []
-
--- the end of a run of it
-abbrev after : List ℕ → End
-after program = run 100 (fresh program)
+use Rattle.image.specs.Image as image-image
+use Rattle.image.specs.Numbers as image-numbers
+use Rattle.image.specs.Slots as image-slots
+use Rattle.image.specs.Table as image-table
+use Rattle.image.specs.Writing as image-writing
+use Rattle.image.specs.Reading as image-reading
+use Rattle.utf8.specs.Grammar as utf8-grammar
+use Rattle.utf8.specs.Utf8 as utf8-utf8
 
 -- 01 00000000 01 00000005 0e 01 00000063 0f
 abbrev C1 : List ℕ
 C1 = 0x01 ∷ 0x00 ∷ 0x00 ∷ 0x00 ∷ 0x00 ∷ 0x01 ∷ 0x00 ∷ 0x00 ∷ 0x00 ∷ 0x05 ∷ 0x0e ∷ 0x01 ∷ 0x00 ∷ 0x00 ∷ 0x00 ∷ 0x63 ∷ 0x0f ∷ []
 
--- 1b 0001 04 01 611b 0006 06 0001 00000000 01 00000007 1d
+-- 1b 0001 04 01 61 1b 0006 06 00 01 00000000 01 00000007 1d
 abbrev C5-0 : List ℕ
 C5-0 = 0x1b ∷ 0x00 ∷ 0x01 ∷ 0x04 ∷ 0x01 ∷ 0x61 ∷ 0x1b ∷ 0x00 ∷ 0x06 ∷ 0x06 ∷ 0x00 ∷ 0x01 ∷ 0x00 ∷ 0x00 ∷ 0x00 ∷ 0x00 ∷ 0x01 ∷ 0x00 ∷ 0x00 ∷ 0x00 ∷ 0x07 ∷ 0x1d ∷ []
 
--- 1b 0001 04 01 611b 0006 06 0001 00000001 01 00000007 1d
+-- 1b 0001 04 01 61 1b 0006 06 00 01 00000001 01 00000007 1d
 abbrev C5-1 : List ℕ
 C5-1 = 0x1b ∷ 0x00 ∷ 0x01 ∷ 0x04 ∷ 0x01 ∷ 0x61 ∷ 0x1b ∷ 0x00 ∷ 0x06 ∷ 0x06 ∷ 0x00 ∷ 0x01 ∷ 0x00 ∷ 0x00 ∷ 0x00 ∷ 0x01 ∷ 0x01 ∷ 0x00 ∷ 0x00 ∷ 0x00 ∷ 0x07 ∷ 0x1d ∷ []
 
--- 1b 0001 04 01 611b 0006 06 0001 40000000 01 00000007 1d
+-- 1b 0001 04 01 61 1b 0006 06 00 01 40000000 01 00000007 1d
 abbrev C6 : List ℕ
 C6 = 0x1b ∷ 0x00 ∷ 0x01 ∷ 0x04 ∷ 0x01 ∷ 0x61 ∷ 0x1b ∷ 0x00 ∷ 0x06 ∷ 0x06 ∷ 0x00 ∷ 0x01 ∷ 0x40 ∷ 0x00 ∷ 0x00 ∷ 0x00 ∷ 0x01 ∷ 0x00 ∷ 0x00 ∷ 0x00 ∷ 0x07 ∷ 0x1d ∷ []
 
@@ -113,9 +101,77 @@ C10 = 0x01 ∷ 0x00 ∷ []
 abbrev C11 : List ℕ
 C11 = 0x01 ∷ 0x00 ∷ 0x00 ∷ 0x00 ∷ 0x01 ∷ 0x01 ∷ 0x00 ∷ 0x00 ∷ 0x00 ∷ 0x01 ∷ 0x16 ∷ 0x01 ∷ 0x00 ∷ 0x00 ∷ 0x00 ∷ 0x01 ∷ 0x01 ∷ 0x00 ∷ 0x00 ∷ 0x00 ∷ 0x02 ∷ 0x16 ∷ 0x16 ∷ []
 
+-- ---- programs for single instructions
+
 -- 06 00 04 0000 07
 abbrev No-title : List ℕ
 No-title = 0x06 ∷ 0x00 ∷ 0x04 ∷ 0x00 ∷ 0x00 ∷ 0x07 ∷ []
+
+-- 1b 0001 04 01 41 03 01 04 0000 07: task 0, "A", with 1 state and no instructions
+abbrev A : List ℕ
+A = 0x1b ∷ 0x00 ∷ 0x01 ∷ 0x04 ∷ 0x01 ∷ 0x41 ∷ 0x03 ∷ 0x01 ∷ 0x04 ∷ 0x00 ∷ 0x00 ∷ 0x07 ∷ []
+
+-- 03 00 05 03 08
+abbrev Field-3 : List ℕ
+Field-3 = 0x03 ∷ 0x00 ∷ 0x05 ∷ 0x03 ∷ 0x08 ∷ []
+
+-- 03 00 05 00 08
+abbrev Title : List ℕ
+Title = 0x03 ∷ 0x00 ∷ 0x05 ∷ 0x00 ∷ 0x08 ∷ []
+
+-- 03 01 03 00 05 01 09
+abbrev State-1 : List ℕ
+State-1 = 0x03 ∷ 0x01 ∷ 0x03 ∷ 0x00 ∷ 0x05 ∷ 0x01 ∷ 0x09 ∷ []
+
+-- 1b 0001 04 01 42 03 00 05 00 09
+abbrev Retitle : List ℕ
+Retitle = 0x1b ∷ 0x00 ∷ 0x01 ∷ 0x04 ∷ 0x01 ∷ 0x42 ∷ 0x03 ∷ 0x00 ∷ 0x05 ∷ 0x00 ∷ 0x09 ∷ []
+
+-- 03 00 11
+abbrev Call : List ℕ
+Call = 0x03 ∷ 0x00 ∷ 0x11 ∷ []
+
+-- 12 0d
+abbrev End-call : List ℕ
+End-call = 0x12 ∷ 0x0d ∷ []
+
+-- 1b 0000 04 01 03 01 04 0001 12 07: task 0, whose instructions are END_CALL
+abbrev Returning : List ℕ
+Returning = 0x1b ∷ 0x00 ∷ 0x00 ∷ 0x04 ∷ 0x01 ∷ 0x03 ∷ 0x01 ∷ 0x04 ∷ 0x00 ∷ 0x01 ∷ 0x12 ∷ 0x07 ∷ []
+
+-- 0b
+abbrev Save : List ℕ
+Save = 0x0b ∷ []
+
+-- 03 00 0a
+abbrev Delete : List ℕ
+Delete = 0x03 ∷ 0x00 ∷ 0x0a ∷ []
+
+-- ---- their runs
+
+-- a machine for a program and no tasks, lent 64 bytes of memory and a save buffer
+abbrev lent : List ℕ → List ℕ → World
+lent save program =
+    world (record {
+      phase = New;
+      height = 0;
+      loops = record { count = 0; outer = record { place = 0; index = 0; limit = 0 }; inner = record { place = 0; index = 0; limit = 0 } };
+      frames = record { count = 1; main = record { entry = record { 0 = 0 }; place = 0 }; task = record { entry = record { 0 = 0 }; place = 0 } };
+      memory = 0;
+      pool = length program;
+      entries = 1;
+      «next_id» = 0;
+      count = 0;
+      saved = 0;
+    }) (replicate 256 blank) (replicate 1000 0) (replicate 64 0) (program ++ replicate 16 0) (length program ∷ replicate 1023 0) save
+
+-- and one without a save buffer
+abbrev fresh : List ℕ → World
+fresh program = lent [] program
+
+-- the end of a run of it
+abbrev after : List ℕ → End
+after program = run 100 (fresh program)
 
 -- the table
 pub record Cases : Type 0 where
@@ -143,23 +199,71 @@ pub record Cases : Type 0 where
   pub c11 : after C11 .outcome ≡ Refused TypeMismatch
   -- image I1 loads
   pub c12 : read-image I1 ≡ sound Ab
+
+-- single instructions
+pub record Instructions : Type 0 where
+  -- at the code's end a run is done, without fuel too; before it, it is paused
+  pub at-the-end : (run 5 (fresh C1) .outcome ≡ Done) × (run 4 (fresh C1) .outcome ≡ Paused)
   -- T_CREATE with 0 states gives 8 before it looks for a title: there is none
   pub no-title : after No-title .outcome ≡ Refused MaxStatesError
+  -- T_GET_FIELD tests the field, 10, before the id, 9
+  pub get-field : (after Field-3 .outcome ≡ Refused (InvalidTaskField 3)) × (after Title .outcome ≡ Refused (TaskNotFound 0))
+  -- and reads a title as a new text behind the memory in use
+  pub get-title : to-vec-val 1 1 4 ≡ Value (getD (after (A ++ Title) .world .stack) 0 0)
+  -- T_SET_FIELD: a state not below the count is 11
+  pub set-state : after (A ++ State-1) .outcome ≡ Refused (InvalidStatus 1)
+  -- a title replaces the old one
+  pub set-title : getD (getD (after (A ++ Retitle) .world .table) 0 blank .title) 0 0 ≡ 0x42
+  -- CALL of empty instructions pops the id and does nothing
+  pub call-empty : (after (A ++ Call) .outcome ≡ Done) × ((after (A ++ Call) .world .machine .height ≡ 0) × (after (A ++ Call) .world .machine .frames .count ≡ 1))
+  -- END_CALL in main does nothing: S_LEN comes behind it
+  pub end-call-in-main : (after End-call .world .machine .height ≡ 1) × (after End-call .left ≡ 98)
+  -- in a task it returns to the instruction behind CALL
+  pub end-call-in-a-task : (after (Returning ++ Call ++ End-call) .world .machine .frames .count ≡ 1) × (getD (after (Returning ++ Call ++ End-call) .world .stack) 0 0 ≡ to-u32-val 1)
+  -- S_SAVE writes the image from the save buffer's start; a buffer too short is 24
+  pub save : run 100 (lent (replicate 15 9) Save) .world .save ≡ 0x08 ∷ 0 ∷ 0 ∷ 0 ∷ 0x01 ∷ 0 ∷ 0 ∷ 0 ∷ 0 ∷ 0 ∷ 0 ∷ 0 ∷ 0 ∷ 0 ∷ 9 ∷ []
+  -- all slots are saved, and not as many as there are tasks: here 0 is deleted and 1 lives
+  pub save-behind-a-gap : take 29 (run 100 (lent (replicate 29 9) (A ++ A ++ Delete ++ Save)) .world .save)
+      ≡ 0x08 ∷ 0 ∷ 0 ∷ 0 ∷ 0x01 ∷ 0 ∷ 0x02 ∷ 0 ∷ 0 ∷ 0 ∷ 0x01 ∷ 0 ∷ 0 ∷ 0 ∷
+      0x09 ∷ 0 ∷ 0 ∷ 0 ∷ 0x02 ∷ 0 ∷ 0x01 ∷ 0 ∷ 0 ∷ 0 ∷ 0x01 ∷ 0 ∷ 0x01 ∷ 0 ∷ 0x41 ∷ []
+  pub save-too-short : run 100 (lent (replicate 13 9) Save) .outcome ≡ Refused SaveBufferTooShort
 
+both : Cases × Instructions
+unfolding bytecode-opcodes.operand-size bytecode-operands.big-endian bytecode-operands.operand bytecode-operands.data-size bytecode-operands.behind bytecode-operands.extent bytecode-operands.behind-by bytecode-operands.extent-by inlinevec-stacks.if-room inlinevec-stacks.if-some inlinevec-stacks.push inlinevec-stacks.pop inlinevec-stacks.last inlinevec-stacks.values-of inlinevec-stacks.push-two inlinevec-stacks.last-two inlinevec-stacks.pop-two inlinevec-stacks.change-two inlinevec-stacks.two-of inlinevec-stacks.push-loop inlinevec-stacks.pop-loop inlinevec-stacks.last-loop inlinevec-stacks.push-frame inlinevec-stacks.pop-frame values-values.make-scalar-tagged values-values.make-vec-tagged values-values.to-vec-val values-values.to-bool-val values-values.is-qnan values-values.is-scalar values-values.is-vec values-values.raw-tag values-values.tag-of values-values.is-u32-val values-values.to-u32 values-values.fat-pointer values-values.to-fat-pointer values-values.bool-not values-values.product values-values.mul-checked values-values.mul-checked-i values-values.alike values-values.value-eq values-values.turned values-values.value-neq values-values.value-cmp values-values.vec-type values-values.scalar-type values-values.get-value-type memory-allocation.offset-aligned memory-allocation.is-element-tag memory-allocation.vector memory-allocation.filling memory-allocation.stored memory-allocation.alloc memory-change.element-size-bytes memory-change.scaled memory-change.little-endian memory-change.inside memory-change.changed memory-change.mut-vec memory-reads.is-m-slice-eq memory-reads.get-slice-as-str memory-reads.get-slice-as-u32 pools-pool.end-of pools-pool.start-of pools-pool.bounds pools-pool.entry-of pools-pool.entries-of pools-pool.has-room pools-pool.interned pools-pool.part-in-use pools-pool.never-fall pools-pool.end-to-end opcodes-stack.pop-second opcodes-stack.pop-first opcodes-stack.pop-two opcodes-stack.pushed-to opcodes-stack.push-value opcodes-stack.finish opcodes-stack.op-push opcodes-stack.on-two opcodes-stack.op-mul opcodes-stack.op-compare opcodes-stack.on-one opcodes-stack.op-muli opcodes-stack.dup-last opcodes-stack.op-dup opcodes-stack.swapped opcodes-stack.op-swap opcodes-stack.dropped opcodes-stack.op-drop opcodes-control.opened-to opcodes-control.do-two opcodes-control.op-do opcodes-control.looped opcodes-control.op-loop opcodes-control.index-of opcodes-control.op-loop-index opcodes-control.jumped opcodes-control.op-jump-if-false opcodes-equality.eq-right opcodes-equality.eq-left opcodes-equality.eq-vectors opcodes-equality.eq-tagged opcodes-equality.eq-right-tag opcodes-equality.eq-left-tag opcodes-equality.eq-values opcodes-equality.turned-if opcodes-equality.op-eq opcodes-store.full-by opcodes-store.full opcodes-store.placed opcodes-store.store opcodes-store.sized opcodes-store.op-m-st opcodes-store.mut-in-use opcodes-store.mutated opcodes-store.mutate-at opcodes-store.mutate opcodes-store.mutate-last opcodes-store.mutate-two opcodes-store.op-m-muta core-cut.cut-value core-cut.cut-muli core-cut.cut-size core-cut.cut-m-st core-cut.cut-skip core-cut.cut-jump core-cut.cut core-operated.with-operand core-operated.push-u32 core-operated.push-u8 core-operated.muli core-operated.jump-if-false core-operated.m-st core-operated.payload-of core-operated.m-sti-of core-operated.m-sti core-execute.plain core-execute.operated core-execute.is-equality core-execute.execute core-execute.by-extent core-execute.instruct core-steps.is-outer core-steps.onward core-steps.turn core-steps.steps tasks-changes.applied tasks-titles.within tasks-titles.title-bytes tasks-create.with-room tasks-create.if-within tasks-create.new tasks-create.if-vector tasks-create.with-title tasks-create.titled tasks-create.with-state tasks-create.with-two tasks-create.op-t-create tasks-create.delete-found tasks-create.delete-popped tasks-create.op-t-delete tasks-fields.if-found tasks-fields.owner-popped tasks-fields.owner tasks-fields.field-popped tasks-fields.field-of tasks-fields.get-field tasks-fields.get-found tasks-fields.op-t-get-field tasks-fields.title-within tasks-fields.set-title tasks-fields.title-vector tasks-fields.state-answered tasks-fields.set-state tasks-fields.set-instructions tasks-fields.set-field tasks-fields.set-popped tasks-fields.set-found tasks-fields.op-t-set-field storage-tasks.no-title storage-tasks.blank storage-tasks.default-state storage-tasks.with-state storage-tasks.title-of storage-tasks.new-task storage-tasks.set-state storage-storage.slot-of storage-storage.find storage-storage.room storage-storage.len-after storage-table.set-state-at storage-table.lives storage-table.living-of storage-table.sound-slot storage-table.sound-slots storage-table.sound-counts storage-table.sound-table calls-machines.current calls-machines.with-current calls-machines.code-of calls-machines.registers-of calls-machines.settled calls-frames.intern-sized calls-frames.intern-calldata calls-frames.with-entry calls-frames.calldata-pushed calls-frames.push-calldata calls-frames.framed calls-frames.enter-bounded calls-frames.enter calls-frames.call-popped calls-frames.op-call calls-frames.left-frame calls-frames.op-end-call calls-act.went-by calls-act.created calls-act.tasked-by calls-act.created-by calls-act.on-task calls-act.on-frames calls-act.op-at calls-act.act-by calls-act.act-at calls-act.act calls-advance.named-by calls-advance.named calls-advance.wanted calls-advance.halted-at calls-advance.after-steps calls-advance.advance calls-turns.turned calls-turns.save-went calls-turns.saved calls-turns.rewound runs-world.at-end runs-step.inner-did runs-step.inner runs-step.acts-went runs-step.acts runs-step.saves-went runs-step.saves runs-step.outer runs-step.step runs-run.follow runs-run.run slices-same.same image-image.framed image-image.header image-image.body image-image.records image-image.written image-numbers.little-endian image-slots.saved-task image-table.added image-table.measure-slot image-table.count-slot image-table.grown image-table.measures image-table.save-slot image-table.save-slots image-table.saved-as image-table.save-table image-writing.puts image-writing.task-in image-writing.size-of image-writing.sized image-writing.measure image-reading.on utf8-grammar.UTF8-char utf8-utf8.valid utf8-utf8.from utf8-utf8.lead utf8-utf8.holds
+both = (
+  record {
+    c1 = (refl, (refl, (refl, refl)));
+    c2 = refl;
+    c3 = refl;
+    c4 = refl;
+    c5 = (refl, (refl, refl));
+    c6 = refl;
+    c7 = (refl, (refl, refl));
+    c8 = (refl, refl);
+    c9 = (refl, (refl, refl));
+    c10 = refl;
+    c11 = refl;
+    c12 = I1-loads;
+  },
+  record {
+    at-the-end = (refl, refl);
+    no-title = refl;
+    get-field = (refl, refl);
+    get-title = refl;
+    set-state = refl;
+    set-title = refl;
+    call-empty = (refl, (refl, refl));
+    end-call-in-main = (refl, refl);
+    end-call-in-a-task = (refl, refl);
+    save = refl;
+    save-behind-a-gap = refl;
+    save-too-short = refl;
+  },
+)
+
+-- C1 to C12
 pub cases : Cases
-unfolding bytecode-opcodes.operand-size bytecode-operands.big-endian bytecode-operands.operand bytecode-operands.data-size bytecode-operands.behind bytecode-operands.extent bytecode-operands.behind-by bytecode-operands.extent-by inlinevec-stacks.if-room inlinevec-stacks.if-some inlinevec-stacks.push inlinevec-stacks.pop inlinevec-stacks.last inlinevec-stacks.values-of inlinevec-stacks.push-two inlinevec-stacks.last-two inlinevec-stacks.pop-two inlinevec-stacks.change-two inlinevec-stacks.two-of inlinevec-stacks.push-loop inlinevec-stacks.pop-loop inlinevec-stacks.last-loop inlinevec-stacks.push-frame inlinevec-stacks.pop-frame values-values.make-scalar-tagged values-values.make-vec-tagged values-values.to-vec-val values-values.to-bool-val values-values.is-qnan values-values.is-scalar values-values.is-vec values-values.raw-tag values-values.tag-of values-values.is-u32-val values-values.to-u32 values-values.fat-pointer values-values.to-fat-pointer values-values.bool-not values-values.product values-values.mul-checked values-values.mul-checked-i values-values.alike values-values.value-eq values-values.turned values-values.value-neq values-values.value-cmp values-values.vec-type values-values.scalar-type values-values.get-value-type memory-allocation.offset-aligned memory-allocation.is-element-tag memory-allocation.vector memory-allocation.filling memory-allocation.stored memory-allocation.alloc memory-change.element-size-bytes memory-change.scaled memory-change.little-endian memory-change.inside memory-change.changed memory-change.mut-vec memory-reads.is-m-slice-eq memory-reads.get-slice-as-str memory-reads.get-slice-as-u32 pools-pool.end-of pools-pool.start-of pools-pool.bounds pools-pool.entry-of pools-pool.entries-of pools-pool.has-room pools-pool.interned pools-pool.part-in-use pools-pool.never-fall pools-pool.end-to-end opcodes-stack.pop-second opcodes-stack.pop-first opcodes-stack.pop-two opcodes-stack.pushed-to opcodes-stack.push-value opcodes-stack.finish opcodes-stack.op-push opcodes-stack.on-two opcodes-stack.op-mul opcodes-stack.op-compare opcodes-stack.on-one opcodes-stack.op-muli opcodes-stack.dup-last opcodes-stack.op-dup opcodes-stack.swapped opcodes-stack.op-swap opcodes-stack.dropped opcodes-stack.op-drop opcodes-control.opened-to opcodes-control.do-two opcodes-control.op-do opcodes-control.looped opcodes-control.op-loop opcodes-control.index-of opcodes-control.op-loop-index opcodes-control.jumped opcodes-control.op-jump-if-false opcodes-equality.eq-right opcodes-equality.eq-left opcodes-equality.eq-vectors opcodes-equality.eq-tagged opcodes-equality.eq-right-tag opcodes-equality.eq-left-tag opcodes-equality.eq-values opcodes-equality.turned-if opcodes-equality.op-eq opcodes-store.full-by opcodes-store.full opcodes-store.placed opcodes-store.store opcodes-store.sized opcodes-store.op-m-st opcodes-store.mut-in-use opcodes-store.mutated opcodes-store.mutate-at opcodes-store.mutate opcodes-store.mutate-last opcodes-store.mutate-two opcodes-store.op-m-muta core-cut.cut-value core-cut.cut-muli core-cut.cut-size core-cut.cut-m-st core-cut.cut-skip core-cut.cut-jump core-cut.cut core-operated.with-operand core-operated.push-u32 core-operated.push-u8 core-operated.muli core-operated.jump-if-false core-operated.m-st core-operated.payload-of core-operated.m-sti-of core-operated.m-sti core-execute.plain core-execute.operated core-execute.is-equality core-execute.execute core-execute.by-extent core-execute.instruct core-steps.is-outer core-steps.onward core-steps.turn core-steps.steps tasks-changes.applied tasks-titles.within tasks-titles.title-bytes tasks-create.with-room tasks-create.if-within tasks-create.new tasks-create.if-vector tasks-create.with-title tasks-create.titled tasks-create.with-state tasks-create.with-two tasks-create.op-t-create tasks-create.delete-found tasks-create.delete-popped tasks-create.op-t-delete tasks-fields.if-found tasks-fields.owner-popped tasks-fields.owner tasks-fields.field-popped tasks-fields.field-of tasks-fields.get-field tasks-fields.get-found tasks-fields.op-t-get-field tasks-fields.title-within tasks-fields.set-title tasks-fields.title-vector tasks-fields.state-answered tasks-fields.set-state tasks-fields.set-instructions tasks-fields.set-field tasks-fields.set-popped tasks-fields.set-found tasks-fields.op-t-set-field storage-tasks.no-title storage-tasks.blank storage-tasks.default-state storage-tasks.with-state storage-tasks.title-of storage-tasks.new-task storage-tasks.set-state storage-storage.slot-of storage-storage.find storage-storage.room storage-storage.len-after storage-table.set-state-at storage-table.lives storage-table.living-of storage-table.sound-slot storage-table.sound-slots storage-table.sound-counts storage-table.sound-table calls-machines.current calls-machines.with-current calls-machines.code-of calls-machines.registers-of calls-machines.settled calls-frames.intern-sized calls-frames.intern-calldata calls-frames.with-entry calls-frames.calldata-pushed calls-frames.push-calldata calls-frames.framed calls-frames.enter-bounded calls-frames.enter calls-frames.call-popped calls-frames.op-call calls-frames.left-frame calls-frames.op-end-call calls-act.went-by calls-act.created calls-act.tasked-by calls-act.created-by calls-act.on-task calls-act.on-frames calls-act.op-at calls-act.act-by calls-act.act-at calls-act.act calls-advance.named-by calls-advance.named calls-advance.wanted calls-advance.halted-at calls-advance.after-steps calls-advance.advance calls-turns.turned calls-turns.save-went calls-turns.saved calls-turns.rewound runs-world.at-end runs-step.inner-did runs-step.inner runs-step.acts-went runs-step.acts runs-step.saves-went runs-step.saves runs-step.outer runs-step.step runs-run.follow runs-run.run slices-same.same
-cases = record {
-  c1 = (refl, (refl, (refl, refl)));
-  c2 = refl;
-  c3 = refl;
-  c4 = refl;
-  c5 = (refl, (refl, refl));
-  c6 = refl;
-  c7 = (refl, (refl, refl));
-  c8 = (refl, refl);
-  c9 = (refl, (refl, refl));
-  c10 = refl;
-  c11 = refl;
-  c12 = I1-loads;
-  no-title = refl;
-}
+cases = both .0
+
+pub instructions : Instructions
+instructions = both .1

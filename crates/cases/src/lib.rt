@@ -1,1 +1,1 @@
-// The cases of document 01, C1 to C12, and the order of T_CREATE's tests, proved together as one table. No function.
+// The cases of document 01, C1 to C12, proved together as one table, and small programs for single instructions. No function.

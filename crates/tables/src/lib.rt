@@ -86,7 +86,7 @@ fn measure_next(
 }
 
 // Measures the image of a table: its size, counted no further than the limit, and its tasks; or the first refusal.
-pub fn measure_table(
+pub(crate) fn measure_table(
     table: &mut [Task],
     pool: &mut [u8],
     ends: &mut [u32; 1024],
