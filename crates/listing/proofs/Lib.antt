@@ -1,2 +1,3 @@
 pub mod Forms
 pub mod Longest
+pub mod Short

@@ -1,4 +1,4 @@
--- 196,608 bytes hold the line of every value whose part has at most 65,535 bytes.
+-- 196,608 bytes hold the line of every value whose part has at most 65,536 bytes.
 use Prim.Native.Nat.{ℕ, zero, suc, _+_, _*_, _/_, _%_, _^_, _≤_, _<_}
 use mathlib.Core.Bool.{Bool, true, false}
 use mathlib.Core.List.{List, [], _∷_, _++_}
@@ -7,7 +7,7 @@ use native.Mathlib.Omega.{arith}
 use lib.Dec.{ltb}
 use lib.ListN.{length, getD, length-append}
 use borrow.Author.Tests.{ltb-true, ltb-false}
-use Rattle.errors.specs.Refusals.{number-of}
+use Rattle.errors.specs.Refusals.{number-of, details-of}
 use Rattle.errors.specs.declared.Refusal.{Refusal}
 use Rattle.errors.specs.declared.Refusal.the-variants as refusal
 use Rattle.text.specs.Ascii.{ascii}
@@ -15,12 +15,13 @@ use Rattle.text.specs.Numbers.{digit, decimal, hex, spaced, words, shown, numbe
 use Rattle.text.specs.Lines.{formed, line, said}
 use Rattle.text.proofs.Decimals.{decimal-one, decimal-more}
 use Rattle.text.proofs.Hexes.{hex-length}
+use Rattle.pools.specs.declared.InstructionsRef.{InstructionsRef}
 use Rattle.unbox.specs.declared.Return.{Return}
 use Rattle.unbox.specs.declared.Return.the-variants.{U32, Boolean, String, CallData, VecU32, Null, NoReturn}
 use Rattle.listing.specs.Listing.{line-of-bool, line-of-numbers, line-of-value}
 
 -- a number below a power of ten has no more digits
-few-digits : (k n : ℕ) (one : Bool) → ltb n 10 ≡ one → n < 10 ^ suc k → length (decimal n) ≤ suc k
+pub few-digits : (k n : ℕ) (one : Bool) → ltb n 10 ≡ one → n < 10 ^ suc k → length (decimal n) ≤ suc k
 few-digits zero n true test small = omega (arith, ap length (decimal-one n (ltb-true n 10 test)))
 few-digits zero n false test small = absurd (omega (arith, ltb-false n 10 test))
 few-digits (suc k) n true test small = omega (arith, ap length (decimal-one n (ltb-true n 10 test)))
@@ -51,38 +52,38 @@ unfolding line-of-numbers spaced ascii
 numbers-length [] = omega arith
 numbers-length (n ∷ more) = omega (arith, length-append (decimal n ++ spaced more) (10 ∷ []))
 
--- every number of a refusal has two digits at most
-two-digits : (r : Refusal) → number-of r < 100
-two-digits refusal.EmptyInstructions = omega arith
-two-digits refusal.UnexpectedEOB = omega arith
-two-digits refusal.StackUnderflow = omega arith
-two-digits refusal.StackOverflow = omega arith
-two-digits refusal.InvalidType = omega arith
-two-digits refusal.TypeMismatch = omega arith
-two-digits refusal.MultiplicationOverflowed = omega arith
-two-digits refusal.MaxStatesError = omega arith
-two-digits (refusal.TaskNotFound id) = omega arith
-two-digits (refusal.InvalidTaskField field) = omega arith
-two-digits (refusal.InvalidStatus state) = omega arith
-two-digits (refusal.InvalidInstructionsIndex index) = omega arith
-two-digits refusal.MSliceParamOverflow = omega arith
-two-digits (refusal.MSliceOutOfBounds index size) = omega arith
-two-digits refusal.BytesToStringConversionError = omega arith
-two-digits refusal.AlignmentMismatch = omega arith
-two-digits refusal.SliceSizeMismatch = omega arith
-two-digits refusal.TableFull = omega arith
-two-digits refusal.TitleTooLong = omega arith
-two-digits refusal.PoolFull = omega arith
-two-digits refusal.MemoryTooShort = omega arith
-two-digits refusal.SaveBufferTooShort = omega arith
-two-digits (refusal.BadImage place) = omega arith
-two-digits refusal.WrongPhaseOrUnsound = omega arith
-two-digits (refusal.NotAdmitted place) = omega arith
-two-digits refusal.ProgramTooLong = omega arith
+-- every number of a refusal has two digits at most, and two details stand beside it at most
+pub short-refusal : (r : Refusal) → (number-of r < 100) × (length (details-of r) ≤ 2)
+short-refusal refusal.EmptyInstructions = omega arith
+short-refusal refusal.UnexpectedEOB = omega arith
+short-refusal refusal.StackUnderflow = omega arith
+short-refusal refusal.StackOverflow = omega arith
+short-refusal refusal.InvalidType = omega arith
+short-refusal refusal.TypeMismatch = omega arith
+short-refusal refusal.MultiplicationOverflowed = omega arith
+short-refusal refusal.MaxStatesError = omega arith
+short-refusal (refusal.TaskNotFound id) = omega arith
+short-refusal (refusal.InvalidTaskField field) = omega arith
+short-refusal (refusal.InvalidStatus state) = omega arith
+short-refusal (refusal.InvalidInstructionsIndex index) = omega arith
+short-refusal refusal.MSliceParamOverflow = omega arith
+short-refusal (refusal.MSliceOutOfBounds index size) = omega arith
+short-refusal refusal.BytesToStringConversionError = omega arith
+short-refusal refusal.AlignmentMismatch = omega arith
+short-refusal refusal.SliceSizeMismatch = omega arith
+short-refusal refusal.TableFull = omega arith
+short-refusal refusal.TitleTooLong = omega arith
+short-refusal refusal.PoolFull = omega arith
+short-refusal refusal.MemoryTooShort = omega arith
+short-refusal refusal.SaveBufferTooShort = omega arith
+short-refusal (refusal.BadImage place) = omega arith
+short-refusal refusal.WrongPhaseOrUnsound = omega arith
+short-refusal (refusal.NotAdmitted place) = omega arith
+short-refusal refusal.ProgramTooLong = omega arith
 
--- a line of one number of 32 bits, behind its word
-one-number : (n : ℕ) → n < 4294967296 → length (decimal n ++ [] ++ 10 ∷ []) ≤ 11
-one-number n small = omega (arith, ten-digits n small, length-append (decimal n ++ []) (10 ∷ []), length-append (decimal n) [])
+-- a line of one number, behind its word
+pub one-number : (n : ℕ) → length (decimal n ++ [] ++ 10 ∷ []) ≡ length (decimal n) + 1
+one-number n = omega (arith, length-append (decimal n ++ []) (10 ∷ []), length-append (decimal n) [])
 
 -- a number that was read has 32 bits
 unfoldable pub number-fits : Return → Type 0
@@ -99,14 +100,19 @@ unfolding line-of-bool said line formed filled shown numbers-left ascii
 bool-short true = omega arith
 bool-short false = omega arith
 
+-- the line of calldata fits into 196,608 bytes, whatever its bytes are
+pub longest-calldata : (entry : InstructionsRef) (part : List ℕ) → length part ≤ 65536 → length (line-of-value (CallData entry) part) ≤ 196608
+unfolding line-of-value line formed filled shown numbers-left ascii
+longest-calldata entry part few = omega (arith, length-append (hex part) (10 ∷ []), hex-length part)
+
 -- the line of a value fits into 196,608 bytes
-pub longest : (kind : Return) (part : List ℕ) → number-fits kind → length part ≤ 65535 → ((i : ℕ) → getD part i 0 < 256)
+pub longest : (kind : Return) (part : List ℕ) → number-fits kind → length part ≤ 65536 → ((i : ℕ) → getD part i 0 < 256)
     → length (line-of-value kind part) ≤ 196608
 unfolding number-fits line-of-value said line formed filled shown numbers-left ascii
-longest (U32 n) part fits few byte = omega (arith, one-number n fits)
+longest (U32 n) part fits few byte = omega (arith, one-number n, ten-digits n fits)
 longest (Boolean truth) part fits few byte = bool-short truth
 longest (String pointer) part fits few byte = omega (arith, length-append part (10 ∷ []))
-longest (CallData entry) part fits few byte = omega (arith, length-append (hex part) (10 ∷ []), hex-length part)
+longest (CallData entry) part fits few byte = longest-calldata entry part few
 longest (VecU32 pointer) part fits few byte = omega (arith, numbers-length (words part), spaced-short part byte)
 longest Null part fits few byte = omega arith
-longest (NoReturn r) part fits few byte = omega (arith, one-number (number-of r) (omega (arith, two-digits r)))
+longest (NoReturn r) part fits few byte = omega (arith, one-number (number-of r), ten-digits (number-of r) (omega (arith, short-refusal r)))

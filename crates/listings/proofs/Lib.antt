@@ -1,3 +1,5 @@
 pub mod Tasks
 pub mod Whole
 pub mod Refusals
+pub mod Values
+pub mod Always

@@ -84,7 +84,7 @@ not-called : (fuel : ℕ) (w : World) (a : Allowed) → a .allowed ≡ false →
 unfolding call-with
 not-called fuel w a test = rw test
 
-stays-stopped : (fuel : ℕ) (table : List Task) (stack memory pool ends save : List ℕ)
+pub stays-stopped : (fuel : ℕ) (table : List Task) (stack memory pool ends save : List ℕ)
     → start fuel (world stopped table stack memory pool ends save) ≡ reports (not-allowed stopped) (world stopped table stack memory pool ends save)
 unfolding call
 stays-stopped fuel table stack memory pool ends save =

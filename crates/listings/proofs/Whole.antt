@@ -135,7 +135,7 @@ module _ (head : Head) (values : List Read) (tasks : List ℕ) where
   abbrev third : List ℕ
   third = lines-of-values values
 
-  text-length : length text ≡ length first + (length second + (length third + length tasks))
+  pub text-length : length text ≡ length first + (length second + (length third + length tasks))
   text-length =
       length-append first (second ++ (third ++ tasks))
       ∙ ap (λ (n : ℕ). length first + n) (length-append second (third ++ tasks) ∙ ap (λ (n : ℕ). length second + n) (length-append third tasks))
