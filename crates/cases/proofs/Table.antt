@@ -58,7 +58,7 @@ use Rattle.utf8.specs.Grammar as utf8-grammar
 use Rattle.utf8.specs.Utf8 as utf8-utf8
 
 -- 01 00000000 01 00000005 0e 01 00000063 0f
-abbrev C1 : List ℕ
+abbrev pub C1 : List ℕ
 C1 = 0x01 ∷ 0x00 ∷ 0x00 ∷ 0x00 ∷ 0x00 ∷ 0x01 ∷ 0x00 ∷ 0x00 ∷ 0x00 ∷ 0x05 ∷ 0x0e ∷ 0x01 ∷ 0x00 ∷ 0x00 ∷ 0x00 ∷ 0x63 ∷ 0x0f ∷ []
 
 -- 1b 0001 04 01 61 1b 0006 06 00 01 00000000 01 00000007 1d
@@ -150,7 +150,7 @@ Delete = 0x03 ∷ 0x00 ∷ 0x0a ∷ []
 -- ---- their runs
 
 -- a machine for a program and no tasks, lent 64 bytes of memory and a save buffer
-abbrev lent : List ℕ → List ℕ → World
+abbrev pub lent : List ℕ → List ℕ → World
 lent save program =
     world (record {
       phase = New;
@@ -166,7 +166,7 @@ lent save program =
     }) (replicate 256 blank) (replicate 1000 0) (replicate 64 0) (program ++ replicate 16 0) (length program ∷ replicate 1023 0) save
 
 -- and one without a save buffer
-abbrev fresh : List ℕ → World
+abbrev pub fresh : List ℕ → World
 fresh program = lent [] program
 
 -- the end of a run of it
