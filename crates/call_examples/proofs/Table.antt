@@ -32,7 +32,6 @@ use Rattle.values.specs.Values as values-values
 use Rattle.pools.specs.Pool as pools-pool
 use Rattle.opcodes.specs.Stack as opcodes-stack
 use Rattle.opcodes.specs.Control as opcodes-control
-use Rattle.core.specs.Cut as core-cut
 use Rattle.core.specs.Operated as core-operated
 use Rattle.core.specs.Execute as core-execute
 use Rattle.core.specs.Steps as core-steps
@@ -234,7 +233,7 @@ pub record Examples : Type 0 where
   pub save-unsound : saved 13 (high 1001) .report .result ≡ NotSaved WrongPhaseOrUnsound
 
 pub examples : Examples
-unfolding bytecode-opcodes.operand-size bytecode-operands.big-endian bytecode-operands.operand bytecode-operands.data-size bytecode-operands.behind bytecode-operands.extent bytecode-operands.behind-by bytecode-operands.extent-by inlinevec-stacks.if-room inlinevec-stacks.if-some inlinevec-stacks.push inlinevec-stacks.pop inlinevec-stacks.last inlinevec-stacks.values-of inlinevec-stacks.push-two inlinevec-stacks.last-two inlinevec-stacks.pop-two inlinevec-stacks.change-two inlinevec-stacks.two-of inlinevec-stacks.push-loop inlinevec-stacks.pop-loop inlinevec-stacks.last-loop inlinevec-stacks.push-frame inlinevec-stacks.pop-frame values-values.make-scalar-tagged values-values.make-vec-tagged values-values.to-vec-val values-values.to-bool-val values-values.is-qnan values-values.is-scalar values-values.is-vec values-values.raw-tag values-values.tag-of values-values.is-u32-val values-values.to-u32 values-values.fat-pointer values-values.to-fat-pointer values-values.vec-type values-values.scalar-type values-values.get-value-type pools-pool.end-of pools-pool.start-of pools-pool.bounds pools-pool.entry-of pools-pool.entries-of pools-pool.has-room pools-pool.interned pools-pool.part-in-use pools-pool.never-fall pools-pool.end-to-end opcodes-stack.pop-second opcodes-stack.pop-first opcodes-stack.pop-two opcodes-stack.pushed-to opcodes-stack.push-value opcodes-stack.finish opcodes-stack.op-push opcodes-stack.on-two opcodes-stack.on-one opcodes-control.opened-to opcodes-control.do-two opcodes-control.op-do opcodes-control.looped opcodes-control.op-loop opcodes-control.index-of opcodes-control.op-loop-index core-cut.cut core-operated.with-operand core-operated.push-u32 core-operated.push-u8 core-execute.plain core-execute.operated core-execute.is-equality core-execute.execute core-execute.by-extent core-execute.instruct core-steps.is-outer core-steps.onward core-steps.turn core-steps.steps storage-tasks.no-title storage-tasks.blank storage-tasks.default-state storage-tasks.with-state storage-tasks.title-of storage-tasks.new-task storage-tasks.set-state storage-storage.slot-of storage-storage.find storage-storage.room storage-storage.len-after storage-table.set-state-at storage-table.lives storage-table.living-of storage-table.sound-slot storage-table.sound-slots storage-table.sound-counts storage-table.sound-table calls-machines.current calls-machines.with-current calls-machines.code-of calls-machines.registers-of calls-machines.settled calls-frames.intern-sized calls-frames.intern-calldata calls-frames.with-entry calls-frames.calldata-pushed calls-frames.push-calldata calls-frames.framed calls-frames.enter-bounded calls-frames.enter calls-frames.call-popped calls-frames.op-call calls-frames.left-frame calls-frames.op-end-call calls-act.went-by calls-act.created calls-act.tasked-by calls-act.created-by calls-act.on-task calls-act.on-frames calls-act.op-at calls-act.act-by calls-act.act-at calls-act.act calls-advance.named-by calls-advance.named calls-advance.wanted calls-advance.halted-at calls-advance.after-steps calls-advance.advance calls-turns.turned calls-turns.save-went calls-turns.saved calls-turns.rewound runs-world.at-end runs-step.inner-did runs-step.inner runs-step.acts-went runs-step.acts runs-step.saves-went runs-step.saves runs-step.outer runs-step.step runs-run.follow runs-run.run vm-sound.sound-frames vm-sound.sound-lengths vm-sound.sound-record vm-sound.sound-world vm-calls.may-start vm-calls.may-continue vm-calls.allowed vm-calls.ended vm-calls.report vm-calls.call-with vm-calls.call vm-reads.is-done vm-reads.readable vm-reads.value-at vm-reads.value-read vm-reads.if-measured vm-reads.if-found vm-reads.task-result vm-reads.task-read vm-reads.host-saved vm-reads.host-save vm-creation.unfit vm-creation.with-program vm-creation.prepare-fit vm-creation.prepare vm-creation.create-as vm-creation.create creation-creation.image-tests creation-creation.creation-tests unbox-unbox.where-bounded unbox-unbox.by-type unbox-unbox.unbox-value image-image.framed image-image.header image-image.body image-image.task-at image-image.headed image-image.good image-image.joined image-image.read-from image-image.counted image-image.read-image image-numbers.little-endian image-numbers.number-at image-reading.s-len image-reading.instruction-bytes image-reading.tested image-reading.on image-reading.read-record image-slots.loaded-task image-slots.saved-task image-table.added image-table.measure-slot image-table.count-slot image-table.grown image-table.measures image-table.save-slot image-table.save-slots image-table.saved-as image-table.save-table image-table.bytes-after image-table.entries-after image-table.next-reference image-table.load-record image-table.placed image-table.load-records image-writing.puts image-writing.task-in image-writing.size-of image-writing.sized image-writing.measure utf8-grammar.UTF8-char utf8-utf8.holds utf8-utf8.lead utf8-utf8.from utf8-utf8.valid tasks-changes.applied
+unfolding bytecode-opcodes.operand-size bytecode-operands.big-endian bytecode-operands.operand bytecode-operands.data-size bytecode-operands.behind bytecode-operands.extent inlinevec-stacks.if-room inlinevec-stacks.if-some inlinevec-stacks.push inlinevec-stacks.pop inlinevec-stacks.push-two inlinevec-stacks.last-two inlinevec-stacks.pop-two inlinevec-stacks.change-two inlinevec-stacks.push-loop inlinevec-stacks.pop-loop values-values.make-scalar-tagged values-values.is-qnan values-values.is-scalar values-values.is-vec values-values.raw-tag values-values.tag-of values-values.to-u32 values-values.scalar-type values-values.get-value-type pools-pool.end-of pools-pool.start-of pools-pool.bounds pools-pool.entry-of pools-pool.has-room pools-pool.interned pools-pool.part-in-use pools-pool.never-fall pools-pool.end-to-end opcodes-stack.pop-second opcodes-stack.pop-first opcodes-stack.pop-two opcodes-stack.pushed-to opcodes-stack.push-value opcodes-stack.op-push opcodes-control.opened-to opcodes-control.do-two opcodes-control.op-do opcodes-control.looped opcodes-control.op-loop core-operated.with-operand core-operated.push-u32 core-execute.plain core-execute.operated core-execute.is-equality core-execute.execute core-execute.by-extent core-execute.instruct core-steps.is-outer core-steps.onward core-steps.turn core-steps.steps storage-tasks.blank storage-tasks.title-of storage-tasks.new-task storage-storage.slot-of storage-storage.find storage-table.sound-slot storage-table.sound-slots storage-table.sound-counts storage-table.sound-table calls-machines.current calls-machines.with-current calls-machines.code-of calls-machines.registers-of calls-machines.settled calls-frames.intern-sized calls-frames.intern-calldata calls-frames.with-entry calls-frames.calldata-pushed calls-frames.push-calldata calls-frames.op-end-call calls-act.on-frames calls-act.op-at calls-act.act-by calls-act.act-at calls-act.act calls-advance.wanted calls-turns.rewound runs-world.at-end runs-step.inner-did runs-step.inner runs-step.acts-went runs-step.acts runs-step.outer runs-step.step runs-run.follow runs-run.run vm-sound.sound-frames vm-sound.sound-lengths vm-sound.sound-record vm-sound.sound-world vm-calls.may-start vm-calls.may-continue vm-calls.allowed vm-calls.ended vm-calls.report vm-calls.call-with vm-calls.call vm-reads.is-done vm-reads.readable vm-reads.value-at vm-reads.value-read vm-reads.if-measured vm-reads.if-found vm-reads.task-result vm-reads.task-read vm-reads.host-saved vm-reads.host-save vm-creation.unfit vm-creation.with-program vm-creation.prepare-fit vm-creation.prepare vm-creation.create-as vm-creation.create creation-creation.image-tests creation-creation.creation-tests unbox-unbox.where-bounded unbox-unbox.by-type unbox-unbox.unbox-value image-image.framed image-image.header image-image.body image-image.task-at image-image.headed image-image.good image-image.joined image-image.read-from image-image.counted image-image.read-image image-numbers.little-endian image-numbers.number-at image-reading.s-len image-reading.instruction-bytes image-reading.tested image-reading.on image-reading.read-record image-slots.loaded-task image-slots.saved-task image-table.added image-table.measure-slot image-table.count-slot image-table.grown image-table.measures image-table.save-slot image-table.save-slots image-table.saved-as image-table.save-table image-table.bytes-after image-table.entries-after image-table.next-reference image-table.load-record image-table.placed image-table.load-records image-writing.puts image-writing.task-in image-writing.size-of image-writing.sized image-writing.measure utf8-grammar.UTF8-char utf8-utf8.holds utf8-utf8.lead utf8-utf8.from utf8-utf8.valid tasks-changes.applied
 examples = record {
   steps-to-the-end = refl;
   steps-leave-fuel = refl;
