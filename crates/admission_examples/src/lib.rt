@@ -1,0 +1,1 @@
+// Small programs, and what the definition of admission answers to each. No function.
