@@ -139,6 +139,10 @@ End-call = 0x12 ∷ 0x0d ∷ []
 abbrev Returning : List ℕ
 Returning = 0x1b ∷ 0x00 ∷ 0x00 ∷ 0x04 ∷ 0x01 ∷ 0x03 ∷ 0x01 ∷ 0x04 ∷ 0x00 ∷ 0x01 ∷ 0x12 ∷ 0x07 ∷ []
 
+-- 03 00 1a
+abbrev Jump-cut : List ℕ
+Jump-cut = 0x03 ∷ 0x00 ∷ 0x1a ∷ []
+
 -- 0b
 abbrev Save : List ℕ
 Save = 0x0b ∷ []
@@ -220,6 +224,10 @@ pub record Instructions : Type 0 where
   pub end-call-in-main : (after End-call .world .machine .height ≡ 1) × (after End-call .left ≡ 98)
   -- in a task it returns to the instruction behind CALL
   pub end-call-in-a-task : (after (Returning ++ Call ++ End-call) .world .machine .frames .count ≡ 1) × (getD (after (Returning ++ Call ++ End-call) .world .stack) 0 0 ≡ to-u32-val 1)
+  -- JUMP_IF_FALSE on another value than FALSE skips its operand, even past the end
+  pub jump-cut : (after Jump-cut .outcome ≡ Done) × (after Jump-cut .left ≡ 98)
+  -- ids are never used twice: S_LEN is 2 after a task was created, deleted and another created
+  pub ids : (after (A ++ Delete ++ A) .world .machine .«next_id» ≡ 2) × (after (A ++ Delete ++ A) .world .machine .count ≡ 2)
   -- S_SAVE writes the image from the save buffer's start; a buffer too short is 24
   pub save : run 100 (lent (replicate 15 9) Save) .world .save ≡ 0x08 ∷ 0 ∷ 0 ∷ 0 ∷ 0x01 ∷ 0 ∷ 0 ∷ 0 ∷ 0 ∷ 0 ∷ 0 ∷ 0 ∷ 0 ∷ 0 ∷ 9 ∷ []
   -- all slots are saved, and not as many as there are tasks: here 0 is deleted and 1 lives
@@ -255,6 +263,8 @@ both = (
     call-empty = (refl, (refl, refl));
     end-call-in-main = (refl, refl);
     end-call-in-a-task = (refl, refl);
+    jump-cut = (refl, refl);
+    ids = (refl, refl);
     save = refl;
     save-behind-a-gap = refl;
     save-too-short = refl;
