@@ -55,7 +55,7 @@ pub record Examples : Type 0 where
   }
 
 pub examples : Examples
-unfolding bytecode-opcodes.operand-size bytecode-operands.big-endian bytecode-operands.operand bytecode-operands.data-size bytecode-operands.behind bytecode-operands.extent bytecode-operands.reaching bytecode-operands.behind-by bytecode-operands.extent-by slices-same.same labels-check.label-from labels-check.label-at labels-check.first-failing labels-check.first-without-rule labels-check.first-wrong-jump labels-check.swept labels-check.admission labels-elements.joined labels-elements.after labels-elements.tag-kind labels-elements.field-kind labels-elements.with-kind labels-elements.field-element labels-elements.jump-element labels-elements.moving-element labels-elements.plain-element labels-elements.whole-element labels-elements.element labels-labels.exchanged labels-labels.kinds-after labels-labels.loops-after labels-labels.bounded labels-labels.rule labels-labels.next-label admission-answer.written admission-answer.answered
+unfolding bytecode-opcodes.operand-size bytecode-operands.big-endian bytecode-operands.data-size bytecode-operands.behind slices-same.same labels-check.label-from labels-check.label-at labels-check.first-failing labels-check.first-without-rule labels-check.first-wrong-jump labels-check.swept labels-check.admission labels-elements.joined labels-elements.after labels-elements.moving-element labels-elements.plain-element labels-elements.whole-element labels-elements.element labels-labels.exchanged labels-labels.kinds-after labels-labels.loops-after labels-labels.bounded labels-labels.rule labels-labels.next-label admission-answer.answered
 examples = record {
   refused = refl;
   number = refl;

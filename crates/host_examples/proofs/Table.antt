@@ -20,24 +20,15 @@ use Rattle.bytecode.specs.Opcodes as bytecode-opcodes
 use Rattle.bytecode.specs.Operands as bytecode-operands
 use Rattle.inlinevec.specs.Stacks as inlinevec-stacks
 use Rattle.values.specs.Values as values-values
-use Rattle.memory.specs.Allocation as memory-allocation
-use Rattle.memory.specs.Change as memory-change
-use Rattle.memory.specs.Reads as memory-reads
 use Rattle.pools.specs.Pool as pools-pool
 use Rattle.opcodes.specs.Control as opcodes-control
-use Rattle.opcodes.specs.Equality as opcodes-equality
 use Rattle.opcodes.specs.Stack as opcodes-stack
-use Rattle.opcodes.specs.Store as opcodes-store
-use Rattle.core.specs.Cut as core-cut
 use Rattle.core.specs.Execute as core-execute
 use Rattle.core.specs.Operated as core-operated
 use Rattle.core.specs.Steps as core-steps
-use Rattle.storage.specs.Storage as storage-storage
 use Rattle.storage.specs.Table as storage-table
 use Rattle.storage.specs.Tasks as storage-tasks
 use Rattle.calls.specs.Act as calls-act
-use Rattle.calls.specs.Advance as calls-advance
-use Rattle.calls.specs.Frames as calls-frames
 use Rattle.calls.specs.Machines as calls-machines
 use Rattle.calls.specs.Turns as calls-turns
 use Rattle.runs.specs.Run as runs-run
@@ -45,11 +36,9 @@ use Rattle.runs.specs.Step as runs-step
 use Rattle.runs.specs.World as runs-world
 use Rattle.slices.specs.Same as slices-same
 use Rattle.creation.specs.Creation as creation-creation
-use Rattle.tables.specs.Tables as tables-tables
 use Rattle.image.specs.Image as image-image
 use Rattle.image.specs.Numbers as image-numbers
 use Rattle.image.specs.Reading as image-reading
-use Rattle.image.specs.Slots as image-slots
 use Rattle.image.specs.Table as image-table
 use Rattle.image.specs.Writing as image-writing
 use Rattle.utf8.specs.Grammar as utf8-grammar
@@ -195,7 +184,7 @@ pub record Examples : Type 0 where
   pub image-left-over : tests (No-tasks ++ 0 ∷ []) ≡ 25 + 256 * 14
 
 pub examples : Examples
-unfolding bytecode-opcodes.operand-size bytecode-operands.big-endian bytecode-operands.operand bytecode-operands.data-size bytecode-operands.behind bytecode-operands.extent bytecode-operands.reaching bytecode-operands.behind-by bytecode-operands.extent-by inlinevec-stacks.if-room inlinevec-stacks.if-some inlinevec-stacks.push inlinevec-stacks.pop inlinevec-stacks.last inlinevec-stacks.values-of inlinevec-stacks.push-two inlinevec-stacks.last-two inlinevec-stacks.pop-two inlinevec-stacks.change-two inlinevec-stacks.two-of inlinevec-stacks.push-loop inlinevec-stacks.pop-loop inlinevec-stacks.last-loop inlinevec-stacks.push-frame inlinevec-stacks.pop-frame values-values.make-scalar-tagged values-values.make-vec-tagged values-values.to-vec-val values-values.to-bool-val values-values.is-qnan values-values.is-scalar values-values.is-vec values-values.raw-tag values-values.tag-of values-values.is-u32-val values-values.to-u32 values-values.fat-pointer values-values.to-fat-pointer values-values.bool-not values-values.product values-values.mul-checked values-values.mul-checked-i values-values.alike values-values.value-eq values-values.turned values-values.value-neq values-values.value-cmp values-values.vec-type values-values.scalar-type values-values.get-value-type memory-allocation.offset-aligned memory-allocation.is-element-tag memory-allocation.vector memory-allocation.filling memory-allocation.stored memory-allocation.alloc memory-change.element-size-bytes memory-change.scaled memory-change.little-endian memory-change.inside memory-change.changed memory-change.mut-vec memory-reads.is-m-slice-eq memory-reads.get-slice-as-str memory-reads.get-slice-as-u32 pools-pool.end-of pools-pool.start-of pools-pool.bounds pools-pool.entry-of pools-pool.entries-of pools-pool.has-room pools-pool.interned pools-pool.part-in-use pools-pool.never-fall pools-pool.end-to-end opcodes-control.opened-to opcodes-control.do-two opcodes-control.op-do opcodes-control.looped opcodes-control.op-loop opcodes-control.index-of opcodes-control.op-loop-index opcodes-control.jumped opcodes-control.op-jump-if-false opcodes-equality.eq-right opcodes-equality.eq-left opcodes-equality.eq-vectors opcodes-equality.eq-tagged opcodes-equality.eq-right-tag opcodes-equality.eq-left-tag opcodes-equality.eq-values opcodes-equality.turned-if opcodes-equality.op-eq opcodes-stack.pop-second opcodes-stack.pop-first opcodes-stack.pop-two opcodes-stack.pushed-to opcodes-stack.push-value opcodes-stack.finish opcodes-stack.op-push opcodes-stack.on-two opcodes-stack.op-mul opcodes-stack.op-compare opcodes-stack.on-one opcodes-stack.op-muli opcodes-stack.dup-last opcodes-stack.op-dup opcodes-stack.swapped opcodes-stack.op-swap opcodes-stack.dropped opcodes-stack.op-drop opcodes-store.full-by opcodes-store.full opcodes-store.placed opcodes-store.store opcodes-store.sized opcodes-store.op-m-st opcodes-store.mut-in-use opcodes-store.mutated opcodes-store.mutate-at opcodes-store.mutate opcodes-store.mutate-last opcodes-store.mutate-two opcodes-store.op-m-muta core-cut.cut-value core-cut.cut-muli core-cut.cut-size core-cut.cut-m-st core-cut.cut-skip core-cut.cut-jump core-cut.cut core-execute.plain core-execute.operated core-execute.is-equality core-execute.execute core-execute.by-extent core-execute.instruct core-operated.with-operand core-operated.push-u32 core-operated.push-u8 core-operated.muli core-operated.jump-if-false core-operated.m-st core-operated.payload-of core-operated.m-sti-of core-operated.m-sti core-steps.is-outer core-steps.onward core-steps.turn core-steps.steps storage-storage.slot-of storage-storage.find storage-storage.room storage-storage.len-after storage-table.set-state-at storage-table.lives storage-table.living-of storage-table.sound-slot storage-table.sound-slots storage-table.sound-counts storage-table.sound-table storage-tasks.no-title storage-tasks.blank storage-tasks.default-state storage-tasks.with-state storage-tasks.title-of storage-tasks.new-task storage-tasks.set-state calls-act.went-by calls-act.created calls-act.tasked-by calls-act.created-by calls-act.on-task calls-act.on-frames calls-act.op-at calls-act.act-by calls-act.act-at calls-act.act calls-act.bare calls-advance.named-by calls-advance.named calls-advance.wanted calls-advance.halted-at calls-advance.after-steps calls-advance.advance calls-frames.intern-sized calls-frames.intern-calldata calls-frames.with-entry calls-frames.calldata-pushed calls-frames.push-calldata calls-frames.framed calls-frames.enter-bounded calls-frames.enter calls-frames.call-popped calls-frames.op-call calls-frames.left-frame calls-frames.op-end-call calls-machines.current calls-machines.with-current calls-machines.code-of calls-machines.registers-of calls-machines.settled calls-turns.turned calls-turns.save-went calls-turns.saved calls-turns.rewound runs-run.follow runs-run.run runs-step.inner-did runs-step.inner runs-step.acts-went runs-step.acts runs-step.saves-went runs-step.saves runs-step.outer runs-step.step runs-world.at-end slices-same.same creation-creation.image-tests creation-creation.creation-tests tables-tables.measuring tables-tables.next-size tables-tables.measure-next tables-tables.measured-as tables-tables.begin-save tables-tables.load-next image-image.framed image-image.header image-image.body image-image.records image-image.written image-image.task-at image-image.headed image-image.good image-image.joined image-image.read-from image-image.counted image-image.read-image image-numbers.little-endian image-numbers.number-at image-reading.front image-reading.s-len image-reading.instruction-bytes image-reading.walked image-reading.tested image-reading.on image-reading.read-record image-slots.loaded-task image-slots.saved-task image-table.added image-table.measure-slot image-table.count-slot image-table.grown image-table.measures image-table.save-slot image-table.save-slots image-table.saved-as image-table.save-table image-table.bytes-after image-table.entries-after image-table.next-reference image-table.load-slot image-table.load-tasks image-table.load-record image-table.placed image-table.load-records image-table.load-table image-writing.puts image-writing.task-in image-writing.size-of image-writing.sized image-writing.measure utf8-grammar.UTF8-char utf8-utf8.holds utf8-utf8.lead utf8-utf8.from utf8-utf8.valid vm-calls.may-start vm-calls.may-continue vm-calls.allowed vm-calls.ended vm-calls.report vm-calls.call-with vm-calls.call vm-creation.unfit vm-creation.with-program vm-creation.prepare-fit vm-creation.prepare vm-creation.create-as vm-creation.create vm-reads.is-done vm-reads.readable vm-reads.value-at vm-reads.value-read vm-reads.if-measured vm-reads.if-found vm-reads.task-result vm-reads.task-read vm-reads.host-saved vm-reads.host-save vm-sound.sound-frames vm-sound.sound-lengths vm-sound.sound-record vm-sound.sound-world vm-creation.machine-of hosting-hosting.saving hosting-hosting.run-head hosting-hosting.head-of hosting-hosting.height-of hosting-hosting.performed hosting-hosting.with-lines hosting-hosting.with-save hosting-hosting.with-run hosting-hosting.with-creation hosting-hosting.perform hosting-hosting.blank-table hosting-hosting.own hosting-lines.put-behind hosting-lines.put-tasks hosting-lines.task-lines answering-answering.new-stack answering-answering.new-ends answering-answering.new-pool answering-answering.new-lines answering-answering.new-scratch answering-answering.with-run answering-answering.rafenuma-run answering-listings.put-from answering-listings.counted answering-listings.next-line answering-listings.values-of answering-listings.put-values answering-listings.tell answering-listings.measured answering-listings.list answering-listings.with-tasks answering-numbers.save-reason answering-numbers.reason-of answering-numbers.outcome-of answering-numbers.listing-number answering-numbers.answers listing-listing.line-of-refusal listing-listing.line-of-head listing-listing.line-of-count listing-listing.line-of-bool listing-listing.line-of-numbers listing-listing.line-of-value listing-listing.line-of-task listing-listing.lines-of-values listing-listing.lines-of-tasks listing-listing.listing text-ascii.ascii text-lines.formed text-lines.line text-lines.said text-lines.put-line text-lines.hex-count text-lines.hex-part text-numbers.digit text-numbers.digits text-numbers.decimal text-numbers.hex text-numbers.spaced text-numbers.words text-numbers.shown text-numbers.numbers-left text-numbers.filled unbox-unbox.where-readable unbox-unbox.text-at unbox-unbox.numbers-at unbox-unbox.where-bounded unbox-unbox.by-type unbox-unbox.unbox-value unbox-unbox.part-of labels-check.label-from labels-check.label-at labels-check.first-failing labels-check.first-without-rule labels-check.first-wrong-jump labels-check.swept labels-check.admission labels-elements.joined labels-elements.after labels-elements.tag-kind labels-elements.field-kind labels-elements.with-kind labels-elements.field-element labels-elements.jump-element labels-elements.moving-element labels-elements.plain-element labels-elements.whole-element labels-elements.element labels-labels.exchanged labels-labels.kinds-after labels-labels.loops-after labels-labels.bounded labels-labels.rule labels-labels.next-label admission-answer.written admission-answer.answered host-numbers.admission-number host-numbers.packed-image
+unfolding bytecode-opcodes.operand-size bytecode-operands.big-endian bytecode-operands.operand bytecode-operands.data-size bytecode-operands.behind bytecode-operands.extent inlinevec-stacks.if-room inlinevec-stacks.if-some inlinevec-stacks.push inlinevec-stacks.pop inlinevec-stacks.push-two inlinevec-stacks.last-two inlinevec-stacks.pop-two inlinevec-stacks.change-two inlinevec-stacks.push-loop inlinevec-stacks.pop-loop values-values.make-scalar-tagged values-values.is-scalar values-values.is-vec values-values.raw-tag values-values.to-u32 values-values.scalar-type values-values.get-value-type pools-pool.end-of pools-pool.start-of pools-pool.entry-of pools-pool.has-room pools-pool.interned pools-pool.never-fall pools-pool.end-to-end opcodes-control.opened-to opcodes-control.do-two opcodes-control.op-do opcodes-control.looped opcodes-control.op-loop opcodes-stack.pop-second opcodes-stack.pop-first opcodes-stack.pop-two opcodes-stack.pushed-to opcodes-stack.push-value opcodes-stack.op-push opcodes-stack.dropped opcodes-stack.op-drop core-execute.plain core-execute.operated core-execute.is-equality core-execute.execute core-execute.by-extent core-execute.instruct core-operated.with-operand core-operated.push-u32 core-steps.is-outer storage-table.lives storage-table.living-of storage-table.sound-slot storage-table.sound-slots storage-table.sound-counts storage-table.sound-table storage-tasks.blank calls-act.op-at calls-machines.current calls-machines.with-current calls-machines.code-of calls-machines.registers-of calls-machines.settled calls-turns.rewound runs-run.follow runs-run.run runs-step.inner-did runs-step.inner runs-step.step runs-world.at-end slices-same.same creation-creation.image-tests creation-creation.creation-tests image-image.framed image-image.header image-image.headed image-image.good image-image.joined image-image.read-from image-image.counted image-image.read-image image-numbers.little-endian image-numbers.number-at image-reading.s-len image-reading.instruction-bytes image-reading.tested image-table.measure-slot image-table.count-slot image-table.grown image-table.measures image-table.save-slot image-table.save-slots image-table.saved-as image-table.save-table image-table.load-records image-writing.puts utf8-grammar.UTF8-char utf8-utf8.holds utf8-utf8.lead utf8-utf8.from utf8-utf8.valid vm-calls.may-start vm-calls.may-continue vm-calls.allowed vm-calls.ended vm-calls.report vm-calls.call-with vm-calls.call vm-creation.unfit vm-creation.with-program vm-creation.prepare-fit vm-creation.prepare vm-creation.create-as vm-creation.create vm-reads.host-saved vm-reads.host-save vm-sound.sound-frames vm-sound.sound-lengths vm-sound.sound-record vm-sound.sound-world vm-creation.machine-of hosting-hosting.saving hosting-hosting.run-head hosting-hosting.head-of hosting-hosting.height-of hosting-hosting.performed hosting-hosting.with-lines hosting-hosting.with-save hosting-hosting.with-run hosting-hosting.with-creation hosting-hosting.perform hosting-hosting.blank-table hosting-hosting.own hosting-lines.put-behind hosting-lines.put-tasks hosting-lines.task-lines answering-answering.new-stack answering-answering.new-ends answering-answering.new-pool answering-answering.new-lines answering-answering.new-scratch answering-answering.with-run answering-answering.rafenuma-run answering-listings.put-from answering-listings.counted answering-listings.next-line answering-listings.values-of answering-listings.put-values answering-listings.tell answering-listings.measured answering-listings.list answering-listings.with-tasks answering-numbers.save-reason answering-numbers.reason-of answering-numbers.outcome-of answering-numbers.listing-number answering-numbers.answers listing-listing.line-of-refusal listing-listing.line-of-head listing-listing.line-of-count listing-listing.line-of-value listing-listing.line-of-task text-ascii.ascii text-lines.formed text-lines.line text-lines.said text-lines.put-line text-numbers.digit text-numbers.digits text-numbers.decimal text-numbers.spaced text-numbers.shown text-numbers.numbers-left text-numbers.filled unbox-unbox.by-type unbox-unbox.unbox-value labels-check.label-from labels-check.label-at labels-check.first-failing labels-check.first-without-rule labels-check.first-wrong-jump labels-check.swept labels-check.admission labels-elements.joined labels-elements.after labels-elements.moving-element labels-elements.plain-element labels-elements.whole-element labels-elements.element labels-labels.exchanged labels-labels.kinds-after labels-labels.loops-after labels-labels.bounded labels-labels.rule labels-labels.next-label admission-answer.answered host-numbers.admission-number host-numbers.packed-image
 examples = record {
   run-done = refl;
   run-paused = refl;
