@@ -1,13 +1,13 @@
 -- The instruction at the place by what stands behind its opcode is the one by the table of operand sizes.
 use Prim.Native.Nat.{ℕ, _+_, _<_, _≤_}
-use mathlib.Core.Bool.{Bool, true, false, not, _||_}
+use mathlib.Core.Bool.{Bool, true, false, cond, _||_}
 use mathlib.Core.List.{List, [], _∷_}
 use mathlib.Core.Path.{_≡_, refl, sym, ap, subst, _∙_}
-use native.Mathlib.Decide.{decLe}
+use native.Mathlib.Decide.{decLe, ℕ-discrete}
 use native.Mathlib.Omega.{arith}
-use lib.Dec.{eqb}
+use lib.Dec.{eqb, ltb}
 use lib.ListN.{getD, length}
-use borrow.Author.Tests.{eqb-true, le-leb, lt-leb}
+use borrow.Author.Tests.{eqb-true, eqb-false, ltb-true, le-leb, lt-leb}
 use Rattle.errors.specs.declared.Refusal.the-variants.{UnexpectedEOB}
 use Rattle.bytecode.specs.Opcodes.{PUSH-U32, PUSH-STATE, PUSH-CALLDATA, PUSH-TASK-FIELD, PUSH-MAX-STATES, S-LEN, DO, LOOP, LOOP-INDEX, DROP, DUP, SWAP, EQ, NEQ, LT, GT, JUMP-IF-FALSE, M-STI, MULI, MUL, operand-size}
 use Rattle.bytecode.specs.Operands.{operand, data-size, behind, extent}
@@ -24,7 +24,8 @@ use Rattle.opcodes.specs.declared.Did.the-variants.{Refused}
 use Rattle.core.specs.Cut.{cut}
 use Rattle.core.specs.Operated.{with-operand, push-u32, push-u8, muli, jump-if-false}
 use Rattle.core.specs.Execute.{kept, plain, operated, is-equality, execute, by-extent, instruct}
-use Rattle.core.specs.Kinds.{among, plain-opcodes, is-plain, byte-opcodes, number-opcodes, operand-opcodes, has-operand, pushes-byte, with-number, numbered, stored, cut-stored, stored-by, whole-or-cut}
+use Rattle.core.specs.Steps.{is-outer}
+use Rattle.core.specs.Kinds.{among, plain-opcodes, is-plain, number-opcodes, has-number, pushes-byte, with-number, numbered, stored, cut-stored, stored-by, whole-or-cut}
 
 -- ---- opcodes among some
 
@@ -42,27 +43,47 @@ at-one : (P : ℕ → Type 0) (op : ℕ) {ones : List ℕ} → Each P ones → a
 at-one P op none e = absurd (let z : _≡_ {A = ℕ} 0 1 = cc in omega arith)
 at-one P op (also {one} {others} here there) e = at-first P op one (among op others) (eqb op one) refl here (λ t. at-one P op there t) e
 
--- an opcode that is not among some differs from each of them
-differs : (op one : ℕ) (ones : List ℕ) → among op ones ≡ false → among one ones ≡ true → eqb op one ≡ false
-differs op one ones out inside = by (eqb op one) refl
+-- an opcode of which a test fails differs from each that passes it
+differs : (test : ℕ → Bool) (op one : ℕ) → test op ≡ false → test one ≡ true → eqb op one ≡ false
+differs test op one out inside = by (eqb op one) refl
   where
     by : (b : Bool) → eqb op one ≡ b → b ≡ false
     by true same =
-        let e : among op ones ≡ true = subst (λ (o : ℕ). among o ones ≡ true) (sym (eqb-true op one same)) inside in
+        let e : test op ≡ true = subst (λ (o : ℕ). test o ≡ true) (sym (eqb-true op one same)) inside in
         absurd (let z : _≡_ {A = ℕ} 0 1 = cc in omega arith)
     by false same = refl
 
--- one with an operand is among those with a byte or among those with a number
-byte-among : (op : ℕ) → has-operand op ≡ true → pushes-byte op ≡ true → among op byte-opcodes ≡ true
-unfolding has-operand pushes-byte
-byte-among op e byte =
-    at-one (λ (o : ℕ). among o byte-opcodes ≡ pushes-byte o) op (also refl (also refl (also refl (also refl (also refl (also refl none)))))) e ∙ byte
+-- the opcodes that push a byte
+abbrev byte-opcodes : List ℕ
+byte-opcodes = PUSH-STATE ∷ PUSH-TASK-FIELD ∷ PUSH-MAX-STATES ∷ []
 
-number-among : (op : ℕ) → has-operand op ≡ true → pushes-byte op ≡ false → among op number-opcodes ≡ true
-unfolding has-operand pushes-byte
-number-among op e number =
-    at-one (λ (o : ℕ). among o number-opcodes ≡ not (pushes-byte o)) op (also refl (also refl (also refl (also refl (also refl (also refl none)))))) e
-    ∙ ap not number
+-- two tests that both pass
+both : (first second : Bool) → cond first second false ≡ true → (first ≡ true) × (second ≡ true)
+both true second e = (refl, e)
+both false second e = absurd (let z : _≡_ {A = ℕ} 0 1 = cc in omega arith)
+
+-- they are those of the range, but for PUSH_CALLDATA, which needs the pool
+byte-among : (op : ℕ) → is-outer op ≡ false → pushes-byte op ≡ true → among op byte-opcodes ≡ true
+unfolding is-outer pushes-byte
+byte-among op inner byte = by (ℕ-discrete op PUSH-STATE) (ℕ-discrete op PUSH-TASK-FIELD) (ℕ-discrete op PUSH-MAX-STATES)
+  where
+    range : (ltb 2 op ≡ true) × (ltb op 7 ≡ true)
+    range = both (ltb 2 op) (ltb op 7) byte
+
+    above : 2 < op
+    above = ltb-true 2 op (range .0)
+
+    below : op < 7
+    below = ltb-true op 7 (range .1)
+
+    at : {one : ℕ} → among one byte-opcodes ≡ true → op ≡ one → among op byte-opcodes ≡ true
+    at inside same = subst (λ (o : ℕ). among o byte-opcodes ≡ true) (sym same) inside
+
+    by : Dec (op ≡ PUSH-STATE) → Dec (op ≡ PUSH-TASK-FIELD) → Dec (op ≡ PUSH-MAX-STATES) → among op byte-opcodes ≡ true
+    by (yes same) _ _ = at refl same
+    by (no _) (yes same) _ = at refl same
+    by (no _) (no _) (yes same) = at refl same
+    by (no first) (no second) (no third) = absurd (eqb-false op PUSH-CALLDATA (differs is-outer op PUSH-CALLDATA inner refl) (omega (arith, first, second, third, above, below)))
 
 -- ---- how far an instruction reaches
 
@@ -96,8 +117,8 @@ byte-operands : (op : ℕ) → among op byte-opcodes ≡ true → Operands 1 op
 unfolding operand-size
 byte-operands op e = at-one (Operands 1) op (also (fixed refl refl refl) (also (fixed refl refl refl) (also (fixed refl refl refl) none))) e
 
-number-operands : (op : ℕ) → among op number-opcodes ≡ true → Operands 4 op
-unfolding operand-size
+number-operands : (op : ℕ) → has-number op ≡ true → Operands 4 op
+unfolding has-number operand-size
 number-operands op e = at-one (Operands 4) op (also (fixed refl refl refl) (also (fixed refl refl refl) (also (fixed refl refl refl) none))) e
 
 module _ (code : List ℕ) (place size : ℕ) (known : Operands size (getD code place 0)) where
@@ -139,7 +160,7 @@ module _ (stack memory code : List ℕ) (registers : Registers) (next op count :
   -- the count is read by S_LEN alone
   executed-uncounted : is-plain op ≡ false → execute stack memory code registers next op 0 ≡ execute stack memory code registers next op count
   unfolding is-plain execute operated plain
-  executed-uncounted no-plain = simp (differs op S-LEN plain-opcodes no-plain refl)
+  executed-uncounted no-plain = simp (differs is-plain op S-LEN no-plain refl)
 
   executed-equality : is-equality op ≡ true → execute stack memory code registers next op count ≡ kept (op-eq stack memory registers next (eqb op EQ)) memory
   unfolding execute
@@ -155,30 +176,31 @@ module _ (stack memory code : List ℕ) (registers : Registers) (next op count :
   unfolding cut
   cut-byte e = at-one (λ (o : ℕ). cut stack registers o ≡ Refused UnexpectedEOB) op (also refl (also refl (also refl none))) e
 
-  executed-number : among op number-opcodes ≡ true → execute stack memory code registers next op count ≡ kept (numbered stack code registers next op) memory
-  unfolding execute is-equality operated push-u32 muli jump-if-false numbered with-number
+  executed-number : has-number op ≡ true → execute stack memory code registers next op count ≡ kept (numbered stack code registers next op) memory
+  unfolding has-number execute is-equality operated push-u32 muli jump-if-false numbered with-number
   executed-number e =
       at-one (λ (o : ℕ). execute stack memory code registers next o count ≡ kept (numbered stack code registers next o) memory) op
       (also refl (also refl (also (ap (λ (after : OnStack). kept after memory)
       (operand-on-stack stack (op-jump-if-false stack registers next) (operand 4 code (registers .place + 1)))) none))) e
 
-  module _ (no-plain : is-plain op ≡ false) (no-equality : is-equality op ≡ false) (no-operand : has-operand op ≡ false) where
-    neither-plain : (one : ℕ) → among one plain-opcodes ≡ true → eqb op one ≡ false
-    unfolding is-plain
-    neither-plain one inside = differs op one plain-opcodes no-plain inside
+  module _ (no-plain : is-plain op ≡ false) (no-equality : is-equality op ≡ false) (no-number : has-number op ≡ false) (no-byte : pushes-byte op ≡ false) where
+    not-plain : (one : ℕ) → is-plain one ≡ true → eqb op one ≡ false
+    not-plain one inside = differs is-plain op one no-plain inside
 
-    neither-operand : (one : ℕ) → among one operand-opcodes ≡ true → eqb op one ≡ false
-    unfolding has-operand
-    neither-operand one inside = differs op one operand-opcodes no-operand inside
+    not-number : (one : ℕ) → has-number one ≡ true → eqb op one ≡ false
+    not-number one inside = differs has-number op one no-number inside
+
+    not-byte : (one : ℕ) → pushes-byte one ≡ true → eqb op one ≡ false
+    not-byte one inside = differs pushes-byte op one no-byte inside
 
     executed-other : execute stack memory code registers next op count ≡ stored stack memory code registers next op
-    unfolding execute operated plain stored
+    unfolding is-plain has-number pushes-byte execute operated plain stored
     executed-other =
-        simp (no-equality, neither-operand PUSH-U32 refl, neither-operand PUSH-STATE refl, neither-operand PUSH-TASK-FIELD refl, neither-operand PUSH-MAX-STATES refl, neither-operand MULI refl, neither-operand JUMP-IF-FALSE refl, neither-plain MUL refl, neither-plain LT refl, neither-plain GT refl, neither-plain DUP refl, neither-plain SWAP refl, neither-plain DROP refl, neither-plain DO refl, neither-plain LOOP refl, neither-plain LOOP-INDEX refl, neither-plain S-LEN refl)
+        simp (no-equality, not-number PUSH-U32 refl, not-byte PUSH-STATE refl, not-byte PUSH-TASK-FIELD refl, not-byte PUSH-MAX-STATES refl, not-number MULI refl, not-number JUMP-IF-FALSE refl, not-plain MUL refl, not-plain LT refl, not-plain GT refl, not-plain DUP refl, not-plain SWAP refl, not-plain DROP refl, not-plain DO refl, not-plain LOOP refl, not-plain LOOP-INDEX refl, not-plain S-LEN refl)
 
     cut-other : cut stack registers op ≡ cut-stored stack registers op
-    unfolding cut cut-stored
-    cut-other = simp (neither-operand MULI refl, neither-operand JUMP-IF-FALSE refl)
+    unfolding has-number cut cut-stored
+    cut-other = simp (not-number MULI refl, not-number JUMP-IF-FALSE refl)
 
 -- ---- the instruction at the place
 
@@ -216,42 +238,40 @@ module _ (stack memory code : List ℕ) (registers : Registers) (count : ℕ) wh
       let reach : extent code (registers .place) ≡ extents.Cut = past code (registers .place) 1 (byte-operands op-at e) outside in
       simp (reach, cut-byte stack memory code registers (registers .place + 2) op-at count e, lt-leb (registers .place + 1 + 1) (length code) (omega arith))
 
-  pub instruct-byte : has-operand op-at ≡ true → pushes-byte op-at ≡ true
+  pub instruct-byte : is-outer op-at ≡ false → pushes-byte op-at ≡ true
       → kept (push-u8 stack code registers (registers .place + 2)) memory ≡ instruct stack memory code registers count
-  instruct-byte e byte = by (decLe (registers .place + 2) (length code))
+  instruct-byte inner byte = by (decLe (registers .place + 2) (length code))
     where
       by : Dec (registers .place + 2 ≤ length code) → kept (push-u8 stack code registers (registers .place + 2)) memory ≡ instruct stack memory code registers count
-      by (yes inside) = byte-whole inside (byte-among op-at e byte)
-      by (no outside) = byte-cut (omega arith) (byte-among op-at e byte)
+      by (yes inside) = byte-whole inside (byte-among op-at inner byte)
+      by (no outside) = byte-cut (omega arith) (byte-among op-at inner byte)
 
   -- a number is taken
-  pub instruct-number : registers .place + 5 ≤ length code → has-operand op-at ≡ true → pushes-byte op-at ≡ false
+  pub instruct-number : registers .place + 5 ≤ length code → has-number op-at ≡ true
       → kept (numbered stack code registers (registers .place + 5) op-at) memory ≡ instruct stack memory code registers count
   unfolding instruct by-extent
-  instruct-number inside e number =
-      let taken : among op-at number-opcodes ≡ true = number-among op-at e number in
-      let reach : extent code (registers .place) ≡ extents.Next (registers .place + 5) = whole code (registers .place) 4 (number-operands op-at taken) inside in
-      simp (reach, executed-number stack memory code registers (registers .place + 5) op-at count taken)
+  instruct-number inside number =
+      let reach : extent code (registers .place) ≡ extents.Next (registers .place + 5) = whole code (registers .place) 4 (number-operands op-at number) inside in
+      simp (reach, executed-number stack memory code registers (registers .place + 5) op-at count number)
 
-  pub instruct-cut : length code < registers .place + 5 → has-operand op-at ≡ true → pushes-byte op-at ≡ false
+  pub instruct-cut : length code < registers .place + 5 → has-number op-at ≡ true
       → on-memory (cut stack registers op-at) stack memory ≡ instruct stack memory code registers count
   unfolding instruct by-extent
-  instruct-cut outside e number =
-      let reach : extent code (registers .place) ≡ extents.Cut = past code (registers .place) 4 (number-operands op-at (number-among op-at e number)) outside in
+  instruct-cut outside number =
+      let reach : extent code (registers .place) ≡ extents.Cut = past code (registers .place) 4 (number-operands op-at number) outside in
       simp (reach)
 
   -- any other, by the table
-  other-by : (reach : Extent) → is-plain op-at ≡ false → is-equality op-at ≡ false → has-operand op-at ≡ false
-      → stored-by stack memory code registers op-at reach ≡ by-extent stack memory code registers op-at count reach
-  unfolding by-extent stored-by
-  other-by (extents.Next next) no-plain no-equality no-operand = sym (executed-other stack memory code registers next op-at count no-plain no-equality no-operand)
-  other-by extents.Cut no-plain no-equality no-operand =
-      ap (λ (did : Did). on-memory did stack memory) (sym (cut-other stack memory code registers 0 op-at count no-plain no-equality no-operand))
+  module _ (no-plain : is-plain op-at ≡ false) (no-equality : is-equality op-at ≡ false) (no-number : has-number op-at ≡ false) (no-byte : pushes-byte op-at ≡ false) where
+    other-by : (reach : Extent) → stored-by stack memory code registers op-at reach ≡ by-extent stack memory code registers op-at count reach
+    unfolding by-extent stored-by
+    other-by (extents.Next next) = sym (executed-other stack memory code registers next op-at count no-plain no-equality no-number no-byte)
+    other-by extents.Cut =
+        ap (λ (did : Did). on-memory did stack memory) (sym (cut-other stack memory code registers 0 op-at count no-plain no-equality no-number no-byte))
 
-  pub instruct-other : is-plain op-at ≡ false → is-equality op-at ≡ false → has-operand op-at ≡ false
-      → whole-or-cut stack memory code registers op-at ≡ instruct stack memory code registers count
-  unfolding instruct whole-or-cut
-  instruct-other = other-by (extent code (registers .place))
+    pub instruct-other : whole-or-cut stack memory code registers op-at ≡ instruct stack memory code registers count
+    unfolding instruct whole-or-cut
+    instruct-other = other-by (extent code (registers .place))
 
   -- the count is read by a plain one alone
   uncounted-by : (reach : Extent) → is-plain op-at ≡ false → by-extent stack memory code registers op-at 0 reach ≡ by-extent stack memory code registers op-at count reach

@@ -1,10 +1,10 @@
 -- Instructions by what stands behind their opcode: nothing, a byte, a number of four bytes, or what the operand rule says.
 use Prim.Native.Nat.{ℕ, _+_}
 use mathlib.Core.Bool.{Bool, false, cond, _||_}
-use mathlib.Core.List.{List, [], _∷_, _++_}
+use mathlib.Core.List.{List, [], _∷_}
 use lib.Dec.{eqb, ltb}
 use Rattle.errors.specs.declared.Refusal.the-variants.{UnexpectedEOB}
-use Rattle.bytecode.specs.Opcodes.{PUSH-U32, PUSH-STATE, PUSH-TASK-FIELD, PUSH-MAX-STATES, S-LEN, DO, LOOP, LOOP-INDEX, DROP, DUP, SWAP, LT, GT, JUMP-IF-FALSE, M-STI, M-ST, M-MUTA, MULI, MUL}
+use Rattle.bytecode.specs.Opcodes.{PUSH-U32, S-LEN, DO, LOOP, LOOP-INDEX, DROP, DUP, SWAP, LT, GT, JUMP-IF-FALSE, M-STI, M-ST, M-MUTA, MULI, MUL}
 use Rattle.bytecode.specs.Operands.{operand, extent}
 use Rattle.bytecode.specs.declared.Extent.{Extent}
 use Rattle.bytecode.specs.declared.Extent.the-variants as extents
@@ -31,22 +31,14 @@ plain-opcodes = MUL ∷ LT ∷ GT ∷ DUP ∷ SWAP ∷ DROP ∷ DO ∷ LOOP ∷ 
 unfoldable pub is-plain : ℕ → Bool
 is-plain op = among op plain-opcodes
 
--- a byte behind it, which it pushes
-abbrev pub byte-opcodes : List ℕ
-byte-opcodes = PUSH-STATE ∷ PUSH-TASK-FIELD ∷ PUSH-MAX-STATES ∷ []
-
 -- a number of four bytes behind it
 abbrev pub number-opcodes : List ℕ
 number-opcodes = PUSH-U32 ∷ MULI ∷ JUMP-IF-FALSE ∷ []
 
--- one operand of a fixed size behind it: one of these
-abbrev pub operand-opcodes : List ℕ
-operand-opcodes = byte-opcodes ++ number-opcodes
+unfoldable pub has-number : ℕ → Bool
+has-number op = among op number-opcodes
 
-unfoldable pub has-operand : ℕ → Bool
-has-operand op = among op operand-opcodes
-
--- whether such an operand is a byte: by the range in which those opcodes stand
+-- a byte behind it, which it pushes: by the range in which those opcodes stand, and PUSH_CALLDATA, which needs the pool
 unfoldable pub pushes-byte : ℕ → Bool
 pushes-byte op = cond (ltb 2 op) (ltb op 7) false
 

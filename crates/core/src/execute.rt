@@ -5,7 +5,8 @@ ghost use Prim.Native.Nat.{_≤_, _<_};
 ghost use lib.ListN.{length, getD};
 ghost use Rattle.opcodes.specs.Registers.{on-stack, on-memory};
 ghost use Rattle.core.specs.Execute.{plain, is-equality, instruct};
-ghost use Rattle.core.specs.Kinds.{is-plain, has-operand, pushes-byte, with-number, numbered, stored, whole-or-cut};
+ghost use Rattle.core.specs.Steps.{is-outer};
+ghost use Rattle.core.specs.Kinds.{is-plain, has-number, pushes-byte, with-number, numbered, stored, whole-or-cut};
 use crate::cut::cut;
 use crate::cut::cut_stored;
 use crate::operated::m_st;
@@ -105,22 +106,20 @@ fn is_equality(op: u8) -> bool
     op == NEQ
 }
 
-// One operand of a fixed size behind the opcode: a byte or a number of four bytes.
-fn has_operand(op: u8) -> bool
-    ensures { λ r. ⌜ r ≡ has-operand op ⌝ }
+// A number of four bytes behind the opcode: PUSH_U32, JUMP_IF_FALSE, MULI.
+fn has_number(op: u8) -> bool
+    ensures { λ r. ⌜ r ≡ has-number op ⌝ }
 {
     match op {
         0x01 => true,
-        0x03 => true,
-        0x05 => true,
-        0x06 => true,
         0x1A => true,
         0x1E => true,
         _ => false,
     }
 }
 
-// Whether such an operand is a byte: those opcodes stand between PUSH_U32 and T_CREATE. A range, so that the compiler makes one test of it.
+// A byte behind it, which it pushes: those opcodes stand between PUSH_U32 and T_CREATE, with PUSH_CALLDATA, which needs the pool and does not come here. A
+// range, so that the compiler makes one test of it.
 fn pushes_byte(op: u8) -> bool
     ensures { λ r. ⌜ r ≡ pushes-byte op ⌝ }
 {
@@ -201,28 +200,28 @@ fn whole_or_cut(
     }
 }
 
-// The instruction at the place, which lies in the code and is none of the plain ones. For most opcodes the next place is a constant further, so that a
-// run does not wait for it; each function here is called at one place, so that the compiler makes one loop of them. The count is read by S_LEN alone,
-// which is plain: any will do.
+// The instruction at the place, which lies in the code, is none of the plain ones and needs no task, frame or pool. For most opcodes the next place is a
+// constant further, so that a run does not wait for it; each function here is called at one place, so that the compiler makes one loop of them. Numbers come
+// first, because they are the most. The count is read by S_LEN alone, which is plain: any will do.
 pub(crate) fn instruct(
     stack: &mut [u64; 1000],
     memory: &mut [u8],
     code: &[u8],
     registers: Registers,
 ) -> Did
-    requires { ⌜ (registers .place < length (now code)) × (is-plain (getD (now code) (registers .place) 0) ≡ false) ⌝ }
+    requires { ⌜ (registers .place < length (now code)) × (is-plain (getD (now code) (registers .place) 0) ≡ false) × (is-outer (getD (now code) (registers .place) 0) ≡ false) ⌝ }
     ensures { λ r. ⌜ on-memory r (now (stack .exit)) (now (memory .exit)) ≡ instruct (now (stack .entry)) (now (memory .entry)) (now (code .entry)) registers 0 ⌝ }
 {
     let place = registers.place;
     let op = code[place];
-    if has_operand(op) {
-        if pushes_byte(op) {
-            return push_u8(stack, code, registers, place + 2);
-        }
+    if has_number(op) {
         if code.len() - place < 5 {
             return cut(stack, registers, op);
         }
         return numbered(stack, code, registers, place + 5, op);
+    }
+    if pushes_byte(op) {
+        return push_u8(stack, code, registers, place + 2);
     }
     if is_equality(op) {
         return op_eq(stack, memory, registers, place + 1, op == EQ);

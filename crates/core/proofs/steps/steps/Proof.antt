@@ -101,8 +101,11 @@ returns-3 c =
     refused _ _ _ _ _ _ _ _ _ (c .before .before .before .before .before .before .before .before .before .before .if2 .left) inside (sym (c .before .before .before .before .before .before .before .before .is-outer .ensures) ∙ c .before .before .before .before .before .before .before .if3 .left) did ∙ c .before .before .before .before .before .before .before .before .before .before .before .before .before .loop .inv .1
 
 instruct-requires : tie.Need-instruct-requires Inv-loop μ-loop
-instruct-requires c κs =
-    (c .before .before .before .before .before .before .before .before .if1 .taken, sym (c .before .before .before .is-plain .ensures) ∙ c .before .before .if4 .left)
+instruct-requires c κs = (
+  c .before .before .before .before .before .before .before .before .if1 .taken,
+  sym (c .before .before .before .is-plain .ensures) ∙ c .before .before .if4 .left,
+  sym (c .before .before .before .before .before .is-outer .ensures) ∙ c .before .before .before .before .if3 .left,
+)
 
 enum-known-next-2 : tie.Need-enum-known-next-2 Inv-loop μ-loop
 enum-known-next-2 c =
