@@ -9,7 +9,7 @@ use calls::machines::registers_of;
 use calls::machines::settled;
 use core::Halt;
 use core::Machine;
-use core::steps::steps;
+use stepping::steps;
 
 // Why the steps halted, and what is at hand.
 fn halted_at(machine: Machine, op: u8, left: u64, halt: Halt) -> Gone

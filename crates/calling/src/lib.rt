@@ -170,7 +170,7 @@ pub fn call(
     let good = sound(table, memory, pool, ends, save, machine);
     let begun = allowed(machine, good, verb);
     if begun.allowed {
-        let ran = runs::drive(table, stack, memory, pool, ends, save, begun.machine, fuel);
+        let ran = driving::drive(table, stack, memory, pool, ends, save, begun.machine, fuel);
         return report(fuel, ran);
     }
     not_allowed(machine)

@@ -1,5 +1,4 @@
 pub mod Cut
 pub mod Operated
 pub mod Execute
-pub mod Kinds
 pub mod Steps

@@ -1,9 +1,4 @@
-// The machine's record, and its instructions one after the other.
-mod cut;
-mod execute;
-mod operated;
-pub mod steps;
-
+// The machine's record, and what its instructions do, one after the other.
 use errors::Refusal;
 use inlinevec::Frames;
 use inlinevec::Loops;

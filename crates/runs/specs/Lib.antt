@@ -1,6 +1,3 @@
 pub mod World
 pub mod Step
 pub mod Run
-pub mod Behind
-pub mod States
-pub mod Going

@@ -20,7 +20,7 @@ use Rattle.advance.proofs.halted_at.Reads as halted-at-reads
 use Rattle.calls.proofs.machines.code_of.Reads as code-of-reads
 use Rattle.calls.proofs.machines.registers_of.Reads as registers-of-reads
 use Rattle.calls.proofs.machines.settled.Reads as settled-reads
-use Rattle.core.proofs.steps.steps.Reads as steps-reads
+use Rattle.stepping.proofs.steps.Reads as steps-reads
 
 -- what the calls answer, put together
 advanced : (stack memory pool ends : List ℕ) (machine : Machine) (fuel : ℕ) {code : List ℕ} {registers : Registers} {reached : Stepped} {stack′ memory′ : List ℕ} {op : ℕ} {after : Machine} {r : Gone}

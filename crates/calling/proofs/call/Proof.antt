@@ -66,7 +66,7 @@ use Rattle.vm.proofs.Fields.{begun-is, take-allowed, take-begun}
 use Rattle.vm.proofs.Answers.{calls-run, calls-none}
 use Rattle.sound.proofs.sound.Symbol.{name as #tests}
 use Rattle.calling.proofs.allowed.Symbol.{name as #allows}
-use Rattle.runs.proofs.drive.Symbol.{name as #drives}
+use Rattle.driving.proofs.drive.Symbol.{name as #drives}
 use Rattle.calling.proofs.report.Symbol.{name as #reports}
 use Rattle.calling.proofs.not_allowed.Symbol.{name as #refuses}
 use Rattle.calling.proofs.call.Key.{name as #this}
@@ -76,9 +76,9 @@ use Rattle.sound.proofs.sound.Met as tests-thm
 use Rattle.calling.proofs.allowed as allows
 use Rattle.calling.proofs.allowed.Symbol as allows-def
 use Rattle.calling.proofs.allowed.Met as allows-thm
-use Rattle.runs.proofs.drive as drives
-use Rattle.runs.proofs.drive.Symbol as drives-def
-use Rattle.runs.proofs.drive.Met as drives-thm
+use Rattle.driving.proofs.drive as drives
+use Rattle.driving.proofs.drive.Symbol as drives-def
+use Rattle.driving.proofs.drive.Met as drives-thm
 use Rattle.calling.proofs.report as reports
 use Rattle.calling.proofs.report.Symbol as reports-def
 use Rattle.calling.proofs.report.Met as reports-thm
@@ -296,6 +296,6 @@ call-spec 𝓤 H 𝓜 𝓖 𝓡 =
     (meets 𝓤 H (𝓖 .A) (givenOf 𝓤 H 𝓜 𝓖) (𝓜 .mem) (𝓡 .run) (tablesOf 𝓤 H 𝓜 (tables 𝓤 H 𝓜 𝓡 code.env))
     (cited 𝓤 H (tests-con 𝓤 H (𝓖 .A) (𝓜 .mem) (𝓡 .run)) 𝓜 𝓡 code.env #tests tests-def.routine code.calls-sound·sound (tests-thm.met 𝓤 H 𝓜 𝓖 𝓡))
     (cited 𝓤 H (allows-con 𝓤 H (𝓖 .A) (𝓜 .mem) (𝓡 .run)) 𝓜 𝓡 code.env #allows allows-def.routine code.calls-calling·allowed (allows-thm.met 𝓤 H 𝓜 𝓖 𝓡))
-    (cited 𝓤 H (drives-con 𝓤 H (𝓖 .A) (𝓜 .mem) (𝓡 .run)) 𝓜 𝓡 code.env #drives drives-def.routine code.calls-runs·drive (drives-thm.met 𝓤 H 𝓜 𝓖 𝓡))
+    (cited 𝓤 H (drives-con 𝓤 H (𝓖 .A) (𝓜 .mem) (𝓡 .run)) 𝓜 𝓡 code.env #drives drives-def.routine code.calls-driving·drive (drives-thm.met 𝓤 H 𝓜 𝓖 𝓡))
     (cited 𝓤 H (reports-con 𝓤 H (𝓖 .A) (𝓜 .mem) (𝓡 .run)) 𝓜 𝓡 code.env #reports reports-def.routine code.calls-calling·report (reports-thm.met 𝓤 H 𝓜 𝓖 𝓡))
     (cited 𝓤 H (refuses-con 𝓤 H (𝓖 .A) (𝓜 .mem) (𝓡 .run)) 𝓜 𝓡 code.env #refuses refuses-def.routine code.calls-calling·not-allowed (refuses-thm.met 𝓤 H 𝓜 𝓖 𝓡)))
