@@ -1,9 +1,10 @@
 // The opcodes of loops: DO, LOOP, LOOP_INDEX.
 ghost use mathlib.Core.Path.{_≡_};
-ghost use Prim.Native.Nat.{_<_};
-ghost use Rattle.inlinevec.specs.Stacks.{of-loops, to-loops, last-two, change-two, pop-two};
+ghost use Prim.Native.Nat.{_+_, _<_};
+ghost use lib.Dec.{ltb};
+ghost use Rattle.inlinevec.specs.Stacks.{of-loops, to-loops, last-two, pop-two};
 ghost use Rattle.opcodes.specs.Registers.{on-stack};
-ghost use Rattle.opcodes.specs.Control.{looping, opened-to, op-do, op-loop, op-loop-index};
+ghost use Rattle.opcodes.specs.Control.{looping, opened-to, op-do, next-round, op-loop, op-loop-index};
 use errors::Refusal;
 use inlinevec::Loop;
 use inlinevec::Loops;
@@ -68,19 +69,6 @@ fn innermost(loops: Loops) -> Loop
     loops.inner
 }
 
-// The loops with another innermost one.
-fn with_innermost(loops: Loops, last: Loop) -> Loops
-    ensures { λ r. ⌜ r ≡ to-loops (change-two (of-loops loops) last) ⌝ }
-{
-    let mut changed = loops;
-    if loops.count == 1 {
-        changed.outer = last;
-        return changed;
-    }
-    changed.inner = last;
-    changed
-}
-
 // The loops without the innermost one, which stays at its place.
 fn without_innermost(loops: Loops) -> Loops
     requires { ⌜ 0 < loops .count ⌝ }
@@ -91,28 +79,50 @@ fn without_innermost(loops: Loops) -> Loops
     changed
 }
 
-// LOOP: back exactly if index + 1 is below the limit.
+// Whether a loop goes round once more.
+fn goes_round(last: Loop) -> bool
+    ensures { λ r. ⌜ r ≡ ltb (last .index + 1) (last .limit) ⌝ }
+{
+    last.index as u64 + 1 < last.limit as u64
+}
+
+// A loop one round on.
+fn next_round(last: Loop) -> Loop
+    requires { ⌜ last .index + 1 < last .limit ⌝ }
+    ensures { λ r. ⌜ r ≡ next-round last ⌝ }
+{
+    Loop {
+        place: last.place,
+        index: last.index + 1,
+        limit: last.limit,
+    }
+}
+
+// LOOP: back exactly if index + 1 is below the limit. The inner loop and the outer one have a way each: where they came together, both were loaded and stored.
 pub fn op_loop(registers: Registers, next: usize) -> Did
     ensures { λ r. ⌜ r ≡ op-loop registers next ⌝ }
 {
     let open = registers.loops;
+    if open.count == 2 {
+        if goes_round(open.inner) {
+            let mut loops = open;
+            loops.inner = next_round(open.inner);
+            return Did::Next(looping(registers, open.inner.place, registers.height, loops));
+        }
+        return Did::Next(looping(registers, next, registers.height, without_innermost(open)));
+    }
+    if open.count == 1 {
+        if goes_round(open.outer) {
+            let mut loops = open;
+            loops.outer = next_round(open.outer);
+            return Did::Next(looping(registers, open.outer.place, registers.height, loops));
+        }
+        return Did::Next(looping(registers, next, registers.height, without_innermost(open)));
+    }
     if open.count == 0 {
         return Did::Refused(Refusal::StackUnderflow);
     }
-    if 2 < open.count {
-        return Did::Refused(Refusal::WrongPhaseOrUnsound);
-    }
-    let last = innermost(open);
-    if last.index as u64 + 1 < last.limit as u64 {
-        let again = Loop {
-            place: last.place,
-            index: last.index + 1,
-            limit: last.limit,
-        };
-        let loops = with_innermost(open, again);
-        return Did::Next(looping(registers, last.place, registers.height, loops));
-    }
-    Did::Next(looping(registers, next, registers.height, without_innermost(open)))
+    Did::Refused(Refusal::WrongPhaseOrUnsound)
 }
 
 // LOOP_INDEX.

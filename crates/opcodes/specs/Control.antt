@@ -42,12 +42,15 @@ do-two registers next (NotPoppedTwo refusal) = Refused refusal
 unfoldable pub op-do : List ℕ → Registers → ℕ → Did
 op-do stack registers next = do-two registers next (pop-two stack (registers .height))
 
+-- a loop one round on
+abbrev pub next-round : Loop → Loop
+next-round last = record { place = last .place; index = last .index + 1; limit = last .limit }
+
 -- LOOP: 3; back exactly if index + 1 is below the limit
 unfoldable pub looped : Registers → ℕ → PopLoopResult → Did
 looped registers next (PoppedLoop last loops) =
     cond (ltb (last .index + 1) (last .limit))
-    (opened-to registers (last .place) (registers .height)
-    (push-loop loops (record { place = last .place; index = last .index + 1; limit = last .limit })))
+    (opened-to registers (last .place) (registers .height) (push-loop loops (next-round last)))
     (Next (looping registers next (registers .height) loops))
 looped registers next (NotPoppedLoop refusal) = Refused refusal
 
