@@ -1,0 +1,140 @@
+-- What the contracts say of small inputs: their equations, and what was computed of the definitions in these.
+use mathlib.Core.Bool.{true}
+use mathlib.Core.List.{[], _∷_}
+use mathlib.Core.Path.{_≡_, ap, _∙_}
+use lib.ListN.{replicate}
+use denote.Ref.{now}
+use Rattle.errors.specs.declared.Refusal.the-variants.{EmptyInstructions, MSliceOutOfBounds, SaveBufferTooShort, TaskNotFound}
+use Rattle.storage.specs.Tasks.{blank}
+use Rattle.text.specs.Ascii.{ascii}
+use Rattle.text.specs.Lines.{parted, hex-part, lined, put-line}
+use Rattle.listing.specs.declared.Head.the-variants.{Refused}
+use Rattle.listing.specs.Listing.{line-of-head}
+use Rattle.unbox.specs.declared.Return.the-variants.{U32}
+use Rattle.core.specs.declared.Halt.the-variants.{OutOfFuel}
+use Rattle.core.specs.Steps.{steps}
+use Rattle.calls.specs.declared.Outcome.the-variants.{Done}
+use Rattle.calls.specs.Machines.{registers-of}
+use Rattle.runs.specs.World.{World, world}
+use Rattle.runs.specs.Run.{run}
+use Rattle.image.specs.declared.SaveResult.the-variants.{NotSaved}
+use Rattle.vm.specs.declared.CreateResult.the-variants.{NotCreated}
+use Rattle.vm.specs.declared.TaskResult.the-variants.{NotReadable}
+use Rattle.vm.specs.declared.Verb.the-variants.{Start}
+use Rattle.vm.specs.Sound.{sound-world}
+use Rattle.vm.specs.Creation.{create}
+use Rattle.vm.specs.Calls.{Reported, call, start}
+use Rattle.vm.specs.Reads.{host-save, task-read, value-read}
+use Rattle.line_cases.proofs.Cases.{in-hex, refused-14}
+use Rattle.cases.proofs.Table.{fresh, C1, instructions}
+use Rattle.call_examples.proofs.Table.{examples}
+use Rattle.text.proofs as text
+use Rattle.head_line.proofs as head-line
+use Rattle.stepping.proofs as stepping
+use Rattle.driving.proofs as driving
+use Rattle.sound.proofs as sound
+use Rattle.creating.proofs as creating
+use Rattle.calling.proofs as calling
+use Rattle.saving.proofs as saving
+use Rattle.value_reading.proofs as value-reading
+use Rattle.task_reading.proofs as task-reading
+use Rattle.contract_lines.proofs.Answers.{Line, Answers, so}
+use Rattle.contract_lines.proofs.Lines as lines
+
+-- a new machine of C1, started with fuel 9
+abbrev started : Reported
+started = start 9 (fresh C1)
+
+-- and everything lent to it after that
+abbrev after : World
+after = world (started .report .machine) (started .table) (started .stack) (started .memory) (started .pool) (started .ends) (started .save)
+
+-- 00 1f 02 from its second byte on, into three bytes: one byte in hex, and the third byte stays
+abbrev pub hex-part-of-one : Line text.hex.hex_part.ended
+hex-part-of-one _ out bytes from r =
+    now (out .entry) ≡ 7 ∷ 7 ∷ 7 ∷ [] → now (bytes .entry) ≡ 0 ∷ 31 ∷ 2 ∷ [] → from .entry ≡ 1 → parted r (now (out .exit)) ≡ parted (record { length = 2; next = 2 }) (49 ∷ 102 ∷ 7 ∷ [])
+
+pub hex-part-of-one-says : {M : Type 1} → text.hex.hex_part.Statement.statement M → Answers M text.hex.hex_part.ended text.hex.hex_part.Symbol.routine hex-part-of-one
+hex-part-of-one-says met =
+    so text.hex.hex_part.ended text.hex.hex_part.Symbol.routine lines.text-hex-part hex-part-of-one (lines.text-hex-part-says met) (λ _ out bytes from r e o b f. e ∙ (λ i. hex-part (o i) (b i) (f i)) ∙ in-hex)
+
+-- a refusal's two details, in their order
+abbrev pub head-line-of-14 : Line head-line.head_line.ended
+head-line-of-14 _ out head r =
+    head .entry ≡ Refused (MSliceOutOfBounds 4 6) → lined r (now (out .exit)) ≡ put-line (now (out .entry)) (ascii "refused 14 4 6\n")
+
+pub head-line-of-14-says : {M : Type 1} → head-line.head_line.Statement.statement M → Answers M head-line.head_line.ended head-line.head_line.Symbol.routine head-line-of-14
+head-line-of-14-says met =
+    so head-line.head_line.ended head-line.head_line.Symbol.routine lines.head-line-head-line head-line-of-14 (lines.head-line-head-line-says met) (λ _ out head r e h. e ∙ (λ i. put-line (now (out .entry)) (line-of-head (h i))) ∙ ap (put-line (now (out .entry))) refused-14)
+
+-- C1 has no fuel before its third instruction
+abbrev pub steps-of-C1 : Line stepping.steps.ended
+steps-of-C1 _ stack memory code registers count fuel r =
+    now (stack .entry) ≡ fresh C1 .stack → now (memory .entry) ≡ fresh C1 .memory → now (code .entry) ≡ C1 → registers .entry ≡ registers-of (fresh C1 .machine) → count .entry ≡ 0 → fuel .entry ≡ 2 → r .halt ≡ OutOfFuel
+
+pub steps-of-C1-says : {M : Type 1} → stepping.steps.Statement.statement M → Answers M stepping.steps.ended stepping.steps.Symbol.routine steps-of-C1
+steps-of-C1-says met =
+    so stepping.steps.ended stepping.steps.Symbol.routine lines.stepping-steps steps-of-C1 (lines.stepping-steps-says met) (λ _ stack memory code registers count fuel r e s m c g n f. ap (λ t. t .at .halt) (e ∙ (λ i. steps (f i) (s i) (m i) (c i) (g i) (n i))) ∙ examples .steps-without-fuel)
+
+-- a run of C1 is done with fuel 5
+abbrev pub drive-of-C1 : Line driving.drive.ended
+drive-of-C1 _ table stack memory pool ends save machine fuel r =
+    world (machine .entry) (now (table .entry)) (now (stack .entry)) (now (memory .entry)) (now (pool .entry)) (now (ends .entry)) (now (save .entry)) ≡ fresh C1 → fuel .entry ≡ 5 → r .outcome ≡ Done
+
+pub drive-of-C1-says : {M : Type 1} → driving.drive.Statement.statement M → Answers M driving.drive.ended driving.drive.Symbol.routine drive-of-C1
+drive-of-C1-says met =
+    so driving.drive.ended driving.drive.Symbol.routine lines.driving-drive drive-of-C1 (lines.driving-drive-says met) (λ _ table stack memory pool ends save machine fuel r e w f. ap (λ t. t .outcome) (e ∙ (λ i. run (f i) (w i))) ∙ instructions .at-the-end .0)
+
+-- a new machine is sound
+abbrev pub sound-of-C1 : Line sound.sound.ended
+sound-of-C1 _ table memory pool ends save machine r =
+    now (table .entry) ≡ fresh C1 .table → now (memory .entry) ≡ fresh C1 .memory → now (pool .entry) ≡ fresh C1 .pool → now (ends .entry) ≡ fresh C1 .ends → now (save .entry) ≡ fresh C1 .save → machine .entry ≡ fresh C1 .machine → r ≡ true
+
+pub sound-of-C1-says : {M : Type 1} → sound.sound.Statement.statement M → Answers M sound.sound.ended sound.sound.Symbol.routine sound-of-C1
+sound-of-C1-says met =
+    so sound.sound.ended sound.sound.Symbol.routine lines.sound-sound sound-of-C1 (lines.sound-sound-says met) (λ _ table memory pool ends save machine r e t m p n s c. ap (λ t. t .answer) e ∙ (λ i. sound-world (t i) (m i) (p i) (n i) (s i) (c i)) ∙ examples .sound-new)
+
+-- an empty program is 1, before 25
+abbrev pub create-of-nothing : Line creating.create.ended
+create-of-nothing _ table pool ends image program r =
+    now (table .entry) ≡ replicate 256 blank → now (pool .entry) ≡ replicate 16 0 → now (ends .entry) ≡ replicate 1024 0 → now (image .entry) ≡ 0x00 ∷ [] → now (program .entry) ≡ [] → r ≡ NotCreated EmptyInstructions
+
+pub create-of-nothing-says : {M : Type 1} → creating.create.Statement.statement M → Answers M creating.create.ended creating.create.Symbol.routine create-of-nothing
+create-of-nothing-says met =
+    so creating.create.ended creating.create.Symbol.routine lines.creating-create create-of-nothing (lines.creating-create-says met) (λ _ table pool ends image program r e t p n m g. ap (λ t. t .answer) (e ∙ (λ i. create (t i) (p i) (n i) (m i) (g i))) ∙ examples .create-empty)
+
+-- C1, started with fuel 9, finishes five instructions
+abbrev pub call-of-C1 : Line calling.call.ended
+call-of-C1 _ table stack memory pool ends save machine verb fuel r =
+    world (machine .entry) (now (table .entry)) (now (stack .entry)) (now (memory .entry)) (now (pool .entry)) (now (ends .entry)) (now (save .entry)) ≡ fresh C1 → verb .entry ≡ Start → fuel .entry ≡ 9 → r .finished ≡ 5
+
+pub call-of-C1-says : {M : Type 1} → calling.call.Statement.statement M → Answers M calling.call.ended calling.call.Symbol.routine call-of-C1
+call-of-C1-says met =
+    so calling.call.ended calling.call.Symbol.routine lines.calling-call call-of-C1 (lines.calling-call-says met) (λ _ table stack memory pool ends save machine verb fuel r e w v f. ap (λ t. t .report .finished) (e ∙ (λ i. call (v i) (f i) (w i))) ∙ examples .start-finished)
+
+-- a save buffer that is too short is 24, and nothing is written
+abbrev pub save-of-C1 : Line saving.save.ended
+save-of-C1 _ table stack memory pool ends save machine r =
+    world (machine .entry) (now (table .entry)) (now (stack .entry)) (now (memory .entry)) (now (pool .entry)) (now (ends .entry)) (now (save .entry)) ≡ world (fresh C1 .machine) (fresh C1 .table) (fresh C1 .stack) (fresh C1 .memory) (fresh C1 .pool) (fresh C1 .ends) (replicate 13 0xff) → (r .result ≡ NotSaved SaveBufferTooShort) × (now (save .exit) ≡ replicate 13 0xff)
+
+pub save-of-C1-says : {M : Type 1} → saving.save.Statement.statement M → Answers M saving.save.ended saving.save.Symbol.routine save-of-C1
+save-of-C1-says met =
+    so saving.save.ended saving.save.Symbol.routine lines.saving-save save-of-C1 (lines.saving-save-says met) (λ _ table stack memory pool ends save machine r e w. (ap (λ t. t .report .result) (e ∙ ap host-save w) ∙ examples .save-short, ap (λ t. t .save) (e ∙ ap host-save w) ∙ examples .save-short-bytes))
+
+-- C1's value
+abbrev pub value-of-C1 : Line value-reading.read_value.ended
+value-of-C1 _ table stack memory pool ends save machine position r =
+    world (machine .entry) (now (table .entry)) (now (stack .entry)) (now (memory .entry)) (now (pool .entry)) (now (ends .entry)) (now (save .entry)) ≡ after → position .entry ≡ 0 → r ≡ U32 99
+
+pub value-of-C1-says : {M : Type 1} → value-reading.read_value.Statement.statement M → Answers M value-reading.read_value.ended value-reading.read_value.Symbol.routine value-of-C1
+value-of-C1-says met =
+    so value-reading.read_value.ended value-reading.read_value.Symbol.routine lines.value-reading-read-value value-of-C1 (lines.value-reading-read-value-says met) (λ _ table stack memory pool ends save machine position r e w p. ap (λ t. t .answer) (e ∙ (λ i. value-read (p i) (w i))) ∙ examples .value-first)
+
+-- no such task is 9 with the id
+abbrev pub task-of-C1 : Line task-reading.read_task.ended
+task-of-C1 _ table stack memory pool ends save machine id r =
+    world (machine .entry) (now (table .entry)) (now (stack .entry)) (now (memory .entry)) (now (pool .entry)) (now (ends .entry)) (now (save .entry)) ≡ fresh C1 → id .entry ≡ record { 0 = 3 } → r .result ≡ NotReadable (TaskNotFound 3)
+
+pub task-of-C1-says : {M : Type 1} → task-reading.read_task.Statement.statement M → Answers M task-reading.read_task.ended task-reading.read_task.Symbol.routine task-of-C1
+task-of-C1-says met =
+    so task-reading.read_task.ended task-reading.read_task.Symbol.routine lines.task-reading-read-task task-of-C1 (lines.task-reading-read-task-says met) (λ _ table stack memory pool ends save machine id r e w p. ap (λ t. t .answer .result) (e ∙ (λ i. task-read (p i) (w i))) ∙ examples .task-missing)
