@@ -30,6 +30,17 @@ fn is_outer(op: u8) -> bool
     }
 }
 
+// Halted for a reason, with so much fuel left.
+fn halted(registers: Registers, left: u64, halt: Halt) -> Stepped
+    ensures { λ r. ⌜ r ≡ record { registers = registers; left = left; halt = halt } ⌝ }
+{
+    Stepped {
+        registers,
+        left,
+        halt,
+    }
+}
+
 // The run of one code from its registers on. A plain instruction has its own place here: where all came together, each carried what only DO and LOOP change.
 pub fn steps(
     stack: &mut [u64; 1000],
@@ -45,20 +56,12 @@ pub fn steps(
     let mut left = fuel;
     while at.place < code.len() {
         if left == 0 {
-            return Stepped {
-                registers: at,
-                left,
-                halt: Halt::OutOfFuel,
-            };
+            return halted(at, left, Halt::OutOfFuel);
         }
         let place = at.place;
         let op = code[place];
         if is_outer(op) {
-            return Stepped {
-                registers: at,
-                left,
-                halt: Halt::Outer,
-            };
+            return halted(at, left, Halt::Outer);
         }
         if is_plain(op) {
             match plain(stack, at, place + 1, op, count) {
@@ -67,11 +70,7 @@ pub fn steps(
                     left -= 1;
                 }
                 Did::Refused(refusal) => {
-                    return Stepped {
-                        registers: at,
-                        left,
-                        halt: Halt::Refused(refusal),
-                    };
+                    return halted(at, left, Halt::Refused(refusal));
                 }
             }
         } else {
@@ -81,18 +80,10 @@ pub fn steps(
                     left -= 1;
                 }
                 Did::Refused(refusal) => {
-                    return Stepped {
-                        registers: at,
-                        left,
-                        halt: Halt::Refused(refusal),
-                    };
+                    return halted(at, left, Halt::Refused(refusal));
                 }
             }
         }
     }
-    Stepped {
-        registers: at,
-        left,
-        halt: Halt::AtEnd,
-    }
+    halted(at, left, Halt::AtEnd)
 }
