@@ -8,7 +8,7 @@ use lib.Dec.{ltb}
 use lib.ListN.{length, getD, set, drop, replicate, length-replicate, getD-replicate, List·getD-eq-default}
 use lib.Seq.{sets, set-comm}
 use borrow.Author.Tests.{ltb-true, ltb-false}
-use Rattle.slices.proofs.Writes.{sets-append}
+use Rattle.slices.proofs.SlicesWrites.{sets-append}
 use Rattle.labels.specs.declared.Kind.{Kind}
 use Rattle.labels.specs.declared.Kind.the-variants.{Number, Calldata, Boolean, Text, Numbers}
 use Rattle.labels.specs.Labels.{letter, letters, Open, opened, kinds-of, loops-of}

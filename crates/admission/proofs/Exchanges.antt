@@ -14,9 +14,9 @@ use Rattle.labels.specs.declared.Exchange.the-variants.{Unchanged, Adds, Takes,
 use Rattle.labels.specs.declared.Element.{Element}
 use Rattle.labels.specs.declared.Element.the-variants.{NoRule, Kinds, Do, Loop, LoopIndex, JumpIfFalse}
 use Rattle.labels.specs.Labels.{letter, letters, same-kind, onward, takes, gives, keeps-vector, exchanged, kinds-after}
-use Rattle.elements.specs.declared.Change.{Change}
-use Rattle.elements.specs.declared.Change.the-variants as changes
-use Rattle.elements.specs.Changes.{take-one, take-two, create, compare, change-vector, move-kinds, exchange-change, element-change}
+use Rattle.admission.specs.declared.elements.Change.{Change}
+use Rattle.admission.specs.declared.elements.Change.the-variants as changes
+use Rattle.admission.specs.Changes.{take-one, take-two, create, compare, change-vector, move-kinds, exchange-change, element-change}
 use Rattle.admission.proofs.Stacks.{given}
 
 -- the letters after a change

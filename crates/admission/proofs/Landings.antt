@@ -20,10 +20,10 @@ use Rattle.labels.proofs.Comparison.{letters-equal}
 use Rattle.labels.proofs.Ways.{cond-true, cond-false, further, no-back, snoc, fits, reached-once, through}
 use Rattle.labels.proofs.Exactly.{is-answer}
 use Rattle.labels.proofs.Refused.{between}
-use Rattle.elements.specs.declared.Found.{Found}
-use Rattle.elements.specs.declared.Found.the-variants.{Whole, Cut}
+use Rattle.admission.specs.declared.elements.Found.{Found}
+use Rattle.admission.specs.declared.elements.Found.the-variants.{Whole, Cut}
 use Rattle.admission.specs.declared.JumpsResult.the-variants.{AllRight, WrongAt}
-use Rattle.elements.specs.Found.{found}
+use Rattle.admission.specs.Found.{found}
 use Rattle.admission.specs.Nodes.{stacked}
 use Rattle.admission.specs.Noted.{LoopAt, Opens, no-loop, one-loop, two-loops, Noted, Tells, nothing, this, Jumps, all-right, first-wrong}
 use Rattle.admission.specs.Jumps.{same-label, right-jump}

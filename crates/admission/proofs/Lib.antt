@@ -4,3 +4,4 @@ pub mod OpenLoops
 pub mod Turns
 pub mod Landings
 pub mod Ending
+pub mod Reach

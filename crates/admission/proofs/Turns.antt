@@ -17,17 +17,17 @@ use Rattle.labels.specs.Elements.{after, whole-element, element}
 use Rattle.labels.specs.Labels.{letter, letters, Open, opened, Label, label, kinds-of, loops-of, empty, onward, kinds-after, loops-after, bounded, rule, next-label}
 use Rattle.labels.specs.Faults.{here, on, Reached, WithoutRule}
 use Rattle.labels.proofs.Ways.{cond-true, cond-false, further, snoc, no-back, fits, through}
-use Rattle.elements.specs.declared.Change.{Change}
-use Rattle.elements.specs.declared.Change.the-variants as changes
+use Rattle.admission.specs.declared.elements.Change.{Change}
+use Rattle.admission.specs.declared.elements.Change.the-variants as changes
 use Rattle.admission.specs.declared.LoopsResult.{LoopsResult}
 use Rattle.admission.specs.declared.LoopsResult.the-variants.{NoLoops, Loops}
-use Rattle.elements.specs.declared.Found.the-variants.{Whole, Cut}
+use Rattle.admission.specs.declared.elements.Found.the-variants.{Whole, Cut}
 use Rattle.admission.specs.declared.Plan.the-variants as plans
 use Rattle.admission.specs.declared.Step.{Step}
 use Rattle.admission.specs.declared.Step.the-variants.{Stuck, On}
 use Rattle.admission.specs.declared.SweepResult.the-variants.{StuckAt, EndedWith}
-use Rattle.elements.specs.Found.{found}
-use Rattle.elements.specs.Changes.{element-change}
+use Rattle.admission.specs.Found.{found}
+use Rattle.admission.specs.Changes.{element-change}
 use Rattle.admission.specs.Nodes.{top, below, stacked, lowered, given-node, given-cells}
 use Rattle.admission.specs.Sweep.{word-after, count, height-after, plan-loops, plan-change, plan, noted-node, noted-cells, noted-nodes, Stepped, stepped, step-plan, step-found, step}
 use Rattle.admission.specs.Noted.{LoopAt, Opens, no-loop, one-loop, two-loops, Noted, Tells, nothing, this, Standing, Fresh, Swept, stuck-at, ended}

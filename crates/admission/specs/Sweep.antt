@@ -7,18 +7,18 @@ use lib.ListN.{getD, set}
 use Rattle.slices.specs.Same.{same}
 use Rattle.labels.specs.declared.Element.{Element}
 use Rattle.labels.specs.declared.Element.the-variants.{NoRule, Kinds, Do, Loop, LoopIndex, JumpIfFalse}
-use Rattle.elements.specs.declared.Change.{Change}
-use Rattle.elements.specs.declared.Change.the-variants as changes
-use Rattle.elements.specs.declared.Found.{Found}
-use Rattle.elements.specs.declared.Found.the-variants.{Whole, Cut}
+use Rattle.admission.specs.declared.elements.Change.{Change}
+use Rattle.admission.specs.declared.elements.Change.the-variants as changes
+use Rattle.admission.specs.declared.elements.Found.{Found}
+use Rattle.admission.specs.declared.elements.Found.the-variants.{Whole, Cut}
 use Rattle.admission.specs.declared.LoopsResult.{LoopsResult}
 use Rattle.admission.specs.declared.LoopsResult.the-variants.{NoLoops, Loops}
 use Rattle.admission.specs.declared.Plan.{Plan}
 use Rattle.admission.specs.declared.Plan.the-variants as plans
 use Rattle.admission.specs.declared.Step.{Step}
 use Rattle.admission.specs.declared.Step.the-variants.{Stuck, On}
-use Rattle.elements.specs.Found.{found}
-use Rattle.elements.specs.Changes.{element-change}
+use Rattle.admission.specs.Found.{found}
+use Rattle.admission.specs.Changes.{element-change}
 use Rattle.admission.specs.Nodes.{top, below, stacked, lowered, given-node, given-cells}
 
 -- the open loops after an element: the outer one's place times 65,536, and the inner one's

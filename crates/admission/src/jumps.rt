@@ -7,11 +7,11 @@ ghost use Rattle.labels.specs.Faults.{Ended};
 ghost use Rattle.admission.specs.Noted.{Tells, Jumps};
 ghost use Rattle.admission.specs.Jumps.{same-label, right-jump};
 use crate::JumpsResult;
+use crate::elements::Found;
 use crate::nodes::number_at;
 use crate::nodes::same;
 use crate::sweep::element_at;
 use crate::sweep::node_at;
-use elements::Found;
 use labels::Element;
 
 // Whether an element starts at a place and has the label of another.

@@ -1,14 +1,15 @@
 // The admission check: document 01's admission rules in code, in time that grows with the program's length.
-
-ghost use mathlib.Core.Path.{_≡_};
-ghost use Rattle.labels.specs.Check.{admission};
-ghost use Rattle.admission.specs.Answer.{answer, answered};
-
+pub mod changes;
 mod decision;
+pub mod elements;
+pub mod finding;
 mod jumps;
 mod nodes;
 mod sweep;
 
+ghost use mathlib.Core.Path.{_≡_};
+ghost use Rattle.labels.specs.Check.{admission};
+ghost use Rattle.admission.specs.Answer.{answer, answered};
 use crate::decision::decide;
 use errors::Refusal;
 

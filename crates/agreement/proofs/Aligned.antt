@@ -18,7 +18,7 @@ use Rattle.memory.specs.Change.{little-endian}
 use Rattle.values.specs.Values.{is-vec, is-qnan, is-u32-val, to-u32, raw-tag, fat-pointer, make-scalar-tagged, make-vec-tagged, to-u32-val, to-bool-val, bool-not}
 use Rattle.values.specs.declared.FatPointer.{FatPointer}
 use Rattle.values.proofs.Laws.{vec-tag-back, pointer-back, bool-turned}
-use Rattle.soundness.proofs.Values.{boxed-no-vec}
+use Rattle.laws.proofs.Values.{boxed-no-vec}
 use Rattle.rust.specs.Errors.{VMError, MSliceOutOfBounds, Out, ok, err, panic}
 use Rattle.rust.specs.InlineVec.{push, pop, last}
 use Rattle.rust.specs.Values as values

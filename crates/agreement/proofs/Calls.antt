@@ -14,22 +14,22 @@ use Rattle.image.specs.Numbers.{Bytes}
 use Rattle.inlinevec.specs.Stacks.{values-of}
 use Rattle.inlinevec.specs.declared.Frame.{Frame}
 use Rattle.pools.proofs.Laws.{length-entries}
-use Rattle.core.specs.declared.Machine.{Machine}
-use Rattle.core.specs.declared.Phase.{Phase}
-use Rattle.core.specs.declared.Phase.the-variants.{Paused, Done, Stopped}
-use Rattle.calls.specs.Machines.{current, registers-of, settled}
-use Rattle.calls.specs.Turns.{rewound}
-use Rattle.calls.specs.declared.Outcome.{Outcome}
-use Rattle.calls.specs.declared.Outcome.the-variants as outcome
-use Rattle.runs.specs.World.{World, place}
-use Rattle.runs.specs.Run.{End, run}
-use Rattle.vm.specs.Calls.{may-start, may-continue, fresh, allowed, ended, report, Reported, at-end, with-machine, is-sound, call-with, call, start, go-on}
-use Rattle.vm.specs.declared.Verb.the-variants.{Start}
-use Rattle.vm.specs.Reads.{is-done, readable, value-at, value-read}
-use Rattle.unbox.specs.Unbox as unbox
-use Rattle.soundness.specs.Sound.{Sound}
-use Rattle.soundness.specs.After.{world-after}
-use Rattle.soundness.proofs.Calls.{ended-sound, allowed-sound}
+use Rattle.machine.specs.declared.Machine.{Machine}
+use Rattle.machine.specs.declared.Phase.{Phase}
+use Rattle.machine.specs.declared.Phase.the-variants.{Paused, Done, Stopped}
+use Rattle.machine.specs.Machines.{current, registers-of, settled}
+use Rattle.machine.specs.Turns.{rewound}
+use Rattle.machine.specs.declared.Outcome.{Outcome}
+use Rattle.machine.specs.declared.Outcome.the-variants as outcome
+use Rattle.machine.specs.World.{World, place}
+use Rattle.machine.specs.Run.{End, run}
+use Rattle.machine.specs.Calls.{may-start, may-continue, fresh, allowed, ended, report, Reported, at-end, with-machine, is-sound, call-with, call, start, go-on}
+use Rattle.machine.specs.declared.Verb.the-variants.{Start}
+use Rattle.machine.specs.Reads.{is-done, readable, value-at, value-read}
+use Rattle.memory.specs.Unbox as unbox
+use Rattle.laws.specs.Sound.{Sound}
+use Rattle.laws.specs.After.{world-after}
+use Rattle.laws.proofs.SoundnessCalls.{ended-sound, allowed-sound}
 use Rattle.rust.specs.Errors.{VMError, Out, ok, err, panic}
 use Rattle.rust.specs.InlineVec as inlinevec
 use Rattle.rust.specs.Instructions as instructions

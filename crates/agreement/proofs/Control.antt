@@ -26,19 +26,19 @@ use Rattle.inlinevec.proofs.Lists.{pushed-two, popped-two, length-two}
 use Rattle.pools.specs.Pool.{entries-of}
 use Rattle.values.specs.Values.{to-u32-val, mul-checked-i, to-bool-val}
 use Rattle.values.specs.declared.ValueResult.{ValueResult}
-use Rattle.opcodes.specs.Registers.{on-memory}
-use Rattle.opcodes.specs.Stack.{finish, op-push, on-one, op-muli}
-use Rattle.opcodes.specs.Control.{looping, opened-to, do-two, op-do, looped, op-loop, index-of, op-loop-index, jumped, op-jump-if-false}
-use Rattle.opcodes.specs.declared.Registers.{Registers}
-use Rattle.opcodes.specs.declared.Did.{Did}
-use Rattle.opcodes.specs.declared.Did.the-variants.{Next}
-use Rattle.opcodes.specs.declared.PopTwoResult.{PopTwoResult}
-use Rattle.core.specs.Cut.{cut, cut-value, cut-muli, cut-skip, cut-jump}
-use Rattle.core.specs.Operated.{with-operand, push-u32, push-u8, muli, jump-if-false}
-use Rattle.core.specs.Execute.{kept, operated, is-equality, execute, by-extent}
-use Rattle.calls.specs.Machines.{current, registers-of}
-use Rattle.runs.specs.World.{World, code, place}
-use Rattle.runs.specs.Step.{Stepped, refused, inner-did}
+use Rattle.machine.specs.Registers.{on-memory}
+use Rattle.machine.specs.Stack.{finish, op-push, on-one, op-muli}
+use Rattle.machine.specs.Control.{looping, opened-to, do-two, op-do, looped, op-loop, index-of, op-loop-index, jumped, op-jump-if-false}
+use Rattle.machine.specs.declared.Registers.{Registers}
+use Rattle.machine.specs.declared.Did.{Did}
+use Rattle.machine.specs.declared.Did.the-variants.{Next}
+use Rattle.machine.specs.declared.PopTwoResult.{PopTwoResult}
+use Rattle.machine.specs.Cut.{cut, cut-value, cut-muli, cut-skip, cut-jump}
+use Rattle.machine.specs.Operated.{with-operand, push-u32, push-u8, muli, jump-if-false}
+use Rattle.machine.specs.Execute.{kept, operated, is-equality, execute, by-extent}
+use Rattle.machine.specs.Machines.{current, registers-of}
+use Rattle.machine.specs.World.{World, code, place}
+use Rattle.machine.specs.Step.{Stepped, refused, inner-did}
 use Rattle.rust.specs.Errors.{StackUnderflow, StackOverflow, Out, ok, panic}
 use Rattle.rust.specs.InlineVec as inlinevec
 use Rattle.rust.specs.Helpers.{byte, prepare-u32-from-be-checked}

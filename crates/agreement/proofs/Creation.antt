@@ -18,7 +18,7 @@ use Rattle.image.specs.Image.{ImageTask, Image, Fine, Rising, sound, read-image
 use Rattle.image.specs.Reading.{s-len, instruction-bytes, read-record}
 use Rattle.image.specs.Slots.{loaded-task}
 use Rattle.image.specs.Table.{Loading, load-slot, load-tasks, load-record, load-records, placed, next-reference, instructions-of}
-use Rattle.tables.specs.Tables.{loading, in-use}
+use Rattle.table_image.specs.Tables.{loading, in-use}
 use Rattle.pools.specs.Pool.{Pooled, pooled, new-entry, has-room, interned, entry-of, entries-of, end-to-end, start-of, never-fall}
 use Rattle.pools.specs.declared.InternResult.the-variants.{NotInterned}
 use Rattle.pools.proofs.Laws.{length-entries, joined, still-sound, same-entries}
@@ -28,18 +28,18 @@ use Rattle.roundtrips.proofs.Stores.{Pool, Stored, stored}
 use Rattle.roundtrips.proofs.Loads.{Room}
 use Rattle.roundtrips.proofs.LoadSave.{load-sound}
 use Rattle.roundtrips.proofs.Created.{Fits, fits, records-told}
-use Rattle.creation.specs.Creation.{creation-tests}
-use Rattle.creation.specs.declared.CreationResult.{CreationResult}
-use Rattle.creation.specs.declared.CreationResult.the-variants.{Fit, Unfit}
-use Rattle.core.specs.declared.Machine.{Machine}
+use Rattle.table_image.specs.Creation.{creation-tests}
+use Rattle.table_image.specs.declared.creation.CreationResult.{CreationResult}
+use Rattle.table_image.specs.declared.creation.CreationResult.the-variants.{Fit, Unfit}
+use Rattle.machine.specs.declared.Machine.{Machine}
 use Rattle.inlinevec.specs.Stacks.{two-of, last-two}
-use Rattle.calls.specs.Machines.{current, with-pool}
-use Rattle.runs.specs.World.{World, world, place}
-use Rattle.vm.specs.Calls.{may-start}
-use Rattle.vm.specs.Creation.{new-machine, with-program, unfit, prepare-fit, prepare, create-as, create, Made, made, loaded}
-use Rattle.vm.specs.declared.CreateResult.{CreateResult}
-use Rattle.vm.specs.declared.CreateResult.the-variants.{Created, NotCreated}
-use Rattle.soundness.proofs.Creation.{loads-tasks, create-sound, create-new}
+use Rattle.machine.specs.Machines.{current, with-pool}
+use Rattle.machine.specs.World.{World, world, place}
+use Rattle.machine.specs.Calls.{may-start}
+use Rattle.machine.specs.Creation.{new-machine, with-program, unfit, prepare-fit, prepare, create-as, create, Made, made, loaded}
+use Rattle.machine.specs.declared.CreateResult.{CreateResult}
+use Rattle.machine.specs.declared.CreateResult.the-variants.{Created, NotCreated}
+use Rattle.laws.proofs.Creation.{loads-tasks, create-sound, create-new}
 use Rattle.rust.specs.Errors.{Out, ok}
 use Rattle.rust.specs.InlineVec as inlinevec
 use Rattle.rust.specs.Instructions as instructions

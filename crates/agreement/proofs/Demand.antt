@@ -8,13 +8,13 @@ use Rattle.errors.specs.declared.Refusal.{Refusal}
 use Rattle.image.specs.Numbers.{Bytes}
 use Rattle.image.specs.Image.{Image, sound, read-image}
 use Rattle.storage.specs.declared.Task.{Task}
-use Rattle.core.specs.declared.Machine.{Machine}
-use Rattle.calls.specs.declared.Outcome.{Outcome}
-use Rattle.calls.specs.declared.Outcome.the-variants as outcome
-use Rattle.runs.specs.World.{World, world}
-use Rattle.vm.specs.Calls.{Reported}
-use Rattle.vm.specs.Creation.{create}
-use Rattle.vm.specs.declared.CreateResult.the-variants.{Created}
+use Rattle.machine.specs.declared.Machine.{Machine}
+use Rattle.machine.specs.declared.Outcome.{Outcome}
+use Rattle.machine.specs.declared.Outcome.the-variants as outcome
+use Rattle.machine.specs.World.{World, world}
+use Rattle.machine.specs.Calls.{Reported}
+use Rattle.machine.specs.Creation.{create}
+use Rattle.machine.specs.declared.CreateResult.the-variants.{Created}
 use Rattle.rust.specs.Errors.{ok}
 use Rattle.rust.specs.Vm.{VM}
 use Rattle.rust.specs.Run.{Ran, init}

@@ -18,15 +18,15 @@ use Rattle.values.specs.declared.ValueResult.{ValueResult}
 use Rattle.values.specs.declared.ValueResult.the-variants.{Value, NoValue}
 use Rattle.memory.specs.Change.{inside}
 use Rattle.memory.specs.Reads.{get-slice-bytes, is-m-slice-eq}
-use Rattle.opcodes.specs.Stack.{finish, on-two}
-use Rattle.opcodes.specs.Equality.{eq-right, eq-left, eq-vectors, eq-tagged, eq-right-tag, eq-left-tag, eq-values, turned-if, op-eq}
-use Rattle.opcodes.specs.declared.Registers.{Registers}
-use Rattle.opcodes.specs.declared.PopTwoResult.{PopTwoResult}
-use Rattle.core.specs.Execute.{kept}
-use Rattle.calls.specs.Machines.{registers-of}
-use Rattle.runs.specs.World.{World}
-use Rattle.runs.specs.Step.{Stepped, inner-did}
-use Rattle.soundness.specs.Sound.{Inside}
+use Rattle.machine.specs.Stack.{finish, on-two}
+use Rattle.machine.specs.Equality.{eq-right, eq-left, eq-vectors, eq-tagged, eq-right-tag, eq-left-tag, eq-values, turned-if, op-eq}
+use Rattle.machine.specs.declared.Registers.{Registers}
+use Rattle.machine.specs.declared.PopTwoResult.{PopTwoResult}
+use Rattle.machine.specs.Execute.{kept}
+use Rattle.machine.specs.Machines.{registers-of}
+use Rattle.machine.specs.World.{World}
+use Rattle.machine.specs.Step.{Stepped, inner-did}
+use Rattle.laws.specs.Sound.{Inside}
 use Rattle.rust.specs.Errors.{VMError, InvalidType, TypeMismatch, Out, err}
 use Rattle.rust.specs.Values as values
 use Rattle.rust.specs.Helpers.{slice}

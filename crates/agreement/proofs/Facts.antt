@@ -15,11 +15,11 @@ use Rattle.storage.specs.declared.Task.{Task}
 use Rattle.storage.specs.Tasks.{blank}
 use Rattle.storage.specs.Table.{sound-table, sound-counts, sound-slots}
 use Rattle.storage.proofs.Soundness.{Living, sound-living, sound-at, Counts, sound-counted}
-use Rattle.calls.specs.Machines.{current}
-use Rattle.vm.specs.Sound.{names, sound-frames}
-use Rattle.runs.specs.World.{World}
-use Rattle.soundness.specs.Sound.{Sound, Inside}
-use Rattle.soundness.proofs.Parts.{machined, tabled}
+use Rattle.machine.specs.Machines.{current}
+use Rattle.machine.specs.Sound.{names, sound-frames}
+use Rattle.machine.specs.World.{World}
+use Rattle.laws.specs.Sound.{Sound, Inside}
+use Rattle.laws.proofs.Parts.{machined, tabled}
 
 pub record Facts (w : World) : Type 0 where
   pub height : w .machine .height ≤ 1000

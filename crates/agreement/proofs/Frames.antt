@@ -27,19 +27,19 @@ use Rattle.pools.proofs.Laws.{length-entries, getD-entries, length-entry, part-
 use Rattle.values.specs.Values.{to-u32, to-calldata-val}
 use Rattle.storage.specs.declared.Task.{Task}
 use Rattle.storage.specs.Tasks.{blank}
-use Rattle.opcodes.specs.Registers.{moved}
-use Rattle.tasks.specs.Changes.{keep, applied}
-use Rattle.core.specs.declared.Machine.{Machine}
-use Rattle.calls.specs.Machines.{current, with-current, code-of, registers-of, settled, with-frames}
-use Rattle.calls.specs.Frames.{placed, intern-sized, intern-calldata, with-entry, calldata-pushed, push-calldata, framed, enter-bounded, enter, call-popped, op-call, left-frame, op-end-call}
-use Rattle.calls.specs.Act.{on-all, acted, after-pool, on-frames, act-by}
+use Rattle.machine.specs.Registers.{moved}
+use Rattle.machine.specs.Changes.{keep, applied}
+use Rattle.machine.specs.declared.Machine.{Machine}
+use Rattle.machine.specs.Machines.{current, with-current, code-of, registers-of, settled, with-frames}
+use Rattle.machine.specs.Frames.{placed, intern-sized, intern-calldata, with-entry, calldata-pushed, push-calldata, framed, enter-bounded, enter, call-popped, op-call, left-frame, op-end-call}
+use Rattle.machine.specs.Act.{on-all, acted, after-pool, on-frames, act-by}
 use Rattle.bytecode.specs.declared.Extent.{Extent}
 use Rattle.bytecode.specs.declared.Extent.the-variants as extents
-use Rattle.calls.specs.Advance.{named-by, wanted}
-use Rattle.calls.specs.declared.Went.{Went}
-use Rattle.calls.specs.declared.Went.the-variants.{Onto}
-use Rattle.runs.specs.World.{World, world, code, place}
-use Rattle.runs.specs.Step.{Stepped, next, acts-went}
+use Rattle.machine.specs.Advance.{named-by, wanted}
+use Rattle.machine.specs.declared.Went.{Went}
+use Rattle.machine.specs.declared.Went.the-variants.{Onto}
+use Rattle.machine.specs.World.{World, world, code, place}
+use Rattle.machine.specs.Step.{Stepped, next, acts-went}
 use Rattle.rust.specs.Errors.{StackOverflow, InvalidInstructionsIndex, ok, err, panic}
 use Rattle.rust.specs.InlineVec as inlinevec
 use Rattle.rust.specs.Helpers.{slice, prepare-u16-from-be-checked}

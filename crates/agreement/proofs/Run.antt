@@ -9,13 +9,13 @@ use Rattle.errors.specs.declared.Refusal.{Refusal}
 use Rattle.errors.specs.declared.Refusal.the-variants as refusal
 use Rattle.image.specs.Numbers.{Bytes}
 use Rattle.pools.proofs.Laws.{getD-entries}
-use Rattle.calls.specs.Machines.{current, code-of}
-use Rattle.calls.specs.declared.Outcome.the-variants as outcome
-use Rattle.runs.specs.World.{World, code, place, at-end}
-use Rattle.runs.specs.Step.{Stepped, step}
-use Rattle.runs.specs.Run.{End, end-at, follow, run}
-use Rattle.soundness.specs.Sound.{Sound}
-use Rattle.soundness.proofs.Step.{step-sound}
+use Rattle.machine.specs.Machines.{current, code-of}
+use Rattle.machine.specs.declared.Outcome.the-variants as outcome
+use Rattle.machine.specs.World.{World, code, place, at-end}
+use Rattle.machine.specs.Step.{Stepped, step}
+use Rattle.machine.specs.Run.{End, end-at, follow, run}
+use Rattle.laws.specs.Sound.{Sound}
+use Rattle.laws.proofs.Step.{step-sound}
 use Rattle.rust.specs.Errors.{VMError, Out, ok, err, panic}
 use Rattle.rust.specs.Vm as rust
 use Rattle.rust.specs.Vm.{VM}

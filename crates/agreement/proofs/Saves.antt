@@ -26,12 +26,12 @@ use Rattle.pools.specs.Pool.{end-of, entries-of}
 use Rattle.pools.proofs.Laws.{getD-entries, found, found-within, not-found}
 use Rattle.storage.specs.declared.Task.{Task}
 use Rattle.storage.specs.Tasks.{blank}
-use Rattle.core.specs.declared.Machine.{Machine}
-use Rattle.calls.specs.Machines.{current, registers-of, settled, with-saved}
-use Rattle.calls.specs.Frames.{placed}
-use Rattle.calls.specs.Turns.{save-went}
-use Rattle.runs.specs.World.{World, world, code, place}
-use Rattle.runs.specs.Step.{Stepped, next, saves-went, saves}
+use Rattle.machine.specs.declared.Machine.{Machine}
+use Rattle.machine.specs.Machines.{current, registers-of, settled, with-saved}
+use Rattle.machine.specs.Frames.{placed}
+use Rattle.machine.specs.Turns.{save-went}
+use Rattle.machine.specs.World.{World, world, code, place}
+use Rattle.machine.specs.Step.{Stepped, next, saves-went, saves}
 use Rattle.rust.specs.Errors.{VMError, InvalidInstructionsIndex, BytesToStringConversionError, Out, ok, err}
 use Rattle.rust.specs.Instructions as instructions
 use Rattle.rust.specs.TaskTypes.{TaskVM, to-task}

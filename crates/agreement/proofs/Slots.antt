@@ -15,7 +15,7 @@ use Rattle.storage.specs.declared.TaskState.{TaskState}
 use Rattle.storage.specs.Tasks.{blank, new-task}
 use Rattle.storage.proofs.Laws.{title-taken}
 use Rattle.pools.specs.declared.InstructionsRef.{InstructionsRef}
-use Rattle.runs.specs.World.{World}
+use Rattle.machine.specs.World.{World}
 use Rattle.rust.specs.TaskTypes.{TaskVM}
 use Rattle.rust.specs.Storage.{resize, put}
 use Rattle.agreement.specs.View.{held, task-of}

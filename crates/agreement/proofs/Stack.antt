@@ -14,15 +14,15 @@ use Rattle.inlinevec.proofs.Lists.{pushed-values, length-values}
 use Rattle.values.specs.Values.{mul-checked, value-cmp}
 use Rattle.values.specs.declared.ValueResult.{ValueResult}
 use Rattle.values.specs.declared.ValueResult.the-variants.{Value, NoValue}
-use Rattle.opcodes.specs.Registers.{on-memory, moved}
-use Rattle.opcodes.specs.Stack.{finish, on-two, op-mul, op-compare, dup-last, op-dup, swapped, op-swap, dropped, op-drop}
-use Rattle.opcodes.specs.declared.Registers.{Registers}
-use Rattle.opcodes.specs.declared.Did.the-variants.{Next}
-use Rattle.opcodes.specs.declared.PopTwoResult.{PopTwoResult}
-use Rattle.core.specs.Execute.{kept}
-use Rattle.calls.specs.Machines.{registers-of}
-use Rattle.runs.specs.World.{World}
-use Rattle.runs.specs.Step.{Stepped, inner-did}
+use Rattle.machine.specs.Registers.{on-memory, moved}
+use Rattle.machine.specs.Stack.{finish, on-two, op-mul, op-compare, dup-last, op-dup, swapped, op-swap, dropped, op-drop}
+use Rattle.machine.specs.declared.Registers.{Registers}
+use Rattle.machine.specs.declared.Did.the-variants.{Next}
+use Rattle.machine.specs.declared.PopTwoResult.{PopTwoResult}
+use Rattle.machine.specs.Execute.{kept}
+use Rattle.machine.specs.Machines.{registers-of}
+use Rattle.machine.specs.World.{World}
+use Rattle.machine.specs.Step.{Stepped, inner-did}
 use Rattle.rust.specs.Errors.{VMError, Out, err}
 use Rattle.rust.specs.InlineVec as inlinevec
 use Rattle.rust.specs.Vm as rust

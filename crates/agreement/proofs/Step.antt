@@ -15,17 +15,17 @@ use Rattle.inlinevec.specs.Stacks.{values-of}
 use Rattle.pools.proofs.Laws.{getD-entries}
 use Rattle.values.specs.Values.{to-u32-val}
 use Rattle.storage.specs.Tasks.{blank}
-use Rattle.opcodes.specs.Stack.{op-push}
-use Rattle.opcodes.specs.declared.Registers.{Registers}
-use Rattle.core.specs.Execute.{kept, plain, operated, is-equality, execute, by-extent, instruct}
-use Rattle.core.specs.Steps.{is-outer}
-use Rattle.core.specs.declared.Machine.{Machine}
-use Rattle.calls.specs.Machines.{current, code-of, registers-of}
-use Rattle.calls.specs.Act.{on-task, on-frames, op-at, act-by, act-at, act}
-use Rattle.calls.specs.Advance.{wanted}
-use Rattle.runs.specs.World.{World, code, place, at-end}
-use Rattle.runs.specs.Step.{inner, acts, outer, step}
-use Rattle.soundness.specs.Sound.{Sound}
+use Rattle.machine.specs.Stack.{op-push}
+use Rattle.machine.specs.declared.Registers.{Registers}
+use Rattle.machine.specs.Execute.{kept, plain, operated, is-equality, execute, by-extent, instruct}
+use Rattle.machine.specs.Steps.{is-outer}
+use Rattle.machine.specs.declared.Machine.{Machine}
+use Rattle.machine.specs.Machines.{current, code-of, registers-of}
+use Rattle.machine.specs.Act.{on-task, on-frames, op-at, act-by, act-at, act}
+use Rattle.machine.specs.Advance.{wanted}
+use Rattle.machine.specs.World.{World, code, place, at-end}
+use Rattle.machine.specs.Step.{inner, acts, outer, step}
+use Rattle.laws.specs.Sound.{Sound}
 use Rattle.rust.specs.Errors.{Out, ok}
 use Rattle.rust.specs.Storage as storage
 use Rattle.rust.specs.Vm as rust

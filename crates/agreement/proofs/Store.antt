@@ -32,17 +32,17 @@ use Rattle.memory.specs.Change.{element-size-bytes, scaled, little-endian, mut-
 use Rattle.memory.specs.declared.SizeResult.{SizeResult}
 use Rattle.memory.specs.declared.SizeResult.the-variants.{Size}
 use Rattle.memory.proofs.Placed.{aligned-above}
-use Rattle.opcodes.specs.Registers.{on-memory, moved}
-use Rattle.opcodes.specs.Store.{full-by, full, placed, store, sized, op-m-st, mut-in-use, changed-to, mutated, mutate-at, mutate, mutate-last, mutate-two, op-m-muta}
-use Rattle.opcodes.specs.declared.Registers.{Registers}
-use Rattle.opcodes.specs.declared.PopTwoResult.{PopTwoResult}
-use Rattle.opcodes.specs.declared.Did.the-variants.{Next, Refused}
-use Rattle.core.specs.Cut.{cut, cut-size, cut-m-st}
-use Rattle.core.specs.Operated.{with-operand, m-st, payload-of, m-sti-of, m-sti}
-use Rattle.core.specs.Execute.{is-equality, execute, by-extent, changed}
-use Rattle.calls.specs.Machines.{current, code-of, registers-of}
-use Rattle.runs.specs.World.{World, code, place}
-use Rattle.runs.specs.Step.{Stepped, inner-did}
+use Rattle.machine.specs.Registers.{on-memory, moved}
+use Rattle.machine.specs.Store.{full-by, full, placed, store, sized, op-m-st, mut-in-use, changed-to, mutated, mutate-at, mutate, mutate-last, mutate-two, op-m-muta}
+use Rattle.machine.specs.declared.Registers.{Registers}
+use Rattle.machine.specs.declared.PopTwoResult.{PopTwoResult}
+use Rattle.machine.specs.declared.Did.the-variants.{Next, Refused}
+use Rattle.machine.specs.Cut.{cut, cut-size, cut-m-st}
+use Rattle.machine.specs.Operated.{with-operand, m-st, payload-of, m-sti-of, m-sti}
+use Rattle.machine.specs.Execute.{is-equality, execute, by-extent, changed}
+use Rattle.machine.specs.Machines.{current, code-of, registers-of}
+use Rattle.machine.specs.World.{World, code, place}
+use Rattle.machine.specs.Step.{Stepped, inner-did}
 use Rattle.rust.specs.Errors.{VMError, InvalidType, MSliceParamOverflow, MSliceOutOfBounds, StackOverflow, ok, err, panic}
 use Rattle.rust.specs.InlineVec as inlinevec
 use Rattle.rust.specs.Helpers.{byte, slice, prepare-u16-from-be-checked}

@@ -7,7 +7,7 @@ use native.Mathlib.Omega.{arith}
 use lib.Dec.{eqb, ltb}
 use lib.ListN.{length, getD, take}
 use lib.Seq.{length-take-le}
-use Rattle.refusals.proofs.Either.{either}
+use Rattle.machine.proofs.Either.{either}
 use borrow.Author.Tests.{ltb-true, ltb-false, le-leb, eq-eqb, eqb-true}
 use Rattle.utf8.specs.Utf8.{valid}
 use Rattle.values.specs.Values.{is-vec, is-scalar, raw-tag, fat-pointer, to-fat-pointer, to-u32, vec-type, scalar-type, get-value-type}
@@ -17,10 +17,10 @@ use Rattle.values.specs.declared.ValueType.the-variants as type
 use Rattle.memory.specs.Reads.{get-slice-bytes, get-slice-as-str, get-slice-as-u32}
 use Rattle.pools.specs.Pool.{bounds, entries-of}
 use Rattle.pools.proofs.Laws.{length-entries, getD-entries, found, not-found}
-use Rattle.unbox.specs.Unbox.{where-readable, text-at, numbers-at, where-bounded, by-type, unbox-value}
-use Rattle.unbox.specs.declared.Return.{Return}
-use Rattle.unbox.specs.declared.Return.the-variants as ours
-use Rattle.runs.specs.World.{World}
+use Rattle.memory.specs.Unbox.{where-readable, text-at, numbers-at, where-bounded, by-type, unbox-value}
+use Rattle.memory.specs.declared.unbox.Return.{Return}
+use Rattle.memory.specs.declared.unbox.Return.the-variants as ours
+use Rattle.machine.specs.World.{World}
 use Rattle.rust.specs.Errors.{InvalidType, InvalidInstructionsIndex, BytesToStringConversionError, SliceSizeMismatch, Out, ok}
 use Rattle.rust.specs.Helpers.{slice}
 use Rattle.rust.specs.Values as values

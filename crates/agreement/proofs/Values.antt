@@ -12,8 +12,8 @@ use Rattle.values.specs.declared.TagResult.the-variants.{Tag, NoTag}
 use Rattle.values.specs.declared.PointerResult.{PointerResult}
 use Rattle.values.specs.declared.PointerResult.the-variants.{Pointer, NoPointer}
 use Rattle.errors.specs.declared.Refusal.the-variants as refusal
-use Rattle.runs.specs.World.{World}
-use Rattle.runs.specs.Step.{Stepped}
+use Rattle.machine.specs.World.{World}
+use Rattle.machine.specs.Step.{Stepped}
 use Rattle.rust.specs.Errors.{VMError, InvalidType, TypeMismatch, MultiplicationOverflowed, Out, err}
 use Rattle.rust.specs.Values as rust
 use Rattle.rust.specs.Vm.{VM}

@@ -14,15 +14,15 @@ use Rattle.inlinevec.proofs.Lists.{pushed-values, length-values}
 use borrow.Author.Tests.{ltb-true}
 use Rattle.pools.specs.Pool.{entries-of}
 use Rattle.storage.specs.declared.Task.{Task}
-use Rattle.opcodes.specs.Registers.{OnMemory, on-memory, moved}
-use Rattle.opcodes.specs.Stack.{push-value, pushed-to}
-use Rattle.opcodes.specs.declared.Registers.{Registers}
-use Rattle.opcodes.specs.declared.Did.the-variants.{Next}
-use Rattle.core.specs.Execute.{kept}
-use Rattle.core.specs.declared.Machine.{Machine}
-use Rattle.calls.specs.Machines.{current, with-current, registers-of, settled, with-ids}
-use Rattle.runs.specs.World.{World, world}
-use Rattle.runs.specs.Step.{Stepped, inner-did}
+use Rattle.machine.specs.Registers.{OnMemory, on-memory, moved}
+use Rattle.machine.specs.Stack.{push-value, pushed-to}
+use Rattle.machine.specs.declared.Registers.{Registers}
+use Rattle.machine.specs.declared.Did.the-variants.{Next}
+use Rattle.machine.specs.Execute.{kept}
+use Rattle.machine.specs.declared.Machine.{Machine}
+use Rattle.machine.specs.Machines.{current, with-current, registers-of, settled, with-ids}
+use Rattle.machine.specs.World.{World, world}
+use Rattle.machine.specs.Step.{Stepped, inner-did}
 use Rattle.rust.specs.Errors.{StackOverflow, ok}
 use Rattle.rust.specs.InlineVec as rust
 use Rattle.rust.specs.Vm.{VM, at, pushes}

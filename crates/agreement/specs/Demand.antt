@@ -8,9 +8,9 @@ use lib.ListN.{take}
 use Rattle.errors.specs.declared.Refusal.{Refusal}
 use Rattle.errors.specs.Refusals.{number-of}
 use Rattle.inlinevec.specs.Stacks.{values-of}
-use Rattle.calls.specs.declared.Outcome.{Outcome}
-use Rattle.calls.specs.declared.Outcome.the-variants as outcome
-use Rattle.vm.specs.Calls.{Reported}
+use Rattle.machine.specs.declared.Outcome.{Outcome}
+use Rattle.machine.specs.declared.Outcome.the-variants as outcome
+use Rattle.machine.specs.Calls.{Reported}
 use Rattle.rust.specs.Errors.{VMError}
 use Rattle.rust.specs.Vm.{VM}
 use Rattle.rust.specs.Run.{Ran, returned, failed}

@@ -8,8 +8,8 @@ use Rattle.values.specs.declared.FatPointer.{FatPointer}
 use Rattle.pools.specs.Pool.{entry-of}
 use Rattle.pools.specs.declared.InstructionsRef.{InstructionsRef}
 use Rattle.memory.specs.Reads.{get-slice-bytes}
-use Rattle.unbox.specs.declared.Return.{Return}
-use Rattle.unbox.specs.declared.Return.the-variants as ours
+use Rattle.memory.specs.declared.unbox.Return.{Return}
+use Rattle.memory.specs.declared.unbox.Return.the-variants as ours
 use Rattle.rust.specs.Errors.{VMError, Out, ok, err}
 use Rattle.rust.specs.Memory.{words}
 use Rattle.rust.specs.Unbox as rust

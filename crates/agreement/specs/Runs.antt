@@ -6,12 +6,12 @@ use lib.ListN.{getD, take}
 use Rattle.errors.specs.declared.Refusal.{Refusal}
 use Rattle.errors.specs.declared.Refusal.the-variants as refusal
 use Rattle.inlinevec.specs.Stacks.{values-of}
-use Rattle.calls.specs.declared.Outcome.{Outcome}
-use Rattle.calls.specs.declared.Outcome.the-variants as outcome
-use Rattle.runs.specs.World.{World, place}
-use Rattle.vm.specs.Calls.{Reported, start, go-on}
-use Rattle.vm.specs.Reads.{value-read}
-use Rattle.soundness.specs.After.{world-after}
+use Rattle.machine.specs.declared.Outcome.{Outcome}
+use Rattle.machine.specs.declared.Outcome.the-variants as outcome
+use Rattle.machine.specs.World.{World, place}
+use Rattle.machine.specs.Calls.{Reported, start, go-on}
+use Rattle.machine.specs.Reads.{value-read}
+use Rattle.laws.specs.After.{world-after}
 use Rattle.rust.specs.Errors.{VMError, ok, err, panic}
 use Rattle.rust.specs.Vm.{VM, at, step}
 use Rattle.rust.specs.Run.{Ran, returned, running, failed, panicked, run}

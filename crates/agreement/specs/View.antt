@@ -11,8 +11,8 @@ use Rattle.inlinevec.specs.declared.Frame.{Frame}
 use Rattle.inlinevec.specs.declared.Frames.{Frames}
 use Rattle.pools.specs.Pool.{entries-of}
 use Rattle.storage.specs.declared.Task.{Task}
-use Rattle.calls.specs.Machines.{current}
-use Rattle.runs.specs.World.{World}
+use Rattle.machine.specs.Machines.{current}
+use Rattle.machine.specs.World.{World}
 use Rattle.rust.specs.TaskTypes.{TaskVM}
 use Rattle.rust.specs.Storage.{Storage}
 use Rattle.rust.specs.Vm.{VM, InstructionsFrame}

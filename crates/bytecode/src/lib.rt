@@ -1,6 +1,7 @@
 // The code of a program: opcodes, what a read of an operand answers, and the extent of each instruction.
 pub mod extents;
 pub mod opcodes;
+pub mod operands;
 
 use errors::Refusal;
 

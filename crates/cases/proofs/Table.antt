@@ -5,17 +5,17 @@ use mathlib.Core.List.{List, [], _∷_, _++_}
 use mathlib.Core.Path.{_≡_, refl}
 use lib.ListN.{length, replicate, take, getD}
 use Rattle.errors.specs.declared.Refusal.the-variants.{UnexpectedEOB, TypeMismatch, MultiplicationOverflowed, MaxStatesError, TaskNotFound, InvalidTaskField, InvalidStatus, MSliceOutOfBounds, SaveBufferTooShort}
-use Rattle.calls.specs.declared.Outcome.{Outcome}
-use Rattle.calls.specs.declared.Outcome.the-variants.{Done, Paused, Refused}
-use Rattle.core.specs.declared.Machine.{Machine}
-use Rattle.core.specs.declared.Phase.the-variants.{New}
+use Rattle.machine.specs.declared.Outcome.{Outcome}
+use Rattle.machine.specs.declared.Outcome.the-variants.{Done, Paused, Refused}
+use Rattle.machine.specs.declared.Machine.{Machine}
+use Rattle.machine.specs.declared.Phase.the-variants.{New}
 use Rattle.storage.specs.Tasks.{blank}
 use Rattle.values.specs.Values.{to-u32-val, to-vec-val, to-bool-val, value-eq}
 use Rattle.values.specs.declared.ValueResult.the-variants.{Value}
 use Rattle.image.specs.Image.{sound, read-image}
 use Rattle.roundtrips.proofs.Cases.{I1, Ab, I1-loads}
-use Rattle.runs.specs.World.{World, world}
-use Rattle.runs.specs.Run.{End, run}
+use Rattle.machine.specs.World.{World, world}
+use Rattle.machine.specs.Run.{End, run}
 use Rattle.bytecode.specs.Opcodes as bytecode-opcodes
 use Rattle.bytecode.specs.Operands as bytecode-operands
 use Rattle.inlinevec.specs.Stacks as inlinevec-stacks
@@ -24,29 +24,29 @@ use Rattle.memory.specs.Allocation as memory-allocation
 use Rattle.memory.specs.Change as memory-change
 use Rattle.memory.specs.Reads as memory-reads
 use Rattle.pools.specs.Pool as pools-pool
-use Rattle.opcodes.specs.Stack as opcodes-stack
-use Rattle.opcodes.specs.Control as opcodes-control
-use Rattle.opcodes.specs.Equality as opcodes-equality
-use Rattle.opcodes.specs.Store as opcodes-store
-use Rattle.core.specs.Cut as core-cut
-use Rattle.core.specs.Operated as core-operated
-use Rattle.core.specs.Execute as core-execute
-use Rattle.core.specs.Steps as core-steps
-use Rattle.tasks.specs.Changes as tasks-changes
-use Rattle.tasks.specs.Titles as tasks-titles
-use Rattle.tasks.specs.Create as tasks-create
-use Rattle.tasks.specs.Fields as tasks-fields
+use Rattle.machine.specs.Stack as opcodes-stack
+use Rattle.machine.specs.Control as opcodes-control
+use Rattle.machine.specs.Equality as opcodes-equality
+use Rattle.machine.specs.Store as opcodes-store
+use Rattle.machine.specs.Cut as core-cut
+use Rattle.machine.specs.Operated as core-operated
+use Rattle.machine.specs.Execute as core-execute
+use Rattle.machine.specs.Steps as core-steps
+use Rattle.machine.specs.Changes as tasks-changes
+use Rattle.machine.specs.Titles as tasks-titles
+use Rattle.machine.specs.Create as tasks-create
+use Rattle.machine.specs.Fields as tasks-fields
 use Rattle.storage.specs.Tasks as storage-tasks
 use Rattle.storage.specs.Storage as storage-storage
 use Rattle.storage.specs.Table as storage-table
-use Rattle.calls.specs.Machines as calls-machines
-use Rattle.calls.specs.Frames as calls-frames
-use Rattle.calls.specs.Act as calls-act
-use Rattle.calls.specs.Advance as calls-advance
-use Rattle.calls.specs.Turns as calls-turns
-use Rattle.runs.specs.World as runs-world
-use Rattle.runs.specs.Step as runs-step
-use Rattle.runs.specs.Run as runs-run
+use Rattle.machine.specs.Machines as calls-machines
+use Rattle.machine.specs.Frames as calls-frames
+use Rattle.machine.specs.Act as calls-act
+use Rattle.machine.specs.Advance as calls-advance
+use Rattle.machine.specs.Turns as calls-turns
+use Rattle.machine.specs.World as runs-world
+use Rattle.machine.specs.Step as runs-step
+use Rattle.machine.specs.Run as runs-run
 use Rattle.slices.specs.Same as slices-same
 use Rattle.image.specs.Image as image-image
 use Rattle.image.specs.Numbers as image-numbers

@@ -10,34 +10,34 @@ use Rattle.text.specs.Ascii.{ascii}
 use Rattle.text.specs.Lines.{parted, hex-part, lined, put-line}
 use Rattle.listing.specs.declared.Head.the-variants.{Refused}
 use Rattle.listing.specs.Listing.{line-of-head}
-use Rattle.unbox.specs.declared.Return.the-variants.{U32}
-use Rattle.core.specs.declared.Halt.the-variants.{OutOfFuel}
-use Rattle.core.specs.Steps.{steps}
-use Rattle.calls.specs.declared.Outcome.the-variants.{Done}
-use Rattle.calls.specs.Machines.{registers-of}
-use Rattle.runs.specs.World.{World, world}
-use Rattle.runs.specs.Run.{run}
+use Rattle.memory.specs.declared.unbox.Return.the-variants.{U32}
+use Rattle.machine.specs.declared.Halt.the-variants.{OutOfFuel}
+use Rattle.machine.specs.Steps.{steps}
+use Rattle.machine.specs.declared.Outcome.the-variants.{Done}
+use Rattle.machine.specs.Machines.{registers-of}
+use Rattle.machine.specs.World.{World, world}
+use Rattle.machine.specs.Run.{run}
 use Rattle.image.specs.declared.SaveResult.the-variants.{NotSaved}
-use Rattle.vm.specs.declared.CreateResult.the-variants.{NotCreated}
-use Rattle.vm.specs.declared.TaskResult.the-variants.{NotReadable}
-use Rattle.vm.specs.declared.Verb.the-variants.{Start}
-use Rattle.vm.specs.Sound.{sound-world}
-use Rattle.vm.specs.Creation.{create}
-use Rattle.vm.specs.Calls.{Reported, call, start}
-use Rattle.vm.specs.Reads.{host-save, task-read, value-read}
-use Rattle.line_cases.proofs.Cases.{in-hex, refused-14}
+use Rattle.machine.specs.declared.CreateResult.the-variants.{NotCreated}
+use Rattle.machine.specs.declared.TaskResult.the-variants.{NotReadable}
+use Rattle.machine.specs.declared.Verb.the-variants.{Start}
+use Rattle.machine.specs.Sound.{sound-world}
+use Rattle.machine.specs.Creation.{create}
+use Rattle.machine.specs.Calls.{Reported, call, start}
+use Rattle.machine.specs.Reads.{host-save, task-read, value-read}
+use Rattle.examples.proofs.Cases.{in-hex, refused-14}
 use Rattle.cases.proofs.Table.{fresh, C1, instructions}
-use Rattle.call_examples.proofs.Table.{examples}
+use Rattle.cases.proofs.CallExamplesTable.{examples}
 use Rattle.text.proofs as text
-use Rattle.head_line.proofs as head-line
-use Rattle.stepping.proofs as stepping
-use Rattle.driving.proofs as driving
-use Rattle.sound.proofs as sound
-use Rattle.creating.proofs as creating
-use Rattle.calling.proofs as calling
-use Rattle.saving.proofs as saving
-use Rattle.value_reading.proofs as value-reading
-use Rattle.task_reading.proofs as task-reading
+use Rattle.listing.proofs.head_line as head-line
+use Rattle.stepper.proofs as stepping
+use Rattle.runner.proofs as driving
+use Rattle.vm.proofs.sound as sound
+use Rattle.vm.proofs.creating as creating
+use Rattle.vm.proofs.calling as calling
+use Rattle.vm.proofs.saving as saving
+use Rattle.vm.proofs.value_reading as value-reading
+use Rattle.vm.proofs.task_reading as task-reading
 use Rattle.contract_lines.proofs.Answers.{Line, Answers, so}
 use Rattle.contract_lines.proofs.Lines as lines
 

@@ -5,52 +5,53 @@ use mathlib.Core.Path.{_≡_}
 use denote.Ref.{now}
 use Rattle.text.specs.Lines.{parted, hex-part, lined, put-line, line}
 use Rattle.listing.specs.Listing.{line-of-head, line-of-value}
-use Rattle.unbox.specs.Unbox.{part-of}
+use Rattle.memory.specs.Unbox.{part-of}
 use Rattle.image.specs.Image.{read-image}
 use Rattle.image.specs.Reading
 use Rattle.image.specs.Reading.{read-record}
 use Rattle.image.specs.Table.{saved-table, save-table}
-use Rattle.tables.specs.Tables.{held}
-use Rattle.core.specs.Steps.{stepped, steps}
-use Rattle.opcodes.specs.Registers.{on-memory}
-use Rattle.tasks.specs.Fields.{op-t-get-field, op-t-set-field}
-use Rattle.calls.specs.Frames.{op-call, op-end-call}
-use Rattle.calls.specs.Act.{on-all, act}
-use Rattle.runs.specs.World.{world}
-use Rattle.runs.specs.Run.{ran-to, run}
-use Rattle.vm.specs.Sound.{tested, sound-world}
-use Rattle.vm.specs.Creation.{made, create}
-use Rattle.vm.specs.Calls.{reported, call}
-use Rattle.vm.specs.Reads.{saved-to, host-save, read-to, value-read, task-read}
+use Rattle.table_image.specs.Tables.{held}
+use Rattle.machine.specs.Steps.{stepped, steps}
+use Rattle.machine.specs.Registers.{on-memory}
+use Rattle.machine.specs.Fields.{op-t-get-field, op-t-set-field}
+use Rattle.machine.specs.Frames.{op-call, op-end-call}
+use Rattle.machine.specs.Act.{on-all, act}
+use Rattle.machine.specs.World.{world}
+use Rattle.machine.specs.Run.{ran-to, run}
+use Rattle.machine.specs.Sound.{tested, sound-world}
+use Rattle.machine.specs.Creation.{made, create}
+use Rattle.machine.specs.Calls.{reported, call}
+use Rattle.machine.specs.Reads.{saved-to, host-save, read-to, value-read, task-read}
 use Rattle.labels.specs.Check.{admission}
 use Rattle.admission.specs.Answer.{answer, answered}
-use Rattle.hosting.specs.Hosting
-use Rattle.hosting.specs.Hosting.{owned}
-use Rattle.answering.specs.Answering.{ran, rafenuma-run}
+use Rattle.host.specs.Hosting
+use Rattle.host.specs.Hosting.{owned}
+use Rattle.host.specs.Answering.{ran, rafenuma-run}
 use Rattle.host.specs.Numbers.{admitted, packed-admission, packed-image}
-use Rattle.shows.specs.Shows
-use Rattle.shows.specs.Shows.{lent}
+use Rattle.printer.specs.Shows
+use Rattle.printer.specs.Shows.{lent}
 use Rattle.text.proofs as text
 use Rattle.image.proofs as image
-use Rattle.stepping.proofs as stepping
-use Rattle.t_fields.proofs as t-fields
-use Rattle.entering.proofs as entering
-use Rattle.act.proofs as act
-use Rattle.tables.proofs as tables
-use Rattle.driving.proofs as driving
-use Rattle.sound.proofs as sound
-use Rattle.creating.proofs as creating
-use Rattle.calling.proofs as calling
-use Rattle.saving.proofs as saving
-use Rattle.value_reading.proofs as value-reading
-use Rattle.task_reading.proofs as task-reading
-use Rattle.head_line.proofs as head-line
-use Rattle.value_line.proofs as value-line
+use Rattle.stepper.proofs as stepping
+use Rattle.task_opcodes.proofs.t_fields as t-fields
+use Rattle.stepper.proofs.entering as entering
+use Rattle.runner.proofs.act as act
+use Rattle.table_image.proofs as tables
+use Rattle.runner.proofs as driving
+use Rattle.vm.proofs.sound as sound
+use Rattle.vm.proofs.creating as creating
+use Rattle.vm.proofs.calling as calling
+use Rattle.vm.proofs.saving as saving
+use Rattle.vm.proofs.value_reading as value-reading
+use Rattle.vm.proofs.task_reading as task-reading
+use Rattle.listing.proofs.head_line as head-line
+use Rattle.listing.proofs.value_line as value-line
 use Rattle.admission.proofs as admission
-use Rattle.hosting.proofs as hosting
-use Rattle.answering.proofs as answering
+use Rattle.host.proofs.hosting as hosting
+use Rattle.host.proofs.owner as hosting-owner
+use Rattle.host.proofs.answering as answering
 use Rattle.host.proofs as host
-use Rattle.shows.proofs as shows
+use Rattle.printer.proofs.shows as shows
 use Rattle.contract_lines.proofs.Answers.{Line, Answers}
 
 abbrev pub text-hex-part : Line text.hex.hex_part.ended
@@ -200,11 +201,11 @@ admission-admit _ program kinds r =
 pub admission-admit-says : {M : Type 1} → admission.admit.Statement.statement M → Answers M admission.admit.ended admission.admit.Symbol.routine admission-admit
 admission-admit-says met = met
 
-abbrev pub hosting-own : Line hosting.owner.own.ended
+abbrev pub hosting-own : Line hosting-owner.own.ended
 hosting-own _ stack memory pool ends save image program lines fuel r =
     owned r (now (stack .exit)) (now (memory .exit)) (now (pool .exit)) (now (ends .exit)) (now (save .exit)) (now (image .exit)) (now (program .exit)) (now (lines .exit)) ≡ Hosting.own (fuel .entry) (now (stack .entry)) (now (memory .entry)) (now (pool .entry)) (now (ends .entry)) (now (save .entry)) (now (image .entry)) (now (program .entry)) (now (lines .entry))
 
-pub hosting-own-says : {M : Type 1} → hosting.owner.own.Statement.statement M → Answers M hosting.owner.own.ended hosting.owner.own.Symbol.routine hosting-own
+pub hosting-own-says : {M : Type 1} → hosting-owner.own.Statement.statement M → Answers M hosting-owner.own.ended hosting-owner.own.Symbol.routine hosting-own
 hosting-own-says met = met
 
 abbrev pub answering-run : Line answering.run.ended

@@ -6,7 +6,7 @@ use Rattle.image.specs.declared.ImageResult.the-variants.{Sound, NotSound}
 use Rattle.admission.specs.Answer.{Answer}
 use Rattle.admission.specs.declared.Admission.{Admission}
 use Rattle.admission.specs.declared.Admission.the-variants as admission
-use Rattle.reasons.specs.Reasons.{number-and-detail, number-beside}
+use Rattle.host.specs.Reasons.{number-and-detail, number-beside}
 
 -- a number, and the buffer of kinds after it
 pub record Admitting : Type 0 where

@@ -1,16 +1,25 @@
 // The library for a host: a run with its listing and its new image, the admission of a program, the test of an image.
+pub mod answering;
+pub mod hosting;
+mod lines;
+mod listings;
+mod numbers;
+mod outcomes;
+pub mod owner;
+pub mod reasons;
+
 ghost use mathlib.Core.Path.{_≡_};
 ghost use Rattle.labels.specs.Check.{admission};
 ghost use Rattle.admission.specs.Answer.{answered};
 ghost use Rattle.image.specs.Image.{read-image};
 ghost use Rattle.image.specs.Reading.{tested};
 ghost use Rattle.host.specs.Numbers.{admitted, packed-admission, packed-image};
-ghost use Rattle.answering.specs.Answering.{ran, rafenuma-run};
+ghost use Rattle.host.specs.Answering.{ran, rafenuma-run};
+use crate::reasons::number_and_detail;
+use crate::reasons::number_beside;
 use admission::Admission;
 use image::ImageResult;
 use image::reading::test_image;
-use reasons::number_and_detail;
-use reasons::number_beside;
 
 // Runs a program on a fresh machine over the tasks of an image; writes the listing and the new image.
 #[no_mangle]
@@ -25,7 +34,7 @@ pub extern "C" fn rafenuma_run(
 ) -> u64
     ensures { λ r. ⌜ ran r (now (memory .exit)) (now (image .exit)) (now (program .exit)) (now («new_image» .exit)) (now (listing .exit)) (now (answer .exit)) ≡ rafenuma-run fuel (now (memory .entry)) (now (image .entry)) (now (program .entry)) (now («new_image» .entry)) (now (listing .entry)) (now (answer .entry)) ⌝ }
 {
-    answering::run(memory, image, program, new_image, listing, answer, fuel)
+    crate::answering::run(memory, image, program, new_image, listing, answer, fuel)
 }
 
 // Whether a program is admitted, with the kinds at its end.

@@ -1,6 +1,9 @@
 // The task image: tested, and read a record at a time.
 pub mod numbers;
 pub mod reading;
+pub mod sizes;
+pub mod steps;
+pub mod writing;
 
 use errors::Refusal;
 use storage::Task;

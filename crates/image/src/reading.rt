@@ -12,8 +12,8 @@ use crate::numbers::u8_at;
 use crate::numbers::u16_at;
 use crate::numbers::u32_at;
 use errors::Refusal;
-use places::on;
 use pools::InstructionsRef;
+use slices::places::on;
 use storage::TaskId;
 use storage::TaskState;
 

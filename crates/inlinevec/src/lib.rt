@@ -1,6 +1,8 @@
 // Bounded stacks: what an open loop, a frame and at most two of them are, and the values in a lent array.
 ghost use mathlib.Core.Path.{_≡_};
 ghost use Rattle.inlinevec.specs.Stacks.{stacked, push, pop, last};
+ghost use Rattle.inlinevec.specs.Stacks.{push-loop, pop-loop, last-loop};
+ghost use Rattle.inlinevec.specs.Stacks.{push-frame, pop-frame};
 use errors::Refusal;
 use pools::InstructionsRef;
 
@@ -122,4 +124,132 @@ pub fn last(stack: &[u64; 1000], height: usize) -> LastResult
     }
     let top = height - 1;
     LastResult::Last(stack[top])
+}
+
+// One loop more.
+pub fn push_loop(loops: Loops, opened: Loop) -> LoopsResult
+    ensures { λ r. ⌜ r ≡ push-loop loops opened ⌝ }
+{
+    let outer = loops.outer;
+    let inner = loops.inner;
+    if loops.count == 0 {
+        return LoopsResult::NewLoops(Loops {
+            count: 1,
+            outer: opened,
+            inner,
+        });
+    }
+    if loops.count == 1 {
+        return LoopsResult::NewLoops(Loops {
+            count: 2,
+            outer,
+            inner: opened,
+        });
+    }
+    LoopsResult::NoNewLoops(Refusal::StackOverflow)
+}
+
+// One loop less.
+pub fn pop_loop(loops: Loops) -> PopLoopResult
+    ensures { λ r. ⌜ r ≡ pop-loop loops ⌝ }
+{
+    let outer = loops.outer;
+    let inner = loops.inner;
+    if loops.count == 1 {
+        return PopLoopResult::PoppedLoop {
+            last: outer,
+            loops: Loops {
+                count: 0,
+                outer,
+                inner,
+            },
+        };
+    }
+    if loops.count == 2 {
+        return PopLoopResult::PoppedLoop {
+            last: inner,
+            loops: Loops {
+                count: 1,
+                outer,
+                inner,
+            },
+        };
+    }
+    if loops.count == 0 {
+        return PopLoopResult::NotPoppedLoop(Refusal::StackUnderflow);
+    }
+    PopLoopResult::NotPoppedLoop(Refusal::WrongPhaseOrUnsound)
+}
+
+// The innermost loop.
+pub fn last_loop(loops: Loops) -> LastLoopResult
+    ensures { λ r. ⌜ r ≡ last-loop loops ⌝ }
+{
+    let outer = loops.outer;
+    let inner = loops.inner;
+    if loops.count == 1 {
+        return LastLoopResult::LastLoop(outer);
+    }
+    if loops.count == 2 {
+        return LastLoopResult::LastLoop(inner);
+    }
+    if loops.count == 0 {
+        return LastLoopResult::NoLastLoop(Refusal::StackUnderflow);
+    }
+    LastLoopResult::NoLastLoop(Refusal::WrongPhaseOrUnsound)
+}
+
+// One frame more.
+pub fn push_frame(frames: Frames, entered: Frame) -> FramesResult
+    ensures { λ r. ⌜ r ≡ push-frame frames entered ⌝ }
+{
+    let main = frames.main;
+    let task = frames.task;
+    if frames.count == 0 {
+        return FramesResult::NewFrames(Frames {
+            count: 1,
+            main: entered,
+            task,
+        });
+    }
+    if frames.count == 1 {
+        return FramesResult::NewFrames(Frames {
+            count: 2,
+            main,
+            task: entered,
+        });
+    }
+    FramesResult::NoNewFrames(Refusal::StackOverflow)
+}
+
+// One frame less.
+pub fn pop_frame(frames: Frames) -> PopFrameResult
+    ensures { λ r. ⌜ r ≡ pop-frame frames ⌝ }
+{
+    let main = frames.main;
+    let task = frames.task;
+    if frames.count == 1 {
+        return PopFrameResult::PoppedFrame {
+            last: main,
+            frames: Frames {
+                count: 0,
+                main,
+                task,
+            },
+        };
+    }
+    if frames.count == 2 {
+        return PopFrameResult::PoppedFrame {
+            last: task,
+            frames: Frames {
+                count: 1,
+                main,
+                task,
+            },
+        };
+    }
+    if frames.count == 0 {
+        return PopFrameResult::NotPoppedFrame(Refusal::StackUnderflow);
+    }
+    PopFrameResult::NotPoppedFrame(Refusal::WrongPhaseOrUnsound)
 }

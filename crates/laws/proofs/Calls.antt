@@ -3,22 +3,22 @@ use Prim.Native.Nat.{ℕ, _+_, _≤_}
 use mathlib.Core.Bool.{Bool, true, false}
 use mathlib.Core.Path.{_≡_, refl, sym, ap, _∙_, subst}
 use native.Mathlib.Omega.{arith}
-use Rattle.core.specs.declared.Machine.{Machine}
-use Rattle.core.specs.declared.Phase.{Phase}
-use Rattle.core.specs.declared.Phase.the-variants as phase
-use Rattle.calls.specs.Machines.{registers-of, settled}
-use Rattle.calls.specs.Turns.{rewound}
-use Rattle.calls.specs.declared.Outcome.{Outcome}
-use Rattle.calls.specs.declared.Outcome.the-variants.{Done, Paused, Refused}
-use Rattle.runs.specs.World.{World, world}
-use Rattle.runs.specs.Run.{End, end-at, run}
-use Rattle.vm.specs.Calls.{may-continue, allowed, phased, ended, report, not-allowed, Reported, reports, at-end, with-machine, is-sound, call-with, call, start, go-on}
-use Rattle.vm.specs.declared.Verb.{Verb}
-use Rattle.vm.specs.declared.Verb.the-variants.{Start, Continue}
-use Rattle.vm.specs.declared.Allowed.{Allowed}
-use Rattle.soundness.specs.Sound.{Sound}
-use Rattle.soundness.specs.After.{world-after}
-use Rattle.soundness.proofs.Calls.{call-sound}
+use Rattle.machine.specs.declared.Machine.{Machine}
+use Rattle.machine.specs.declared.Phase.{Phase}
+use Rattle.machine.specs.declared.Phase.the-variants as phase
+use Rattle.machine.specs.Machines.{registers-of, settled}
+use Rattle.machine.specs.Turns.{rewound}
+use Rattle.machine.specs.declared.Outcome.{Outcome}
+use Rattle.machine.specs.declared.Outcome.the-variants.{Done, Paused, Refused}
+use Rattle.machine.specs.World.{World, world}
+use Rattle.machine.specs.Run.{End, end-at, run}
+use Rattle.machine.specs.Calls.{may-continue, allowed, phased, ended, report, not-allowed, Reported, reports, at-end, with-machine, is-sound, call-with, call, start, go-on}
+use Rattle.machine.specs.declared.Verb.{Verb}
+use Rattle.machine.specs.declared.Verb.the-variants.{Start, Continue}
+use Rattle.machine.specs.declared.Allowed.{Allowed}
+use Rattle.laws.specs.Sound.{Sound}
+use Rattle.laws.specs.After.{world-after}
+use Rattle.laws.proofs.SoundnessCalls.{call-sound}
 use Rattle.laws.proofs.Finished.{Ends, is-done, is-paused, is-refused, finished}
 use Rattle.laws.proofs.Fuel.{outcome-number, fuel}
 use Rattle.laws.proofs.Phases.{rephased, end-as, run-phase}

@@ -4,11 +4,11 @@ use mathlib.Core.Bool.{Bool, true, false, cond}
 use mathlib.Core.Path.{_≡_, refl, sym, subst}
 use native.Mathlib.Omega.{arith}
 use Rattle.errors.specs.declared.Refusal.{Refusal}
-use Rattle.calls.specs.declared.Outcome.{Outcome}
-use Rattle.calls.specs.declared.Outcome.the-variants.{Done, Paused, Refused}
-use Rattle.runs.specs.World.{World, at-end}
-use Rattle.runs.specs.Step.{Stepped, next, refused, step}
-use Rattle.runs.specs.Run.{End, end-at, follow, run}
+use Rattle.machine.specs.declared.Outcome.{Outcome}
+use Rattle.machine.specs.declared.Outcome.the-variants.{Done, Paused, Refused}
+use Rattle.machine.specs.World.{World, at-end}
+use Rattle.machine.specs.Step.{Stepped, next, refused, step}
+use Rattle.machine.specs.Run.{End, end-at, follow, run}
 
 -- so many finished instructions lead from one world to another
 pub data Reaches : ℕ → World → World → Type 0 where

@@ -3,11 +3,11 @@ use Prim.Native.Nat.{ℕ, zero, suc, _+_}
 use mathlib.Core.Bool.{false, cond}
 use mathlib.Core.Path.{_≡_, refl, ap, sym, _∙_, subst}
 use native.Mathlib.Omega.{arith}
-use Rattle.calls.specs.declared.Outcome.{Outcome}
-use Rattle.calls.specs.declared.Outcome.the-variants.{Done, Paused, Refused}
-use Rattle.runs.specs.World.{World, at-end}
-use Rattle.runs.specs.Step.{next, step}
-use Rattle.runs.specs.Run.{End, end-at, follow, run}
+use Rattle.machine.specs.declared.Outcome.{Outcome}
+use Rattle.machine.specs.declared.Outcome.the-variants.{Done, Paused, Refused}
+use Rattle.machine.specs.World.{World, at-end}
+use Rattle.machine.specs.Step.{next, step}
+use Rattle.machine.specs.Run.{End, end-at, follow, run}
 use Rattle.laws.proofs.Finished.{Reaches, here, onto, Ends, is-done, is-paused, is-refused, steps-to, finished}
 
 none-more : (b : ℕ) → 0 + b ≡ b

@@ -8,23 +8,23 @@ use lib.ListN.{length}
 use Rattle.storage.specs.declared.Task.{Task}
 use Rattle.storage.specs.Table.{living-of}
 use Rattle.image.specs.Image.{task-count}
-use Rattle.core.specs.declared.Machine.{Machine}
-use Rattle.runs.specs.World.{World, world}
-use Rattle.runs.specs.Step.{op}
-use Rattle.runs.specs.Run.{End, run}
-use Rattle.refusals.proofs.Either.{either}
-use Rattle.vm.specs.Calls.{spent, allowed, with-machine, is-sound, call-with, call}
-use Rattle.vm.specs.Reads.{SavedTo, host-save}
-use Rattle.vm.specs.Creation.{create}
-use Rattle.vm.specs.declared.Verb.{Verb}
-use Rattle.vm.specs.declared.Allowed.{Allowed}
-use Rattle.vm.specs.declared.CreateResult.the-variants.{Created}
-use Rattle.soundness.specs.Sound.{Sound}
-use Rattle.soundness.specs.Counted.{creates, deletes}
-use Rattle.soundness.specs.After.{world-after, world-saved}
-use Rattle.soundness.proofs.Step.{step-sound, step-living}
-use Rattle.soundness.proofs.Calls.{allowed-sound, call-sound, save-sound}
-use Rattle.soundness.proofs.Creation.{create-sound, create-living}
+use Rattle.machine.specs.declared.Machine.{Machine}
+use Rattle.machine.specs.World.{World, world}
+use Rattle.machine.specs.Step.{op}
+use Rattle.machine.specs.Run.{End, run}
+use Rattle.machine.proofs.Either.{either}
+use Rattle.machine.specs.Calls.{spent, allowed, with-machine, is-sound, call-with, call}
+use Rattle.machine.specs.Reads.{SavedTo, host-save}
+use Rattle.machine.specs.Creation.{create}
+use Rattle.machine.specs.declared.Verb.{Verb}
+use Rattle.machine.specs.declared.Allowed.{Allowed}
+use Rattle.machine.specs.declared.CreateResult.the-variants.{Created}
+use Rattle.laws.specs.Sound.{Sound}
+use Rattle.laws.specs.Counted.{creates, deletes}
+use Rattle.laws.specs.After.{world-after, world-saved}
+use Rattle.laws.proofs.Step.{step-sound, step-living}
+use Rattle.laws.proofs.SoundnessCalls.{allowed-sound, call-sound, save-sound}
+use Rattle.laws.proofs.Creation.{create-sound, create-living}
 use Rattle.laws.proofs.Finished.{Reaches, here, onto, Ends, is-done, is-paused, is-refused, finished}
 
 -- ---- instructions

@@ -27,29 +27,29 @@ use Rattle.storage.specs.declared.Task.{Task}
 use Rattle.storage.specs.Tasks.{blank}
 use Rattle.image.specs.declared.SaveResult.{SaveResult}
 use Rattle.image.specs.declared.SaveResult.the-variants.{Saved, NotSaved}
-use Rattle.opcodes.specs.declared.Did.{Did}
-use Rattle.opcodes.specs.declared.Did.the-variants as did
-use Rattle.opcodes.specs.Registers.{OnMemory}
-use Rattle.tasks.specs.Changes.{keep}
-use Rattle.tasks.specs.Create.{op-t-create, op-t-delete}
-use Rattle.tasks.specs.Fields.{op-t-get-field, op-t-set-field}
-use Rattle.tasks.specs.declared.Tasked.{Tasked}
-use Rattle.core.specs.Steps.{is-outer}
-use Rattle.core.specs.declared.Machine.{Machine}
-use Rattle.core.specs.declared.Phase.{Phase}
-use Rattle.calls.specs.Machines.{current, code-of, registers-of, settled}
-use Rattle.calls.specs.Frames.{OnPool, on-pool, placed, intern-sized, intern-calldata, with-entry, calldata-pushed, push-calldata, framed, enter-bounded, enter, call-popped, op-call, left-frame, op-end-call}
-use Rattle.calls.specs.Act.{acted, OnAll, on-all, went-by, created, tasked-by, created-by, on-task, after-pool, after-memory, on-frames, op-at, act-by, act-at, act}
-use Rattle.calls.specs.Advance.{wanted}
-use Rattle.calls.specs.Turns.{save-went}
-use Rattle.calls.specs.declared.Went.{Went}
-use Rattle.calls.specs.declared.Went.the-variants.{Onto, Refused}
-use Rattle.calls.specs.declared.Acted.{Acted}
-use Rattle.runs.specs.World.{World, world, at-end}
-use Rattle.runs.specs.Step as steps
-use Rattle.runs.specs.Step.{Stepped, inner-did, inner, acts-went, acted-at, acts, saves-went, saves, outer, step}
-use Rattle.runs.specs.Run.{End, end-at, follow, run}
-use Rattle.vm.specs.Calls.{phased, with-machine}
+use Rattle.machine.specs.declared.Did.{Did}
+use Rattle.machine.specs.declared.Did.the-variants as did
+use Rattle.machine.specs.Registers.{OnMemory}
+use Rattle.machine.specs.Changes.{keep}
+use Rattle.machine.specs.Create.{op-t-create, op-t-delete}
+use Rattle.machine.specs.Fields.{op-t-get-field, op-t-set-field}
+use Rattle.machine.specs.declared.Tasked.{Tasked}
+use Rattle.machine.specs.Steps.{is-outer}
+use Rattle.machine.specs.declared.Machine.{Machine}
+use Rattle.machine.specs.declared.Phase.{Phase}
+use Rattle.machine.specs.Machines.{current, code-of, registers-of, settled}
+use Rattle.machine.specs.Frames.{OnPool, on-pool, placed, intern-sized, intern-calldata, with-entry, calldata-pushed, push-calldata, framed, enter-bounded, enter, call-popped, op-call, left-frame, op-end-call}
+use Rattle.machine.specs.Act.{acted, OnAll, on-all, went-by, created, tasked-by, created-by, on-task, after-pool, after-memory, on-frames, op-at, act-by, act-at, act}
+use Rattle.machine.specs.Advance.{wanted}
+use Rattle.machine.specs.Turns.{save-went}
+use Rattle.machine.specs.declared.Went.{Went}
+use Rattle.machine.specs.declared.Went.the-variants.{Onto, Refused}
+use Rattle.machine.specs.declared.Acted.{Acted}
+use Rattle.machine.specs.World.{World, world, at-end}
+use Rattle.machine.specs.Step as steps
+use Rattle.machine.specs.Step.{Stepped, inner-did, inner, acts-went, acted-at, acts, saves-went, saves, outer, step}
+use Rattle.machine.specs.Run.{End, end-at, follow, run}
+use Rattle.machine.specs.Calls.{phased, with-machine}
 
 -- tests of one outcome, each side the same but for a function
 alike : {A B : Type 0} (f : A → B) (b : Bool) (x y : A) (u v : B) → u ≡ f x → v ≡ f y → cond b u v ≡ f (cond b x y)

@@ -11,16 +11,16 @@ use Rattle.storage.specs.declared.TaskId.{TaskId}
 use Rattle.storage.specs.Storage.{slot-of}
 use Rattle.storage.specs.Tasks.{blank}
 use Rattle.storage.specs.Table.{sound-counts, sound-table}
-use Rattle.creation.specs.Creation.{creation-tests}
-use Rattle.unbox.specs.declared.Return.the-variants.{NoReturn}
-use Rattle.runs.specs.World.{World}
-use Rattle.vm.specs.Sound.{sound-record, sound-world}
-use Rattle.vm.specs.Calls.{allowed, not-allowed, reports, is-sound, call-with, call}
-use Rattle.vm.specs.Reads.{readable, value-at, read-to, value-read, task-result, task-as, task-read, not-saved, saved-to, host-save}
-use Rattle.vm.specs.Creation.{unfit, prepare-fit, prepare, made, create-as, create}
-use Rattle.vm.specs.declared.Verb.{Verb}
-use Rattle.vm.specs.declared.TaskResult.the-variants.{NotReadable}
-use Rattle.vm.specs.declared.CreateResult.the-variants.{NotCreated}
+use Rattle.table_image.specs.Creation.{creation-tests}
+use Rattle.memory.specs.declared.unbox.Return.the-variants.{NoReturn}
+use Rattle.machine.specs.World.{World}
+use Rattle.machine.specs.Sound.{sound-record, sound-world}
+use Rattle.machine.specs.Calls.{allowed, not-allowed, reports, is-sound, call-with, call}
+use Rattle.machine.specs.Reads.{readable, value-at, read-to, value-read, task-result, task-as, task-read, not-saved, saved-to, host-save}
+use Rattle.machine.specs.Creation.{unfit, prepare-fit, prepare, made, create-as, create}
+use Rattle.machine.specs.declared.Verb.{Verb}
+use Rattle.machine.specs.declared.TaskResult.the-variants.{NotReadable}
+use Rattle.machine.specs.declared.CreateResult.the-variants.{NotCreated}
 
 module _ (w : World) (unsound : is-sound w ≡ false) where
   -- start and continue

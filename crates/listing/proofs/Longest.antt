@@ -16,8 +16,8 @@ use Rattle.text.specs.Lines.{formed, line, said}
 use Rattle.text.proofs.Decimals.{decimal-one, decimal-more}
 use Rattle.text.proofs.Hexes.{hex-length}
 use Rattle.pools.specs.declared.InstructionsRef.{InstructionsRef}
-use Rattle.unbox.specs.declared.Return.{Return}
-use Rattle.unbox.specs.declared.Return.the-variants.{U32, Boolean, String, CallData, VecU32, Null, NoReturn}
+use Rattle.memory.specs.declared.unbox.Return.{Return}
+use Rattle.memory.specs.declared.unbox.Return.the-variants.{U32, Boolean, String, CallData, VecU32, Null, NoReturn}
 use Rattle.listing.specs.Listing.{line-of-bool, line-of-numbers, line-of-value}
 
 -- a number below a power of ten has no more digits

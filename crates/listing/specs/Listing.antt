@@ -10,8 +10,8 @@ use Rattle.text.specs.Ascii.{ascii}
 use Rattle.text.specs.Numbers.{decimal, spaced, words}
 use Rattle.text.specs.Lines.{line, said}
 use Rattle.text.specs.declared.Form.the-variants.{Plain, Hex}
-use Rattle.unbox.specs.declared.Return.{Return}
-use Rattle.unbox.specs.declared.Return.the-variants as kind
+use Rattle.memory.specs.declared.unbox.Return.{Return}
+use Rattle.memory.specs.declared.unbox.Return.the-variants as kind
 use Rattle.listing.specs.declared.Head.{Head}
 use Rattle.listing.specs.declared.Head.the-variants.{Done, Paused, Refused, Saved}
 use Rattle.listing.specs.declared.Counted.{Counted}

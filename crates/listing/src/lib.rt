@@ -1,4 +1,8 @@
 // The listing of document 01: what its first line tells, and its counts, a line at a time into a lent buffer.
+pub mod head_line;
+pub mod task_line;
+pub mod value_line;
+
 ghost use mathlib.Core.Path.{_≡_};
 ghost use mathlib.Core.List.{[], _∷_};
 ghost use Rattle.text.specs.Lines.{said, lined, put-line};

@@ -7,7 +7,7 @@ use lib.ListN.{length, take, replicate, length-append, length-replicate, replica
 use lib.Seq.{sets, length-sets, take-append-le, take-append-add, take-at, length-take-le}
 use borrow.Rule.Slice.PartMut.{midOf, putMid}
 use Rattle.memory.specs.Allocation.{filling}
-use Rattle.slices.proofs.Writes.{put-mid, put-tail, sets-append}
+use Rattle.slices.proofs.SlicesWrites.{put-mid, put-tail, sets-append}
 
 -- as many as the size says
 pub length-filling : (size : ℕ) (payload : List ℕ) → length (filling size payload) ≡ size

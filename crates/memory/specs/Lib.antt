@@ -1,3 +1,4 @@
 pub mod Allocation
 pub mod Change
 pub mod Reads
+pub mod Unbox

@@ -1,5 +1,9 @@
 // Linear memory: what allocation, change and reads answer; a vector's part, and whether it lies in the memory in use.
+pub mod allocation;
+pub mod change;
 pub mod reads;
+pub mod tested_reads;
+pub mod unbox;
 
 use errors::Refusal;
 

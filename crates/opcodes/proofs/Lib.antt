@@ -1,1 +1,1 @@
-pub mod Pops
+pub mod Reopened

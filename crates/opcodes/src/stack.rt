@@ -1,78 +1,38 @@
-// What opcodes share: two values off the stack, a value or a result pushed, the registers at another place.
+// Opcodes over the stack alone that push nothing: SWAP, DROP.
 ghost use mathlib.Core.Path.{_≡_};
-ghost use Rattle.opcodes.specs.Registers.{on-stack, moved};
-ghost use Rattle.opcodes.specs.Stack.{pop-two, push-value, finish};
-use crate::Did;
-use crate::PopTwoResult;
-use crate::Registers;
-use inlinevec::HeightResult;
+ghost use Rattle.machine.specs.Registers.{on-stack};
+ghost use Rattle.machine.specs.Stack.{op-swap, op-drop};
 use inlinevec::PopResult;
-use values::ValueResult;
+use machine::Did;
+use machine::PopTwoResult;
+use machine::Registers;
+use machine::stack::moved;
+use machine::stack::pop_two;
 
-// The registers at another place and another height.
-pub fn moved(registers: Registers, place: usize, height: usize) -> Registers
-    ensures { λ r. ⌜ r ≡ moved registers place height ⌝ }
+// SWAP.
+pub fn op_swap(stack: &mut [u64; 1000], registers: Registers, next: usize) -> Did
+    ensures { λ r. ⌜ on-stack r (now (stack .exit)) ≡ op-swap (now (stack .entry)) registers next ⌝ }
 {
-    let loops = registers.loops;
-    Registers {
-        memory: registers.memory,
-        place,
-        height,
-        loops,
+    match pop_two(stack, registers.height) {
+        PopTwoResult::NotPoppedTwo(refusal) => Did::Refused(refusal),
+        PopTwoResult::PoppedTwo {
+            first: top,
+            second: below,
+            height,
+        } => {
+            stack[height] = top;
+            stack[height + 1] = below;
+            Did::Next(moved(registers, next, registers.height))
+        }
     }
 }
 
-// Two values off the stack.
-pub fn pop_two(stack: &[u64; 1000], height: usize) -> PopTwoResult
-    ensures { λ r. ⌜ r ≡ pop-two (now (stack .entry)) height ⌝ }
+// DROP.
+pub fn op_drop(stack: &[u64; 1000], registers: Registers, next: usize) -> Did
+    ensures { λ r. ⌜ r ≡ op-drop (now (stack .entry)) registers next ⌝ }
 {
-    match inlinevec::pop(stack, height) {
-        PopResult::NotPopped(refusal) => PopTwoResult::NotPoppedTwo(refusal),
-        PopResult::Popped {
-            value: first,
-            height: one,
-        } => match inlinevec::pop(stack, one) {
-            PopResult::NotPopped(refusal) => PopTwoResult::NotPoppedTwo(refusal),
-            PopResult::Popped {
-                value: second,
-                height: two,
-            } => PopTwoResult::PoppedTwo {
-                first,
-                second,
-                height: two,
-            },
-        },
-    }
-}
-
-// A value pushed at a height, and on at a place.
-pub fn push_value(
-    stack: &mut [u64; 1000],
-    registers: Registers,
-    place: usize,
-    height: usize,
-    value: u64,
-) -> Did
-    ensures { λ r. ⌜ on-stack r (now (stack .exit)) ≡ push-value (now (stack .entry)) registers place height value ⌝ }
-{
-    match inlinevec::push(stack, height, value) {
-        HeightResult::NewHeight(new) => Did::Next(moved(registers, place, new)),
-        HeightResult::NoNewHeight(refusal) => Did::Refused(refusal),
-    }
-}
-
-// The result of a calculation pushed at a height, and on at a place.
-pub fn finish(
-    stack: &mut [u64; 1000],
-    registers: Registers,
-    place: usize,
-    height: usize,
-    result: ValueResult,
-) -> Did
-    ensures { λ r. ⌜ on-stack r (now (stack .exit)) ≡ finish (now (stack .entry)) registers place height result ⌝ }
-{
-    match result {
-        ValueResult::Value(value) => push_value(stack, registers, place, height, value),
-        ValueResult::NoValue(refusal) => Did::Refused(refusal),
+    match inlinevec::pop(stack, registers.height) {
+        PopResult::NotPopped(refusal) => Did::Refused(refusal),
+        PopResult::Popped { value: _, height } => Did::Next(moved(registers, next, height)),
     }
 }

@@ -1,4 +1,7 @@
 // The pool of instructions: entries end to end in lent bytes, told apart by their ends.
+pub mod capacity;
+pub mod interning;
+
 ghost use mathlib.Core.Path.{_≡_};
 ghost use Prim.Native.Nat.{min};
 ghost use Rattle.pools.specs.Pool.{start-of, end-of, bounds, entry-of, never-fall, end-to-end};

@@ -191,7 +191,7 @@ fn fitting(room: &[u8], size: usize) -> usize
 
 // Copies bytes to the front of a room.
 fn copy(room: &mut [u8], bytes: &[u8]) {
-    writes::write(room, bytes, 0);
+    slices::writes::write(room, bytes, 0);
 }
 
 // Performs a case.
@@ -213,7 +213,7 @@ fn perform(
     );
     let image_size = fitting(image, case.image_size);
     let program_size = fitting(program, case.program_size);
-    shows::own(
+    printer::shows::own(
         stack,
         memory,
         pool,

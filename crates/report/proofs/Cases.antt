@@ -1,8 +1,8 @@
 -- Lines of a report as they are printed.
 use mathlib.Core.List.{[], _∷_}
 use mathlib.Core.Path.{_≡_, refl}
-use Rattle.core.specs.declared.Machine.{Machine}
-use Rattle.core.specs.declared.Phase.the-variants.{Done}
+use Rattle.machine.specs.declared.Machine.{Machine}
+use Rattle.machine.specs.declared.Phase.the-variants.{Done}
 use Rattle.inlinevec.specs.declared.Frame.{Frame}
 use Rattle.inlinevec.specs.declared.Loop.{Loop}
 use Rattle.text.specs.Ascii.{ascii}

@@ -1,10 +1,12 @@
 // What `replay` prints beside the listing, a line at a time into a lent buffer.
+pub mod report_words;
+
 ghost use mathlib.Core.Path.{_≡_};
 ghost use Rattle.text.specs.Lines.{said, lined, put-line};
 ghost use Rattle.report.specs.Reports.{line-of-report};
-use core::Machine;
 use inlinevec::Frame;
 use inlinevec::Loop;
+use machine::Machine;
 use text::Form;
 use text::LineResult;
 use text::lines::put_line;

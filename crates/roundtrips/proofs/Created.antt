@@ -7,9 +7,9 @@ use native.Mathlib.Omega.{arith}
 use lib.Dec.{eqb, ltb}
 use lib.ListN.{length, replicate}
 use borrow.Author.Tests.{eqb-true, eqb-false, ltb-false}
-use Rattle.creation.specs.Creation.{image-tests, creation-tests}
-use Rattle.creation.specs.declared.CreationResult.the-variants.{Fit, Unfit}
-use Rattle.creation.specs.declared.CreationResult.{CreationResult}
+use Rattle.table_image.specs.Creation.{image-tests, creation-tests}
+use Rattle.table_image.specs.declared.creation.CreationResult.the-variants.{Fit, Unfit}
+use Rattle.table_image.specs.declared.creation.CreationResult.{CreationResult}
 use Rattle.errors.specs.declared.Refusal.the-variants.{EmptyInstructions, PoolFull, WrongPhaseOrUnsound, ProgramTooLong}
 use Rattle.image.specs.Image.{Image, sound, task-count, read-image}
 use Rattle.image.specs.Numbers.{number-at, Bytes}
@@ -25,9 +25,9 @@ use Rattle.roundtrips.proofs.Stores.{Pool}
 use Rattle.roundtrips.proofs.Tested.{Tested, tested-sound, s-len-most, s-len-least}
 use Rattle.storage.specs.Tasks.{blank}
 use Rattle.storage.specs.declared.Task.{Task}
-use Rattle.tables.proofs.Loads.{loads-all}
-use Rattle.tables.specs.Tables.{loading}
-use Rattle.tables.specs.declared.InUse.{InUse}
+use Rattle.table_image.proofs.Loads.{loads-all}
+use Rattle.table_image.specs.Tables.{loading}
+use Rattle.table_image.specs.declared.InUse.{InUse}
 
 -- an image that was tested, with room behind the program for its instructions
 record Taken (lent size : ℕ) (answer : ImageResult) (next-id count len : ℕ) : Type 0 where
@@ -103,7 +103,7 @@ pub count-told : {slots lent size : ℕ} (bytes : List ℕ) {next-id count len :
 count-told [] f = sym (f .image .count-is) ∙ none-read (f .image .image) (f .image .read) ∙ sym none-counted
 count-told (byte ∷ bytes) f = sym (f .image .count-is) ∙ count-read (byte ∷ bytes) (f .image .image) (omega arith) (f .image .read)
 
--- so the records that `loading::load_table` goes through are the image
+-- so the records that `table_image::loading::load_table` goes through are the image
 pub records-told : {slots lent size : ℕ} {bytes : List ℕ} {next-id count len : ℕ} → Fits slots lent size bytes next-id count len → (table : List Task) (pool ends : List ℕ) (used : InUse)
     → load-records count bytes 14 (loading (replicate (length table) blank) pool ends used) ≡ load-table bytes (loading table pool ends used)
 records-told {bytes = bytes} {count = count} f table pool ends used = loads-all count bytes table pool ends used (count-told bytes f)

@@ -9,7 +9,7 @@ use lib.ListN.{length, getD, take, drop, length-take, length-drop, take-append-d
 use lib.Seq.{drop-cons, drop-drop}
 use borrow.Author.Tests.{ne-eqb, eqb-true, eqb-false}
 use Rattle.image.proofs.Endian.{number-again, number-drop, number-fits, bytes-drop}
-use Rattle.records.proofs.Puts.{body-size, framed-open, body-open}
+use Rattle.image.proofs.Puts.{body-size, framed-open, body-open}
 use Rattle.image.proofs.Rules.{Rules, good-rules, Head, headed-head}
 use Rattle.image.proofs.Walks.{read-next, read-some, title-length-is, instructions-length}
 use Rattle.roundtrips.proofs.SaveLoad.{not-bad, front-of}

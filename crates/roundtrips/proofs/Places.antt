@@ -9,7 +9,7 @@ use lib.ListN.{length, drop, length-drop}
 use borrow.Author.Tests.{eqb-false}
 use Rattle.image.proofs.Endian.{bytes-drop}
 use Rattle.roundtrips.proofs.LoadSave.{record-again, fine-is, task-id, whole-length, joined-sound, joined-bad}
-use Rattle.records.proofs.Puts.{record-size}
+use Rattle.image.proofs.Puts.{record-size}
 use Rattle.image.proofs.Rules.{Rules, good-rules, rules-good, clash}
 use Rattle.image.proofs.Walks.{read-next}
 use Rattle.roundtrips.proofs.SaveLoad.{not-bad}

@@ -9,7 +9,7 @@ use lib.ListN.{length, getD, take, drop, length-append}
 use lib.Seq.{drop-drop, take-append-seam, drop-append-seam}
 use borrow.Author.Tests.{ne-eqb, eq-eqb}
 use Rattle.image.proofs.Endian.{number-back}
-use Rattle.records.proofs.Puts.{body-size, framed-open}
+use Rattle.image.proofs.Puts.{body-size, framed-open}
 use Rattle.image.proofs.Rules.{Rules, rules-good, Head, head-headed}
 use Rattle.image.specs.Image.{ImageTask, Image, framed, header, body, records, written, Fine, Rising, none, more, Sound, sound, bad-at, body-length, kind, next-id-in, task-count, id-in, title-length, task-at, good, joined, read-from, counted, read-image}
 use Rattle.image.specs.Numbers.{little-endian, number-at}

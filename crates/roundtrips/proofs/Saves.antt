@@ -9,7 +9,7 @@ use lib.ListN.{length, getD, take, drop, length-append}
 use lib.Seq.{sets, sets-eq, length-sets, take-append-seam}
 use borrow.Author.Tests.{lt-ltb, le-leb, lt-leb, leb-true, leb-false}
 use Rattle.errors.specs.declared.Refusal.the-variants.{SaveBufferTooShort}
-use Rattle.records.proofs.Puts.{puts-puts}
+use Rattle.image.proofs.Puts.{puts-puts}
 use Rattle.roundtrips.proofs.SaveLoad.{save-load}
 use Rattle.image.specs.Image.{ImageTask, Image, framed, body, header, records, written, Sound, sound, read-image}
 use Rattle.image.specs.Numbers.{little-endian}
@@ -19,7 +19,7 @@ use Rattle.image.specs.Writing.{put, puts, task-in, size-of, sized, measure}
 use Rattle.image.specs.declared.SaveResult.the-variants.{Saved, NotSaved}
 use Rattle.image.specs.declared.SizeResult.the-variants.{Size}
 use Rattle.pools.specs.Pool.{bounds}
-use Rattle.slices.proofs.Writes.{sets-append}
+use Rattle.slices.proofs.SlicesWrites.{sets-append}
 use Rattle.storage.specs.Tasks.{blank}
 use Rattle.storage.specs.declared.Task.{Task}
 use Rattle.utf8.specs.Utf8.{valid}

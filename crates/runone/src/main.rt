@@ -31,7 +31,7 @@ fn main() {
     let mut save = save_room();
     let mut image = [0u8; 0];
     let mut calls = only_call();
-    shows::own(
+    printer::shows::own(
         &mut stack,
         &mut memory,
         &mut pool,

@@ -12,20 +12,20 @@ use Rattle.bytecode.specs.Operands.{behind, data-size}
 use Rattle.values.specs.Values.{to-u32-val}
 use Rattle.storage.specs.Tasks.{blank}
 use Rattle.image.specs.declared.SaveResult.{SaveResult}
-use Rattle.opcodes.specs.Registers.{moved}
-use Rattle.opcodes.specs.declared.Did.{Did}
-use Rattle.opcodes.specs.declared.Did.the-variants.{Next}
-use Rattle.tasks.specs.Changes.{keep}
-use Rattle.tasks.specs.Fields.{op-t-get-field, op-t-set-field}
-use Rattle.tasks.specs.declared.Change.{Change}
-use Rattle.calls.specs.Machines.{registers-of}
-use Rattle.calls.specs.Frames.{op-end-call}
-use Rattle.calls.specs.Act.{acted, OnAll, on-all, went-by, created, tasked-by, created-by, on-task, on-frames, act-by, act-at, act}
-use Rattle.calls.specs.Turns.{save-went}
-use Rattle.calls.specs.declared.Went.{Went}
-use Rattle.runs.specs.World.{World, place, at-end}
-use Rattle.runs.specs.World as worlds
-use Rattle.runs.specs.Step.{acts-went, acted-at, acts, saves-went, saved-table-of, saves}
+use Rattle.machine.specs.Registers.{moved}
+use Rattle.machine.specs.declared.Did.{Did}
+use Rattle.machine.specs.declared.Did.the-variants.{Next}
+use Rattle.machine.specs.Changes.{keep}
+use Rattle.machine.specs.Fields.{op-t-get-field, op-t-set-field}
+use Rattle.machine.specs.declared.Change.{Change}
+use Rattle.machine.specs.Machines.{registers-of}
+use Rattle.machine.specs.Frames.{op-end-call}
+use Rattle.machine.specs.Act.{acted, OnAll, on-all, went-by, created, tasked-by, created-by, on-task, on-frames, act-by, act-at, act}
+use Rattle.machine.specs.Turns.{save-went}
+use Rattle.machine.specs.declared.Went.{Went}
+use Rattle.machine.specs.World.{World, place, at-end}
+use Rattle.machine.specs.World as worlds
+use Rattle.machine.specs.Step.{acts-went, acted-at, acts, saves-went, saved-table-of, saves}
 use Rattle.labels.specs.declared.Kind.{Kind}
 use Rattle.labels.specs.declared.Kind.the-variants.{Number, Calldata}
 use Rattle.labels.specs.declared.Exchange.{Exchange}

@@ -5,13 +5,13 @@ use mathlib.Core.List.{List}
 use mathlib.Core.Path.{_≡_}
 use Rattle.errors.specs.declared.Refusal.{Refusal}
 use Rattle.errors.specs.Refusals.{number-of}
-use Rattle.calls.specs.declared.Outcome.the-variants.{Refused}
-use Rattle.runs.specs.World.{World}
-use Rattle.vm.specs.Calls.{call}
-use Rattle.vm.specs.declared.Verb.{Verb}
-use Rattle.soundness.specs.Sound.{Sound}
-use Rattle.soundness.proofs.Creation.{create-sound}
-use Rattle.soundness.proofs.Calls.{call-sound, save-sound}
+use Rattle.machine.specs.declared.Outcome.the-variants.{Refused}
+use Rattle.machine.specs.World.{World}
+use Rattle.machine.specs.Calls.{call}
+use Rattle.machine.specs.declared.Verb.{Verb}
+use Rattle.laws.specs.Sound.{Sound}
+use Rattle.laws.proofs.Creation.{create-sound}
+use Rattle.laws.proofs.SoundnessCalls.{call-sound, save-sound}
 use Rattle.labels.specs.declared.Kind.{Kind}
 use Rattle.labels.specs.Labels.{Labelled}
 use Rattle.labels.specs.Check.{admitted, admission}

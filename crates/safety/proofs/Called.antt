@@ -11,25 +11,25 @@ use Rattle.errors.specs.declared.Refusal.{Refusal}
 use Rattle.errors.specs.Refusals.{number-of}
 use Rattle.inlinevec.specs.declared.Frame.{Frame}
 use Rattle.inlinevec.specs.declared.Loops.{Loops}
-use Rattle.core.specs.declared.Machine.{Machine}
-use Rattle.calls.specs.Machines.{current, registers-of, settled}
-use Rattle.calls.specs.Turns.{rewound}
-use Rattle.calls.specs.declared.Outcome.the-variants.{Done, Paused, Refused}
-use Rattle.runs.specs.World.{World, place, at-end}
+use Rattle.machine.specs.declared.Machine.{Machine}
+use Rattle.machine.specs.Machines.{current, registers-of, settled}
+use Rattle.machine.specs.Turns.{rewound}
+use Rattle.machine.specs.declared.Outcome.the-variants.{Done, Paused, Refused}
+use Rattle.machine.specs.World.{World, place, at-end}
 use Rattle.image.specs.declared.SaveResult.{SaveResult}
 use Rattle.image.specs.declared.SaveResult.the-variants.{Saved, NotSaved}
-use Rattle.runs.specs.Step.{saved-table-of}
-use Rattle.runs.specs.Run.{End, end-at}
-use Rattle.runs.proofs.Settled.{current-changed}
-use Rattle.vm.specs.Calls.{may-start, may-continue, fresh, allowing, allowed, ended, report, Reported, reports, not-allowed, with-machine, is-sound, call-with, call}
-use Rattle.vm.specs.Calls as calls
-use Rattle.vm.specs.declared.Verb.{Verb}
-use Rattle.vm.specs.declared.Verb.the-variants.{Start, Continue}
-use Rattle.vm.specs.Reads.{host-saved, SavedTo, saved-to, host-save}
+use Rattle.machine.specs.Step.{saved-table-of}
+use Rattle.machine.specs.Run.{End, end-at}
+use Rattle.machine.proofs.Settled.{current-changed}
+use Rattle.machine.specs.Calls.{may-start, may-continue, fresh, allowing, allowed, ended, report, Reported, reports, not-allowed, with-machine, is-sound, call-with, call}
+use Rattle.machine.specs.Calls as calls
+use Rattle.machine.specs.declared.Verb.{Verb}
+use Rattle.machine.specs.declared.Verb.the-variants.{Start, Continue}
+use Rattle.machine.specs.Reads.{host-saved, SavedTo, saved-to, host-save}
 use Rattle.labels.specs.declared.Kind.{Kind}
 use Rattle.labels.specs.Labels.{Label, zeroth, Labelled}
-use Rattle.refusals.proofs.Either.{either}
-use Rattle.soundness.specs.After.{world-after, world-saved}
+use Rattle.machine.proofs.Either.{either}
+use Rattle.laws.specs.After.{world-after, world-saved}
 use Rattle.safety.specs.Lives.{ruled-out, may-come, allows, Safe}
 use Rattle.safety.proofs.Kinded.{nil}
 use Rattle.safety.proofs.Rules.{on-bool}

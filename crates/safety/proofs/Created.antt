@@ -14,15 +14,15 @@ use Rattle.storage.specs.declared.Task.{Task}
 use Rattle.storage.specs.Tasks.{blank}
 use Rattle.image.specs.Table.{Loading, bytes-after, entries-after, next-reference, instructions-of, load-record, placed, load-records}
 use Rattle.image.specs.Reading.{read-record}
-use Rattle.tables.specs.Tables.{in-use, loading}
-use Rattle.creation.specs.declared.CreationResult.{CreationResult}
-use Rattle.creation.specs.declared.CreationResult.the-variants.{Fit, Unfit}
-use Rattle.core.specs.declared.Machine.{Machine}
-use Rattle.calls.specs.Machines.{current}
-use Rattle.runs.specs.World.{world}
-use Rattle.vm.specs.Calls.{may-continue}
-use Rattle.vm.specs.Creation.{new-machine, unfit, with-program, interned-program, prepare-fit, prepare, Made, made, loaded, create-as, create}
-use Rattle.vm.specs.declared.CreateResult.the-variants.{Created, NotCreated}
+use Rattle.table_image.specs.Tables.{in-use, loading}
+use Rattle.table_image.specs.declared.creation.CreationResult.{CreationResult}
+use Rattle.table_image.specs.declared.creation.CreationResult.the-variants.{Fit, Unfit}
+use Rattle.machine.specs.declared.Machine.{Machine}
+use Rattle.machine.specs.Machines.{current}
+use Rattle.machine.specs.World.{world}
+use Rattle.machine.specs.Calls.{may-continue}
+use Rattle.machine.specs.Creation.{new-machine, unfit, with-program, interned-program, prepare-fit, prepare, Made, made, loaded, create-as, create}
+use Rattle.machine.specs.declared.CreateResult.the-variants.{Created, NotCreated}
 use Rattle.labels.specs.declared.Kind.{Kind}
 use Rattle.labels.specs.Labels.{Labelled}
 use Rattle.safety.specs.Lives.{new-world}

@@ -10,11 +10,11 @@ use lib.Seq.{getD-at}
 use borrow.Author.Tests.{leb-true}
 use Rattle.errors.specs.declared.Refusal.{Refusal}
 use Rattle.inlinevec.specs.declared.Loops.{Loops}
-use Rattle.calls.specs.declared.Outcome.the-variants.{Done, Paused, Refused}
-use Rattle.runs.specs.World.{World, place, at-end}
-use Rattle.runs.specs.World as worlds
-use Rattle.runs.specs.Step.{Stepped, next, refused}
-use Rattle.runs.specs.Run.{End, end-at, run}
+use Rattle.machine.specs.declared.Outcome.the-variants.{Done, Paused, Refused}
+use Rattle.machine.specs.World.{World, place, at-end}
+use Rattle.machine.specs.World as worlds
+use Rattle.machine.specs.Step.{Stepped, next, refused}
+use Rattle.machine.specs.Run.{End, end-at, run}
 use Rattle.laws.proofs.Finished.{Reaches, here, onto, Ends, is-done, is-paused, is-refused, finished}
 use Rattle.labels.specs.declared.Kind.{Kind}
 use Rattle.labels.specs.declared.Kind.the-variants.{Number}

@@ -11,14 +11,14 @@ use Rattle.inlinevec.specs.Stacks.{change-two}
 use Rattle.inlinevec.specs.declared.Frame.{Frame}
 use Rattle.inlinevec.specs.declared.Frames.{Frames}
 use Rattle.storage.specs.declared.Task.{Task}
-use Rattle.opcodes.specs.declared.Registers.{Registers}
-use Rattle.opcodes.specs.declared.Did.{Did}
-use Rattle.core.specs.declared.Machine.{Machine}
-use Rattle.calls.specs.Machines.{current, with-current, code-of, settled}
-use Rattle.runs.specs.World.{World, world, place}
-use Rattle.runs.specs.World as worlds
-use Rattle.runs.specs.Step.{Stepped, next, refused, inner-did}
-use Rattle.runs.proofs.Settled.{current-changed}
+use Rattle.machine.specs.declared.Registers.{Registers}
+use Rattle.machine.specs.declared.Did.{Did}
+use Rattle.machine.specs.declared.Machine.{Machine}
+use Rattle.machine.specs.Machines.{current, with-current, code-of, settled}
+use Rattle.machine.specs.World.{World, world, place}
+use Rattle.machine.specs.World as worlds
+use Rattle.machine.specs.Step.{Stepped, next, refused, inner-did}
+use Rattle.machine.proofs.Settled.{current-changed}
 use Rattle.labels.specs.Labels.{Label}
 use Rattle.safety.proofs.Rules.{on-bool}
 use Rattle.safety.proofs.Holds.{May, Holds, Good, goes-on, may-end}

@@ -7,7 +7,7 @@ use Rattle.values.specs.Values.{get-value-type, scalar-type, vec-type}
 use Rattle.values.proofs.Laws.{scalar-no-vec, bool-type}
 use Rattle.labels.specs.declared.Kind.{Kind}
 use Rattle.labels.specs.declared.Kind.the-variants.{Number, Calldata, Boolean, Text, Numbers}
-use Rattle.runs.specs.World.{World}
+use Rattle.machine.specs.World.{World}
 use Rattle.safety.specs.Kinds.{HasKind, type-of, Listed}
 
 pub kind-type : (kind : Kind) (value : ℕ) → HasKind kind value → get-value-type value ≡ type-of kind

@@ -9,7 +9,7 @@ use Rattle.values.specs.declared.ValueType.{ValueType}
 use Rattle.values.specs.declared.ValueType.the-variants as types
 use Rattle.labels.specs.declared.Kind.{Kind}
 use Rattle.labels.specs.declared.Kind.the-variants.{Number, Calldata, Boolean, Text, Numbers}
-use Rattle.runs.specs.World.{World}
+use Rattle.machine.specs.World.{World}
 
 -- N: a scalar of tag 6; C: a scalar of tag 5; B: TRUE or FALSE; S: a vector of tag 4; V: a vector of tag 6
 abbrev pub HasKind : Kind → ℕ → Type 0

@@ -8,17 +8,17 @@ use lib.ListN.{length}
 use Rattle.errors.specs.declared.Refusal.{Refusal}
 use Rattle.errors.specs.Refusals.{number-of}
 use Rattle.storage.specs.declared.Task.{Task}
-use Rattle.core.specs.declared.Machine.{Machine}
-use Rattle.core.specs.declared.Phase.{Phase}
-use Rattle.calls.specs.declared.Outcome.the-variants.{Done, Refused}
-use Rattle.runs.specs.World.{World, world}
-use Rattle.vm.specs.Calls.{may-start, may-continue, Reported, call}
-use Rattle.vm.specs.Reads.{host-save}
-use Rattle.vm.specs.Creation.{Made, create}
-use Rattle.vm.specs.declared.Verb.{Verb}
-use Rattle.vm.specs.declared.Verb.the-variants.{Start, Continue}
-use Rattle.vm.specs.declared.CreateResult.the-variants.{Created}
-use Rattle.soundness.specs.After.{world-after, world-saved}
+use Rattle.machine.specs.declared.Machine.{Machine}
+use Rattle.machine.specs.declared.Phase.{Phase}
+use Rattle.machine.specs.declared.Outcome.the-variants.{Done, Refused}
+use Rattle.machine.specs.World.{World, world}
+use Rattle.machine.specs.Calls.{may-start, may-continue, Reported, call}
+use Rattle.machine.specs.Reads.{host-save}
+use Rattle.machine.specs.Creation.{Made, create}
+use Rattle.machine.specs.declared.Verb.{Verb}
+use Rattle.machine.specs.declared.Verb.the-variants.{Start, Continue}
+use Rattle.machine.specs.declared.CreateResult.the-variants.{Created}
+use Rattle.laws.specs.After.{world-after, world-saved}
 use Rattle.labels.specs.declared.Kind.{Kind}
 use Rattle.safety.specs.Kinds.{Listed}
 

@@ -1,4 +1,7 @@
 // Slices of bytes: a part, and equality, each total; the laws of lists that they and the writes stand on are in proofs/.
+pub mod places;
+pub mod writes;
+
 ghost use mathlib.Core.Path.{_≡_};
 ghost use lib.ListN.{take, drop};
 ghost use Rattle.slices.specs.Same.{same};

@@ -5,7 +5,7 @@ use mathlib.Core.Path.{_≡_, refl, sym, ap, _∙_}
 use native.Mathlib.Omega.{arith}
 use lib.ListN.{take, set, replicate, length-replicate, replicate-append-replicate}
 use lib.Seq.{sets, take-at}
-use Rattle.slices.proofs.Writes.{sets-out}
+use Rattle.slices.proofs.SlicesWrites.{sets-out}
 use Rattle.storage.specs.Tasks.{no-title, title-of}
 
 module _ {A : Type 0} where

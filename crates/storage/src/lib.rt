@@ -1,4 +1,6 @@
 // Tasks: the record, its state, and its id.
+pub mod ids;
+pub mod states;
 pub mod task_types;
 
 use errors::Refusal;

@@ -37,7 +37,7 @@ pub(crate) fn title_of(bytes: &[u8]) -> [u8; 128]
     ensures { λ r. ⌜ r ≡ title-of (now (bytes .entry)) ⌝ }
 {
     let mut title = [0u8; 128];
-    writes::write(&mut title, bytes, 0);
+    slices::writes::write(&mut title, bytes, 0);
     title
 }
 

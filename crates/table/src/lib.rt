@@ -1,4 +1,6 @@
 // The lent table of tasks: one slot read, written, cleared, or put into a state.
+pub mod slots;
+
 ghost use mathlib.Core.Path.{_≡_};
 ghost use lib.ListN.{getD, set};
 ghost use Rattle.storage.specs.Tasks.{blank, after};
@@ -38,7 +40,7 @@ pub fn set_state_at(table: &mut [Task], slot: usize, new_state: u32) -> StateRes
     ensures { λ r. ⌜ after r (now (table .exit)) ≡ set-state-at (now (table .entry)) slot «new_state» ⌝ }
 {
     if slot < table.len() {
-        return states::set_state(&mut table[slot], new_state);
+        return storage::states::set_state(&mut table[slot], new_state);
     }
-    states::no_such_state(new_state)
+    storage::states::no_such_state(new_state)
 }

@@ -8,7 +8,7 @@ use lib.Dec.{leb}
 use lib.ListN.{length, take, drop, set}
 use lib.Seq.{sets, length-sets}
 use borrow.Author.Tests.{leb-true}
-use Rattle.slices.proofs.Writes.{sets-append}
+use Rattle.slices.proofs.SlicesWrites.{sets-append}
 use Rattle.errors.specs.declared.Refusal.the-variants.{SaveBufferTooShort}
 use Rattle.text.specs.declared.Form.{Form}
 use Rattle.text.specs.declared.LineResult.the-variants.{Line, NoLine}

@@ -9,7 +9,7 @@ use lib.Dec.{leb}
 use lib.ListN.{length, drop, length-append, length-drop}
 use lib.Seq.{sets, length-sets}
 use borrow.Author.Tests.{le-leb, lt-leb, leb-true, leb-false}
-use Rattle.slices.proofs.Writes.{sets-append}
+use Rattle.slices.proofs.SlicesWrites.{sets-append}
 use Rattle.text.specs.declared.Piece.{Piece}
 use Rattle.text.specs.declared.Turn.{Turn}
 use Rattle.text.specs.declared.Room.the-variants.{Left, Short}

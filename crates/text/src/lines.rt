@@ -37,7 +37,7 @@ fn put(out: &mut [u8], at: usize, form: Form, bytes: &[u8], numbers: &[u64]) -> 
 {
     match form {
         Form::Plain => {
-            writes::write(out, bytes, at);
+            slices::writes::write(out, bytes, at);
             return at + bytes.len();
         }
         Form::Hex => {

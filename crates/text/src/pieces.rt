@@ -171,7 +171,7 @@ fn put_piece(out: &mut [u8], at: usize, piece: Piece) -> usize
     let start = piece.start;
     let held = piece.bytes;
     let text = slices::part(&held, start, 21);
-    writes::write(out, text, at);
+    slices::writes::write(out, text, at);
     at + text.len()
 }
 

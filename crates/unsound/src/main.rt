@@ -1,14 +1,14 @@
 // Starts machines whose record, table or pool was forged, one to a part of 26, and prints what each start answers; the first is honest.
-use calls::Outcome;
-use core::Machine;
 use inlinevec::Frame;
 use libc::STDOUT_FILENO;
+use machine::Machine;
+use machine::Outcome;
+use machine::Report;
+use machine::Verb;
+use machine::vm_machines::machine_of;
 use pools::InstructionsRef;
 use storage::Task;
 use storage::TaskId;
-use vm::Report;
-use vm::Verb;
-use vm::machines::machine_of;
 
 // Room for the stack.
 fn stack_room() -> [u64; 1000] {
@@ -221,7 +221,7 @@ fn attempt(
     program: &mut [u8],
     number: usize,
 ) {
-    let creation = creating::create(table, pool, ends, image, program);
+    let creation = vm::creating::create(table, pool, ends, image, program);
     let honest = machine_of(creation);
     let forged = forged_machine(honest, number);
     let slot = forged_slot(number);
@@ -230,7 +230,7 @@ fn attempt(
     table::put(table, slot, task);
     forge_end(ends, number);
     let fuel = fuel_of_a_start();
-    let report = calling::call(
+    let report = vm::calling::call(
         table,
         stack,
         memory,

@@ -1,4 +1,9 @@
 // Boxed values: scalars and vectors in one word of 64 bits, and what is read of one, as quotients and remainders by powers of two.
+pub mod boxing;
+pub mod calculations;
+pub mod comparison;
+pub mod kinds;
+
 ghost use mathlib.Core.Path.{_≡_};
 ghost use Rattle.values.specs.Values.{is-qnan, is-scalar, is-vec, raw-tag, tag-of, is-u32-val, to-u32, fat-pointer, to-fat-pointer};
 use errors::Refusal;

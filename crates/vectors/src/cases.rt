@@ -118,11 +118,11 @@ fn case_box(case: &[u8]) {
     let a = number(case, 2) as u32;
     let op = byte(case, 1);
     match op {
-        0 => say_value(ValueResult::Value(boxing::to_u32_val(a))),
-        1 => say_value(ValueResult::Value(boxing::to_calldata_val(a))),
-        2 => say_value(ValueResult::Value(boxing::to_bool_val(a == 1))),
-        3 => say_value(boxing::to_vec_val(a as usize, half(case, 6) as u16, 4)),
-        _ => say_value(boxing::to_vec_val(a as usize, half(case, 6) as u16, 6)),
+        0 => say_value(ValueResult::Value(values::boxing::to_u32_val(a))),
+        1 => say_value(ValueResult::Value(values::boxing::to_calldata_val(a))),
+        2 => say_value(ValueResult::Value(values::boxing::to_bool_val(a == 1))),
+        3 => say_value(values::boxing::to_vec_val(a as usize, half(case, 6) as u16, 4)),
+        _ => say_value(values::boxing::to_vec_val(a as usize, half(case, 6) as u16, 6)),
     }
 }
 
@@ -161,7 +161,7 @@ fn case_word(case: &[u8]) {
         PointerResult::NoPointer(refusal) => say_refusal(refusal),
     }
     say(b"type ");
-    say_type(kinds::get_value_type(v));
+    say_type(values::kinds::get_value_type(v));
 }
 
 // c: two words calculated with.
@@ -169,30 +169,30 @@ fn case_pair(case: &[u8]) {
     let a = word(case, 1);
     let b = word(case, 9);
     say(b"mul ");
-    say_value(calculations::mul_checked(a, b));
+    say_value(values::calculations::mul_checked(a, b));
     say(b"muli ");
-    say_value(calculations::mul_checked_i(a, values::to_u32(b)));
+    say_value(values::calculations::mul_checked_i(a, values::to_u32(b)));
     say(b"eq ");
-    say_value(comparison::value_eq(a, b));
+    say_value(values::comparison::value_eq(a, b));
     say(b"neq ");
-    say_value(comparison::value_neq(a, b));
+    say_value(values::comparison::value_neq(a, b));
     say(b"lt ");
-    say_value(comparison::value_cmp(a, b, true));
+    say_value(values::comparison::value_cmp(a, b, true));
     say(b"gt ");
-    say_value(comparison::value_cmp(a, b, false));
+    say_value(values::comparison::value_cmp(a, b, false));
 }
 
 // p: where an allocation would go, at any length in use.
 fn case_place(case: &[u8]) {
     let used = number(case, 2) as usize;
-    say_value(allocation::vector(used, half(case, 6) as u16, byte(case, 1)));
+    say_value(memory::allocation::vector(used, half(case, 6) as u16, byte(case, 1)));
 }
 
 // a: an allocation in a memory of 32 bytes that held EE.
 fn case_alloc(case: &[u8]) {
     let mut bytes = [0xEEu8; 32];
     let used = wide(byte(case, 2)) as usize;
-    match allocation::alloc(
+    match memory::allocation::alloc(
         &mut bytes,
         slices::part(case, 5, 250),
         used,
@@ -218,7 +218,7 @@ fn case_change(case: &[u8]) {
         size: half(case, 3) as u16,
     };
     let index = ElementIndex(number(case, 5) as u32);
-    match change::mut_vec(
+    match memory::change::mut_vec(
         &mut bytes,
         pointer,
         index,

@@ -50,19 +50,19 @@ use Rattle.storage.specs.declared.StateResult.{StateResult}
 use Rattle.storage.specs.Tasks.{blank, no-such-state, after, set-state}
 use Rattle.storage.specs.Table.{set-state-at}
 use Rattle.storage.proofs.Records.{R, table-ty, place-fits}
-use Rattle.states.proofs.Setting.{set-inside, set-past}
-use Rattle.states.proofs.set_state.Symbol.{name as #set}
-use Rattle.states.proofs.no_such_state.Symbol.{name as #none}
+use Rattle.storage.proofs.Setting.{set-inside, set-past}
+use Rattle.storage.proofs.states.set_state.Symbol.{name as #set}
+use Rattle.storage.proofs.states.no_such_state.Symbol.{name as #none}
 use Rattle.table.proofs.set_state_at.Key.{name as #this}
 use denote.Enum.Laws as enum
 use Rattle.storage.proofs.StateResult as answer
 use Rattle.storage.proofs.StateResult.Laws as answer-laws
-use Rattle.states.proofs.set_state as set
-use Rattle.states.proofs.set_state.Symbol as set-def
-use Rattle.states.proofs.set_state.Met as set-thm
-use Rattle.states.proofs.no_such_state as none
-use Rattle.states.proofs.no_such_state.Symbol as none-def
-use Rattle.states.proofs.no_such_state.Met as none-thm
+use Rattle.storage.proofs.states.set_state as set
+use Rattle.storage.proofs.states.set_state.Symbol as set-def
+use Rattle.storage.proofs.states.set_state.Met as set-thm
+use Rattle.storage.proofs.states.no_such_state as none
+use Rattle.storage.proofs.states.no_such_state.Symbol as none-def
+use Rattle.storage.proofs.states.no_such_state.Met as none-thm
 use Rattle.table.proofs.set_state_at as f
 use Rattle.table.proofs.set_state_at.Statement as stated
 use Rattle.table.proofs.set_state_at.Code as code
@@ -210,5 +210,5 @@ set-state-at-spec 𝓤 H 𝓜 𝓖 𝓡 =
     entered 𝓤 H (tripleOf 𝓤 H (𝓖 .A) f.signature (f.spec 𝓤 H (𝓖 .A) (𝓜 .mem) (𝓡 .run)))
     (tables 𝓤 H 𝓜 𝓡 code.env .C) (tables 𝓤 H 𝓜 𝓡 code.env .Λ) #this code.function (code.unfolded 𝓤 H 𝓜 𝓡)
     (meets 𝓤 H (𝓖 .A) (givenOf 𝓤 H 𝓜 𝓖) (𝓜 .mem) (𝓡 .run) (tablesOf 𝓤 H 𝓜 (tables 𝓤 H 𝓜 𝓡 code.env))
-    (cited 𝓤 H (set-con 𝓤 H (𝓖 .A) (𝓜 .mem) (𝓡 .run)) 𝓜 𝓡 code.env #set set-def.routine code.calls-states·set-state (set-thm.met 𝓤 H 𝓜 𝓖 𝓡))
-    (cited 𝓤 H (none-con 𝓤 H (𝓖 .A) (𝓜 .mem) (𝓡 .run)) 𝓜 𝓡 code.env #none none-def.routine code.calls-states·no-such-state (none-thm.met 𝓤 H 𝓜 𝓖 𝓡)))
+    (cited 𝓤 H (set-con 𝓤 H (𝓖 .A) (𝓜 .mem) (𝓡 .run)) 𝓜 𝓡 code.env #set set-def.routine code.calls-storage·states·set-state (set-thm.met 𝓤 H 𝓜 𝓖 𝓡))
+    (cited 𝓤 H (none-con 𝓤 H (𝓖 .A) (𝓜 .mem) (𝓡 .run)) 𝓜 𝓡 code.env #none none-def.routine code.calls-storage·states·no-such-state (none-thm.met 𝓤 H 𝓜 𝓖 𝓡)))

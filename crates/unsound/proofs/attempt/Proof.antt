@@ -47,22 +47,22 @@ use Rattle.storage.specs.declared.Task.{Task}
 use Rattle.storage.proofs.Task as task
 use Rattle.storage.proofs.Task.Laws as task-laws
 use Rattle.storage.proofs.Records.{R, table-ty, val, makes, typed}
-use Rattle.core.proofs.Machine as machine
-use Rattle.runs.proofs.Values.{machine-shut, machine-vals}
-use Rattle.vm.specs.declared.Verb.the-variants.{Start}
-use Rattle.vm.proofs.Verb as verb
-use Rattle.vm.proofs.Report as report
-use Rattle.vm.proofs.CreateResult as created
-use Rattle.vm.proofs.Values.{verb-shut, start-val, start-typed, report-shut, report-vals, created-shut, created-vals, start-is}
+use Rattle.machine.proofs.Machine as machine
+use Rattle.machine.proofs.Values.{machine-shut, machine-vals}
+use Rattle.machine.specs.declared.Verb.the-variants.{Start}
+use Rattle.machine.proofs.Verb as verb
+use Rattle.machine.proofs.Report as report
+use Rattle.machine.proofs.CreateResult as created
+use Rattle.machine.proofs.VmValues.{verb-shut, start-val, start-typed, report-shut, report-vals, created-shut, created-vals, start-is}
 use Rattle.unsound.proofs.Silent.{silent}
-use Rattle.creating.proofs.create.Symbol.{name as #creates}
-use Rattle.creating.proofs.create as creates
-use Rattle.creating.proofs.create.Symbol as creates-def
-use Rattle.creating.proofs.create.Met as creates-thm
-use Rattle.vm.proofs.machines.machine_of.Symbol.{name as #begins}
-use Rattle.vm.proofs.machines.machine_of as begins
-use Rattle.vm.proofs.machines.machine_of.Symbol as begins-def
-use Rattle.vm.proofs.machines.machine_of.Met as begins-thm
+use Rattle.vm.proofs.creating.create.Symbol.{name as #creates}
+use Rattle.vm.proofs.creating.create as creates
+use Rattle.vm.proofs.creating.create.Symbol as creates-def
+use Rattle.vm.proofs.creating.create.Met as creates-thm
+use Rattle.machine.proofs.vm_machines.machine_of.Symbol.{name as #begins}
+use Rattle.machine.proofs.vm_machines.machine_of as begins
+use Rattle.machine.proofs.vm_machines.machine_of.Symbol as begins-def
+use Rattle.machine.proofs.vm_machines.machine_of.Met as begins-thm
 use Rattle.unsound.proofs.forged_machine.Symbol.{name as #forges}
 use Rattle.unsound.proofs.forged_machine as forges
 use Rattle.unsound.proofs.forged_machine.Symbol as forges-def
@@ -91,10 +91,10 @@ use Rattle.unsound.proofs.fuel_of_a_start.Symbol.{name as #fuels}
 use Rattle.unsound.proofs.fuel_of_a_start as fuels
 use Rattle.unsound.proofs.fuel_of_a_start.Symbol as fuels-def
 use Rattle.unsound.proofs.fuel_of_a_start.Met as fuels-thm
-use Rattle.calling.proofs.call.Symbol.{name as #starts}
-use Rattle.calling.proofs.call as starts
-use Rattle.calling.proofs.call.Symbol as starts-def
-use Rattle.calling.proofs.call.Met as starts-thm
+use Rattle.vm.proofs.calling.call.Symbol.{name as #starts}
+use Rattle.vm.proofs.calling.call as starts
+use Rattle.vm.proofs.calling.call.Symbol as starts-def
+use Rattle.vm.proofs.calling.call.Met as starts-thm
 use Rattle.unsound.proofs.show.Symbol.{name as #shows-answer}
 use Rattle.unsound.proofs.show as shows-answer
 use Rattle.unsound.proofs.show.Symbol as shows-answer-def
@@ -352,8 +352,8 @@ attempt-spec 𝓤 H 𝓜 𝓖 𝓡 =
     entered 𝓤 H (tripleOf 𝓤 H (𝓖 .A) f.signature (f.spec 𝓤 H (𝓖 .A) (𝓜 .mem) (𝓡 .run)))
     (tables 𝓤 H 𝓜 𝓡 code.env .C) (tables 𝓤 H 𝓜 𝓡 code.env .Λ) #this code.function (code.unfolded 𝓤 H 𝓜 𝓡)
     (meets 𝓤 H (𝓖 .A) (givenOf 𝓤 H 𝓜 𝓖) (𝓜 .mem) (𝓡 .run) (tablesOf 𝓤 H 𝓜 (tables 𝓤 H 𝓜 𝓡 code.env))
-    (cited 𝓤 H (creates-con 𝓤 H (𝓖 .A) (𝓜 .mem) (𝓡 .run)) 𝓜 𝓡 code.env #creates creates-def.routine code.calls-creating·create (creates-thm.met 𝓤 H 𝓜 𝓖 𝓡))
-    (cited 𝓤 H (begins-con 𝓤 H (𝓖 .A) (𝓜 .mem) (𝓡 .run)) 𝓜 𝓡 code.env #begins begins-def.routine code.calls-vm·machines·machine-of (begins-thm.met 𝓤 H 𝓜 𝓖 𝓡))
+    (cited 𝓤 H (creates-con 𝓤 H (𝓖 .A) (𝓜 .mem) (𝓡 .run)) 𝓜 𝓡 code.env #creates creates-def.routine code.calls-vm·creating·create (creates-thm.met 𝓤 H 𝓜 𝓖 𝓡))
+    (cited 𝓤 H (begins-con 𝓤 H (𝓖 .A) (𝓜 .mem) (𝓡 .run)) 𝓜 𝓡 code.env #begins begins-def.routine code.calls-machine·vm-machines·machine-of (begins-thm.met 𝓤 H 𝓜 𝓖 𝓡))
     (cited 𝓤 H (forges-con 𝓤 H (𝓖 .A) (𝓜 .mem) (𝓡 .run)) 𝓜 𝓡 code.env #forges forges-def.routine code.calls-unsound·forged-machine (forges-thm.met 𝓤 H 𝓜 𝓖 𝓡))
     (cited 𝓤 H (slots-of-con 𝓤 H (𝓖 .A) (𝓜 .mem) (𝓡 .run)) 𝓜 𝓡 code.env #slots-of slots-of-def.routine code.calls-unsound·forged-slot (slots-of-thm.met 𝓤 H 𝓜 𝓖 𝓡))
     (cited 𝓤 H (gets-con 𝓤 H (𝓖 .A) (𝓜 .mem) (𝓡 .run)) 𝓜 𝓡 code.env #gets gets-def.routine code.calls-table·get (gets-thm.met 𝓤 H 𝓜 𝓖 𝓡))
@@ -361,5 +361,5 @@ attempt-spec 𝓤 H 𝓜 𝓖 𝓡 =
     (cited 𝓤 H (puts-con 𝓤 H (𝓖 .A) (𝓜 .mem) (𝓡 .run)) 𝓜 𝓡 code.env #puts puts-def.routine code.calls-table·put (puts-thm.met 𝓤 H 𝓜 𝓖 𝓡))
     (cited 𝓤 H (forges-end-con 𝓤 H (𝓖 .A) (𝓜 .mem) (𝓡 .run)) 𝓜 𝓡 code.env #forges-end forges-end-def.routine code.calls-unsound·forge-end (forges-end-thm.met 𝓤 H 𝓜 𝓖 𝓡))
     (cited 𝓤 H (fuels-con 𝓤 H (𝓖 .A) (𝓜 .mem) (𝓡 .run)) 𝓜 𝓡 code.env #fuels fuels-def.routine code.calls-unsound·fuel-of-a-start (fuels-thm.met 𝓤 H 𝓜 𝓖 𝓡))
-    (cited 𝓤 H (starts-con 𝓤 H (𝓖 .A) (𝓜 .mem) (𝓡 .run)) 𝓜 𝓡 code.env #starts starts-def.routine code.calls-calling·call (starts-thm.met 𝓤 H 𝓜 𝓖 𝓡))
+    (cited 𝓤 H (starts-con 𝓤 H (𝓖 .A) (𝓜 .mem) (𝓡 .run)) 𝓜 𝓡 code.env #starts starts-def.routine code.calls-vm·calling·call (starts-thm.met 𝓤 H 𝓜 𝓖 𝓡))
     (cited 𝓤 H (shows-answer-con 𝓤 H (𝓖 .A) (𝓜 .mem) (𝓡 .run)) 𝓜 𝓡 code.env #shows-answer shows-answer-def.routine code.calls-unsound·show (shows-answer-thm.met 𝓤 H 𝓜 𝓖 𝓡)))

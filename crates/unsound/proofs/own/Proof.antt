@@ -47,7 +47,7 @@ use Rattle.storage.proofs.Task as task
 use Rattle.storage.proofs.Task.Laws as task-laws
 use Rattle.storage.proofs.Records.{R, typed}
 use Rattle.unsound.proofs.Silent.{silent}
-use Rattle.owned.proofs.Owned.{held-at, all-typed, array-in, lend-array, comes-back}
+use Rattle.storage.proofs.Owned.{held-at, all-typed, array-in, lend-array, comes-back}
 use Rattle.storage.proofs.task_types.blank.Symbol.{name as #blanks}
 use Rattle.storage.proofs.task_types.blank as blanks
 use Rattle.storage.proofs.task_types.blank.Symbol as blanks-def

@@ -3,7 +3,7 @@ use Prim.Native.Nat.{_<_}
 use mathlib.Core.Path.{_∙_}
 use native.Mathlib.Omega.{arith}
 use lib.ListN.{getD}
-use Rattle.elements.proofs.Reach.{found-is}
+use Rattle.admission.proofs.Reach.{found-is}
 use borrow.Author.Needs.{needs}
 use Rattle.admission.proofs.sweep.element_at.Statement.{statement}
 use Rattle.admission.proofs.sweep.element_at.Tie as tie

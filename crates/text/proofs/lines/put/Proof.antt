@@ -12,7 +12,7 @@ use Rattle.text.proofs.lines.put.Statement.{statement}
 use Rattle.text.proofs.lines.put.Tie as tie
 use Rattle.text.proofs.lines.put.Reads as reads
 use Rattle.text.proofs.lines.put.Lts as lts
-use Rattle.writes.proofs.write.Reads as write-reads
+use Rattle.slices.proofs.writes.write.Reads as write-reads
 use Rattle.text.proofs.hex.put_hex.Reads as put-hex-reads
 use Rattle.text.proofs.pieces.put_pieces.Reads as put-pieces-reads
 

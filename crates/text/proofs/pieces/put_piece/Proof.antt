@@ -11,7 +11,7 @@ use Rattle.text.proofs.pieces.put_piece.Tie as tie
 use Rattle.text.proofs.pieces.put_piece.Reads as reads
 use Rattle.text.proofs.pieces.put_piece.Lts as lts
 use Rattle.slices.proofs.part.Reads as part-reads
-use Rattle.writes.proofs.write.Reads as write-reads
+use Rattle.slices.proofs.writes.write.Reads as write-reads
 
 slice-aggregate-part : tie.Need-slice-aggregate-part
 slice-aggregate-part c = search needs

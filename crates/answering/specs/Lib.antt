@@ -1,3 +1,0 @@
-pub mod Listings
-pub mod Numbers
-pub mod Answering

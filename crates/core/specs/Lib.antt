@@ -1,4 +1,0 @@
-pub mod Cut
-pub mod Operated
-pub mod Execute
-pub mod Steps

@@ -1,4 +1,0 @@
-pub mod Runs
-pub mod Turns
-pub mod Leaving
-pub mod Stating

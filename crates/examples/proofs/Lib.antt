@@ -1,0 +1,4 @@
+pub mod Cases
+pub mod Table
+pub mod ShowsExamplesTable
+pub mod HostExamplesTable

@@ -1,0 +1,5 @@
+pub mod Values
+pub mod Behind
+pub mod Performing
+pub mod AnsweringLines
+pub mod Runs

@@ -1,0 +1,24 @@
+-- The machine values and types of what the walks of a run for a host carry, each under a name that stays shut.
+use mathlib.Core.List.{List}
+use mir.Val.{Val}
+use Rattle.lent.proofs.Shut.{Shut, vals, of-struct, of-enum}
+use Rattle.text.specs.declared.LineResult.{LineResult}
+use Rattle.text.proofs.LineResult as line
+use Rattle.text.proofs.LineResult.Laws as line-laws
+use Rattle.host.specs.declared.hosting.Performed.{Performed}
+use Rattle.host.proofs.hosting.Performed as performed
+use Rattle.host.proofs.hosting.Performed.Laws as performed-laws
+
+-- the length of lines
+unfoldable pub line-shut : Shut line.the-row
+line-shut = of-enum line.the-type line-laws.the-laws tt line-laws.the-plain
+
+abbrev pub line-vals : LineResult → List Val
+line-vals = vals line-shut
+
+-- what came of a run
+unfoldable pub performed-shut : Shut performed.the-row
+performed-shut = of-struct performed.the-type performed-laws.the-laws performed-laws.the-plain
+
+abbrev pub performed-vals : Performed → List Val
+performed-vals = vals performed-shut

@@ -1,0 +1,49 @@
+-- `host::listings::put_value` meets its contract.
+use Rattle.host.specs.Listings.{next-line}
+use Rattle.host.proofs.AnsweringLines.{one-more}
+use borrow.Author.Needs.{needs}
+use Rattle.host.proofs.listings.put_value.Statement.{statement}
+use Rattle.host.proofs.listings.put_value.Tie as tie
+
+enum-known-so-far : tie.Need-enum-known-so-far
+enum-known-so-far c = search needs
+
+enum-known-so-far-2 : tie.Need-enum-known-so-far-2
+enum-known-so-far-2 c = search needs
+
+unbox-value-requires : tie.Need-unbox-value-requires
+unbox-value-requires c κs = search needs
+
+start-of-requires : tie.Need-start-of-requires
+start-of-requires c κs = search needs
+
+value-from-requires : tie.Need-value-from-requires
+value-from-requires c κs = search needs
+
+counted-requires : tie.Need-counted-requires
+counted-requires c κs = search needs
+
+returns : tie.Need-returns
+unfolding next-line
+returns c = simp (c .before .so-far .given .1)
+
+same-length : tie.Need-same-length
+same-length c = search needs
+
+returns-2 : tie.Need-returns-2
+returns-2 c =
+    rw (← c .before .before .before .before .before .before .unbox-value .ensures) (one-more _ _ _ (c .before .before .before .before .before .before .before .before .so-far2 .given .1) (c .before .before .before .before .start-of .ensures) (c .before .before .before .value-from .ensures) (c .counted .ensures))
+
+pub put-value-spec : {M : Type 1} → statement M
+put-value-spec =
+    tie.close
+    (tie.spec
+    enum-known-so-far
+    enum-known-so-far-2
+    unbox-value-requires
+    start-of-requires
+    value-from-requires
+    counted-requires
+    returns
+    same-length
+    returns-2)

@@ -1,0 +1,42 @@
+-- `host::outcomes::height_of` meets its contract.
+use borrow.Author.Needs.{needs}
+use Rattle.host.specs.Hosting.{height-of}
+use Rattle.host.proofs.outcomes.height_of.Statement.{statement}
+use Rattle.host.proofs.outcomes.height_of.Tie as tie
+
+enum-told : tie.Need-enum-told
+enum-told c = search needs
+
+enum-told-2 : tie.Need-enum-told-2
+enum-told-2 c = search needs
+
+enum-told-3 : tie.Need-enum-told-3
+enum-told-3 c = search needs
+
+enum-told-4 : tie.Need-enum-told-4
+enum-told-4 c = search needs
+
+returns : tie.Need-returns
+unfolding height-of
+returns c =
+    simp (c .enum-told .given .1)
+
+returns-2 : tie.Need-returns-2
+unfolding height-of
+returns-2 c =
+    simp (c .enum-told2 .given .1)
+
+returns-3 : tie.Need-returns-3
+unfolding height-of
+returns-3 c =
+    simp (c .enum-told3 .given .1)
+
+returns-4 : tie.Need-returns-4
+unfolding height-of
+returns-4 c =
+    simp (c .enum-told4 .given .1)
+
+pub height-of-spec : {M : Type 1} → statement M
+height-of-spec =
+    tie.close
+    (tie.spec enum-told enum-told-2 enum-told-3 enum-told-4 returns returns-2 returns-3 returns-4)

@@ -1,0 +1,142 @@
+-- A run for a host: a machine is created, started, saved where the run was not refused, and its tasks are listed.
+use Prim.Native.Nat.{ℕ}
+use mathlib.Core.List.{List}
+use lib.ListN.{replicate}
+use Rattle.storage.specs.declared.Task.{Task}
+use Rattle.storage.specs.Tasks.{blank}
+use Rattle.text.specs.declared.LineResult.{LineResult}
+use Rattle.text.specs.Lines.{Lined}
+use Rattle.listing.specs.declared.Head.{Head}
+use Rattle.listing.specs.declared.Head.the-variants as head
+use Rattle.machine.specs.declared.Machine.{Machine}
+use Rattle.machine.specs.Machines.{with-ids}
+use Rattle.machine.specs.declared.Outcome.{Outcome}
+use Rattle.machine.specs.declared.Outcome.the-variants.{Done, Paused, Refused}
+use Rattle.machine.specs.World.{world}
+use Rattle.machine.specs.declared.CreateResult.{CreateResult}
+use Rattle.machine.specs.declared.CreateResult.the-variants.{Created, NotCreated}
+use Rattle.machine.specs.declared.Report.{Report}
+use Rattle.machine.specs.declared.SaveReport.{SaveReport}
+use Rattle.machine.specs.Calls.{Reported, start}
+use Rattle.machine.specs.Creation.{machine-of, Made, create}
+use Rattle.machine.specs.Reads.{SavedTo, host-save}
+use Rattle.host.specs.Lines.{task-lines}
+use Rattle.host.specs.declared.hosting.Performed.{Performed}
+
+-- ---- between the calls
+
+-- a machine that no save takes: its next id is above 256
+abbrev pub unsavable : Machine → Machine
+unsavable machine = with-ids machine 257 (machine .count)
+
+-- the machine that is saved: one that no save takes, if the run was refused
+unfoldable pub saving : Outcome → Machine → Machine
+saving Done machine = machine
+saving Paused machine = machine
+saving (Refused refusal) machine = unsavable machine
+
+abbrev pub to-save : Report → Machine
+to-save report = saving (report .outcome) (report .machine)
+
+-- how a run ended: a refused creation, or what the run reports
+unfoldable pub run-head : ℕ → Outcome → Head
+run-head finished Done = head.Done finished
+run-head finished Paused = head.Paused finished
+run-head finished (Refused refusal) = head.Refused refusal
+
+unfoldable pub head-of : CreateResult → Report → Head
+head-of (Created machine) report = run-head (report .finished) (report .outcome)
+head-of (NotCreated refusal) report = head.Refused refusal
+
+-- the values of a run that is done
+unfoldable pub height-of : Head → ℕ → ℕ
+height-of (head.Done finished) height = height
+height-of (head.Paused finished) height = 0
+height-of (head.Refused refusal) height = 0
+height-of (head.Saved length) height = 0
+
+-- what came of it all
+unfoldable pub performed : CreateResult → Report → SaveReport → LineResult → Performed
+performed creation report saved lines = record {
+  head = head-of creation report;
+  finished = report .finished;
+  save = saved .result;
+  height = height-of (head-of creation report) (report .machine .height);
+  memory = report .machine .memory;
+  entries = report .machine .entries;
+  saved = saved .machine .saved;
+  lines = lines;
+}
+
+-- ---- one call after the other
+
+-- what came of it, and everything lent after it
+pub record PerformedIn : Type 0 where
+  pub answer : Performed
+  pub table : List Task
+  pub stack : List ℕ
+  pub memory : List ℕ
+  pub pool : List ℕ
+  pub ends : List ℕ
+  pub save : List ℕ
+  pub image : List ℕ
+  pub program : List ℕ
+  pub lines : List ℕ
+
+abbrev pub performed-in : Performed → List Task → List ℕ → List ℕ → List ℕ → List ℕ → List ℕ → List ℕ → List ℕ → List ℕ → PerformedIn
+performed-in answer table stack memory pool ends save image program lines =
+    record { answer = answer; table = table; stack = stack; memory = memory; pool = pool; ends = ends; save = save; image = image; program = program; lines = lines }
+
+-- the lines of the tasks come last
+unfoldable pub with-lines : CreateResult → Report → List ℕ → List ℕ → SavedTo → Lined → PerformedIn
+with-lines creation report image program s l =
+    performed-in (performed creation report (s .report) (l .answer)) (s .table) (s .stack) (s .memory) (s .pool) (s .ends) (s .save) image program (l .out)
+
+-- before them the save
+unfoldable pub with-save : CreateResult → Report → List ℕ → List ℕ → List ℕ → SavedTo → PerformedIn
+with-save creation report image program lines s = with-lines creation report image program s (task-lines (s .table) lines)
+
+-- before it the run
+unfoldable pub with-run : CreateResult → List ℕ → List ℕ → List ℕ → Reported → PerformedIn
+with-run creation image program lines r =
+    with-save creation (r .report) image program lines
+    (host-save (world (to-save (r .report)) (r .table) (r .stack) (r .memory) (r .pool) (r .ends) (r .save)))
+
+-- before it the creation
+unfoldable pub with-creation : ℕ → List ℕ → List ℕ → List ℕ → List ℕ → Made → PerformedIn
+with-creation fuel stack memory save lines m =
+    with-run (m .answer) (m .image) (m .program) lines
+    (start fuel (world (machine-of (m .answer)) (m .table) stack memory (m .pool) (m .ends) save))
+
+unfoldable pub perform : ℕ → List Task → List ℕ → List ℕ → List ℕ → List ℕ → List ℕ → List ℕ → List ℕ → List ℕ → PerformedIn
+perform fuel table stack memory pool ends save image program lines =
+    with-creation fuel stack memory save lines (create table pool ends image program)
+
+-- ---- over a table of its own
+
+-- what came of it, and everything lent but the table
+pub record Owned : Type 0 where
+  pub answer : Performed
+  pub stack : List ℕ
+  pub memory : List ℕ
+  pub pool : List ℕ
+  pub ends : List ℕ
+  pub save : List ℕ
+  pub image : List ℕ
+  pub program : List ℕ
+  pub lines : List ℕ
+
+abbrev pub owned : Performed → List ℕ → List ℕ → List ℕ → List ℕ → List ℕ → List ℕ → List ℕ → List ℕ → Owned
+owned answer stack memory pool ends save image program lines =
+    record { answer = answer; stack = stack; memory = memory; pool = pool; ends = ends; save = save; image = image; program = program; lines = lines }
+
+abbrev pub without-table : PerformedIn → Owned
+without-table p = owned (p .answer) (p .stack) (p .memory) (p .pool) (p .ends) (p .save) (p .image) (p .program) (p .lines)
+
+-- 256 slots, all blank
+unfoldable pub blank-table : List Task
+blank-table = replicate 256 blank
+
+unfoldable pub own : ℕ → List ℕ → List ℕ → List ℕ → List ℕ → List ℕ → List ℕ → List ℕ → List ℕ → Owned
+own fuel stack memory pool ends save image program lines =
+    without-table (perform fuel blank-table stack memory pool ends save image program lines)

@@ -1,0 +1,82 @@
+// What a creation, a run and a save come to, between the calls of the machine.
+ghost use mathlib.Core.Path.{_≡_};
+ghost use Rattle.host.specs.Hosting.{unsavable, to-save, head-of, height-of, performed};
+use crate::hosting::Performed;
+use listing::Head;
+use machine::CreateResult;
+use machine::Machine;
+use machine::Outcome;
+use machine::Report;
+use machine::SaveReport;
+use text::LineResult;
+
+// A machine that no save takes: its next id is above 256.
+fn unsavable(machine: Machine) -> Machine
+    ensures { λ r. ⌜ r ≡ unsavable machine ⌝ }
+{
+    let mut after = machine;
+    after.next_id = 257;
+    after
+}
+
+// The machine that is saved: one that no save takes, if the run was refused.
+pub(crate) fn to_save(report: Report) -> Machine
+    ensures { λ r. ⌜ r ≡ to-save report ⌝ }
+{
+    let outcome = report.outcome;
+    match outcome {
+        Outcome::Done => report.machine,
+        Outcome::Paused => report.machine,
+        Outcome::Refused(_) => unsavable(report.machine),
+    }
+}
+
+// How a run ended.
+fn head_of(creation: CreateResult, report: Report) -> Head
+    ensures { λ r. ⌜ r ≡ head-of creation report ⌝ }
+{
+    let outcome = report.outcome;
+    match creation {
+        CreateResult::NotCreated(refusal) => Head::Refused(refusal),
+        CreateResult::Created(_) => match outcome {
+            Outcome::Done => Head::Done(report.finished),
+            Outcome::Paused => Head::Paused(report.finished),
+            Outcome::Refused(refusal) => Head::Refused(refusal),
+        },
+    }
+}
+
+// How many values are listed: those of a run that is done.
+fn height_of(head: Head, height: usize) -> usize
+    ensures { λ r. ⌜ r ≡ height-of head height ⌝ }
+{
+    match head {
+        Head::Done(_) => height,
+        Head::Paused(_) => 0,
+        Head::Refused(_) => 0,
+        Head::Saved(_) => 0,
+    }
+}
+
+// What came of it all.
+pub(crate) fn performed(
+    creation: CreateResult,
+    report: Report,
+    saved: SaveReport,
+    lines: LineResult,
+) -> Performed
+    ensures { λ r. ⌜ r ≡ performed creation report saved lines ⌝ }
+{
+    let head = head_of(creation, report);
+    let save = saved.result;
+    Performed {
+        head,
+        finished: report.finished,
+        save,
+        height: height_of(head, report.machine.height),
+        memory: report.machine.memory,
+        entries: report.machine.entries,
+        saved: saved.machine.saved,
+        lines,
+    }
+}

@@ -1,1 +1,0 @@
-// Small inputs of the functions for a host, and what their definitions answer. No function.

@@ -1,3 +1,0 @@
-pub mod Values
-pub mod Behind
-pub mod Performing

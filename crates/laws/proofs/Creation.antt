@@ -1,0 +1,205 @@
+-- A machine that was created is sound beside any stack, memory and save buffer, and its living tasks are those of the image.
+use Prim.Native.Nat.{ℕ, zero, suc, _≤_, _<_}
+use mathlib.Core.Bool.{true}
+use mathlib.Core.List.{List, [], _∷_}
+use mathlib.Core.Path.{_≡_, refl, sym, ap, _∙_, subst}
+use native.Mathlib.Omega.{arith}
+use lib.ListN.{length, getD, replicate, length-replicate}
+use borrow.Author.Tests.{lt-ltb}
+use Rattle.errors.specs.declared.Refusal.{Refusal}
+use Rattle.pools.specs.Pool.{Pooled, start-of, never-fall, end-to-end}
+use Rattle.storage.specs.declared.Task.{Task}
+use Rattle.storage.specs.Table.{living-of, sound-table}
+use Rattle.storage.specs.Tasks.{blank}
+use Rattle.storage.proofs.Laws.{living-cleared}
+use Rattle.storage.proofs.Soundness.{Counts, counts-sound, sound-cleared}
+use Rattle.image.specs.Image.{Image, sound, task-count, read-image}
+use Rattle.image.specs.Table.{Loading, load-tasks, load-records, load-table}
+use Rattle.table_image.specs.Tables.{in-use, loading}
+use Rattle.table_image.specs.declared.InUse.{InUse}
+use Rattle.table_image.specs.Creation.{creation-tests}
+use Rattle.table_image.specs.declared.creation.CreationResult.{CreationResult}
+use Rattle.table_image.specs.declared.creation.CreationResult.the-variants.{Fit, Unfit}
+use Rattle.roundtrips.proofs.Created.{Fits, fits, count-told, records-told, load-none}
+use Rattle.roundtrips.proofs.Loads.{cleared, load-table-tasks}
+use Rattle.roundtrips.proofs.LoadSave as readings
+use Rattle.machine.specs.declared.Machine.{Machine}
+use Rattle.machine.specs.declared.Phase.the-variants.{New}
+use Rattle.machine.specs.Machines.{with-pool}
+use Rattle.machine.specs.World.{world}
+use Rattle.machine.specs.Sound.{sound-frames}
+use Rattle.machine.specs.Creation.{new-machine, unfit, with-program, interned-program, prepare-fit, prepare, Made, made, create-as, create}
+use Rattle.machine.specs.declared.CreateResult.{CreateResult}
+use Rattle.machine.specs.declared.CreateResult.the-variants.{Created, NotCreated}
+use Rattle.laws.specs.Sound.{Sound}
+use Rattle.laws.proofs.Parts.{Entries, Machined, Tabled}
+use Rattle.laws.proofs.Parts as parts
+use Rattle.laws.proofs.Pool.{Interns, interns, not-interns, intern-keeps}
+use Rattle.laws.proofs.Tables.{blank-title}
+use Rattle.laws.proofs.Loading.{Orderly, none, orderly, s-len-below, Loads, Loaded, load-all}
+
+-- ---- the image
+
+-- what a sound image holds
+record Images (image : Image) : Type 0 where
+  few : image .next-id ≤ 256
+  tasks : Orderly (image .next-id) 0 (image .tasks)
+
+none-image : (image : Image) → read-image [] ≡ sound image → record { next-id = 0; tasks = [] } ≡ image
+unfolding read-image
+none-image image e = cc
+
+images : (bytes : List ℕ) (image : Image) → read-image bytes ≡ sound image → Images image
+images [] image e = subst Images (none-image image e) (record { few = omega arith; tasks = none })
+images (byte ∷ bytes) image e =
+    let h = readings.loaded (byte ∷ bytes) image (omega arith) e in
+    record {
+      few = subst (λ (n : ℕ). n ≤ 256) (sym (h .next-id-is)) (h .head .few);
+      tasks = subst (λ (n : ℕ). Orderly n 0 (image .tasks)) (sym (h .next-id-is)) (orderly (length (byte ∷ bytes)) _ 0 14 _ (image .tasks) (h .read));
+    }
+
+-- loading it is loading its tasks
+none-loaded : (l : Loading) → load-tasks [] l ≡ l
+unfolding load-tasks
+none-loaded l = refl
+
+pub loads-tasks : (bytes : List ℕ) (image : Image) (l : Loading) → read-image bytes ≡ sound image → load-table bytes l ≡ load-tasks (image .tasks) (cleared l)
+loads-tasks [] image l e = load-none l ∙ sym (none-loaded (cleared l)) ∙ ap (λ (i : Image). load-tasks (i .tasks) (cleared l)) (none-image image e)
+loads-tasks (byte ∷ bytes) image l e = load-table-tasks (byte ∷ bytes) image l (omega arith) e
+
+cleared-blank : (n j : ℕ) → getD (replicate n blank) j blank ≡ blank
+cleared-blank zero j = refl
+cleared-blank (suc n) zero = refl
+cleared-blank (suc n) (suc j) = cleared-blank n j
+
+-- a table that was cleared, beside a sound pool
+begins : (slots count : ℕ) (pool ends : List ℕ) (used : InUse) → slots ≡ 256 → Entries (length pool) ends (used .bytes) (used .entries) → 0 < used .entries → Loads (loading (replicate slots blank) pool ends used) count
+begins slots count pool ends used all p some = record {
+  long = length-replicate slots blank ∙ all;
+  slots = sound-cleared slots 0 count;
+  titles = λ slot. subst (λ (t : Task). length (t .title) ≡ 128) (sym (cleared-blank slots slot)) blank-title;
+  pool = p;
+  some = some;
+}
+
+module _ (table : List Task) (lent size : ℕ) (bytes : List ℕ) (next-id count len : ℕ) (f : Fits (length table) lent size bytes next-id count len) (pool ends : List ℕ) (used : InUse)
+    (p : Entries (length pool) ends (used .bytes) (used .entries)) (some : 0 < used .entries) where
+  abbrev start : Loading
+  start = loading (replicate (length table) blank) pool ends used
+
+  abbrev all : Loading
+  all = load-records count bytes 14 start
+
+  -- the next id and the S_LEN count
+  numbers : (next-id ≤ 256) × (len ≤ next-id)
+  numbers =
+      let i = images bytes (f .image .image) (f .image .read) in
+      let s = s-len-below (i .tasks) in
+      (omega (arith, i .few, f .image .next-id-is), omega (arith, s, f .image .next-id-is, f .image .s-len-is))
+
+  loaded : Loaded start all len count
+  loaded =
+      let i = images bytes (f .image .image) (f .image .read) in
+      let d = load-all (i .tasks) start len (omega (arith, f .image .s-len-is)) (i .few) (begins (length table) len pool ends used (f .table) p some) (λ j h. cleared-blank (length table) j) in
+      let e = records-told f table pool ends used ∙ loads-tasks bytes (f .image .image) (loading table pool ends used) (f .image .read) in
+      subst (λ (n : ℕ). Loaded start all len n) (f .image .count-is) (subst (λ (l : Loading). Loaded start l len (length (f .image .image .tasks))) (sym e) d)
+
+  all-tabled : Tabled (all .table) next-id len
+  unfolding sound-table
+  all-tabled =
+      let n = numbers in
+      let c : Counts (length (all .table)) next-id len = record { slots-are = loaded .loads .long; next-most = n .0; count-most = omega (arith, n .0, n .1); count-below = n .1 } in
+      let s = loaded .loads .slots in
+      record { sound = simp (counts-sound c, s); titles = loaded .loads .titles }
+
+  all-living : living-of (all .table) ≡ task-count bytes
+  all-living = let n = living-cleared (length table) in let c = count-told bytes f in omega (arith, loaded .living, n, c)
+
+-- ---- the machine
+
+new-frames : (bytes next-id count entries : ℕ) → 0 < entries → sound-frames (new-machine bytes 1 next-id count .frames) entries ≡ true
+unfolding sound-frames
+new-frames bytes next-id count entries some = lt-ltb 0 entries some
+
+new-machined : (memory pool save : ℕ) (stack ends : List ℕ) (before bytes entries next-id count : ℕ) → length stack ≡ 1000 → Entries pool ends bytes entries → 0 < entries
+    → Machined memory pool save stack ends (with-pool (new-machine before 1 next-id count) bytes entries)
+new-machined memory pool save stack ends before bytes entries next-id count long p some = record {
+  values = record { high = omega arith; few = omega arith; there = omega arith; stack-long = long; inside = λ i less. absurd (omega arith) };
+  entries = p;
+  frames = new-frames before next-id count entries some;
+  kept = omega arith;
+}
+
+-- ---- creation
+
+-- sound beside any stack, memory and save buffer, with the image's tasks living, not yet run
+record Fresh (image : List ℕ) (machine : Machine) (table : List Task) (pool ends : List ℕ) : Type 0 where
+  is-sound : (stack memory save : List ℕ) → length stack ≡ 1000 → Sound (world machine table stack memory pool ends save)
+  living : living-of table ≡ task-count image
+  new : machine .phase ≡ New
+
+data Creates (image : List ℕ) : Made → Type 0 where
+  creates : (machine : Machine) (table : List Task) (pool ends i p : List ℕ) → Fresh image machine table pool ends → Creates image (made (Created machine) table pool ends i p)
+  not-creates : (refusal : Refusal) (table : List Task) (pool ends i p : List ℕ) → Creates image (made (NotCreated refusal) table pool ends i p)
+
+-- no entry yet
+none-joined : (ends : List ℕ) → end-to-end ends 0 0 ≡ true
+unfolding end-to-end never-fall start-of
+none-joined ends = refl
+
+module _ (table : List Task) (pool ends image program : List ℕ) (lent : length ends ≡ 1024) where
+  with-entry : (next-id count len : ℕ) (p : Pooled) → Fits (length table) (length pool) (length program) image next-id count len → Interns pool ends 0 p
+      → Creates image (create-as table (interned-program next-id count len image program p))
+  unfolding create-as with-program unfit
+  with-entry next-id count len _ f (interns used new-pool new-ends s grows) =
+      let some : 0 < 1 = omega arith in
+      let l : Loaded _ _ len count = loaded table (length pool) (length program) image next-id count len f new-pool new-ends (in-use used 1) s some in
+      creates _ _ _ _ image program (record {
+        is-sound = λ stack memory save stack-long. parts.sound _ (new-machined (length memory) _ (length save) stack _ used _ _ next-id len stack-long (l .loads .pool) (l .loads .some))
+            (all-tabled table (length pool) (length program) image next-id count len f new-pool new-ends (in-use used 1) s some);
+        living = all-living table (length pool) (length program) image next-id count len f new-pool new-ends (in-use used 1) s some;
+        new = refl;
+      })
+  with-entry next-id count len _ f (not-interns refusal) = not-creates refusal table pool ends image program
+
+  by-tests : (result : CreationResult) → creation-tests (length table) (length pool) (length program) image ≡ result → Creates image (create-as table (prepare-fit pool ends image program result))
+  unfolding create-as prepare-fit unfit
+  by-tests (Fit next-id count len) e =
+      with-entry next-id count len _ (fits (length table) (length pool) (length program) image next-id count len e) (intern-keeps pool ends 0 0 program lent (none-joined ends))
+  by-tests (Unfit refusal) e = not-creates refusal table pool ends image program
+
+  creating : Creates image (create table pool ends image program)
+  unfolding create prepare
+  creating = by-tests _ refl
+
+machine-of : Machine → CreateResult → Machine
+machine-of other (Created machine) = machine
+machine-of other (NotCreated refusal) = other
+
+is-created : CreateResult → ℕ
+is-created (Created machine) = 1
+is-created (NotCreated refusal) = 0
+
+fresh-by : (image : List ℕ) (machine : Machine) (m : Made) → Creates image m → m .answer ≡ Created machine → Fresh image machine (m .table) (m .pool) (m .ends)
+unfolding machine-of is-created
+fresh-by image machine _ (creates other table pool ends i p fresh) e = subst (λ (c : Machine). Fresh image c table pool ends) (ap (machine-of machine) e) fresh
+fresh-by image machine _ (not-creates refusal table pool ends i p) e = absurd (let z : _≡_ {A = ℕ} 0 1 = ap is-created e in omega arith)
+
+module _ (table : List Task) (pool ends image program : List ℕ) (machine : Machine) (lent : length ends ≡ 1024) (is : create table pool ends image program .answer ≡ Created machine) where
+  abbrev after : Made
+  after = create table pool ends image program
+
+  fresh : Fresh image machine (after .table) (after .pool) (after .ends)
+  fresh = fresh-by image machine after (creating table pool ends image program lent) is
+
+  -- a machine that was created is sound beside any stack of 1,000 words, any memory and any save buffer
+  pub create-sound : (stack memory save : List ℕ) → length stack ≡ 1000 → Sound (world machine (after .table) stack memory (after .pool) (after .ends) save)
+  create-sound = fresh .is-sound
+
+  -- its living tasks are as many as the image counts
+  pub create-living : living-of (after .table) ≡ task-count image
+  create-living = fresh .living
+
+  -- and it has not run
+  pub create-new : machine .phase ≡ New
+  create-new = fresh .new

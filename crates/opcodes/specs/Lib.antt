@@ -1,5 +1,0 @@
-pub mod Registers
-pub mod Stack
-pub mod Control
-pub mod Equality
-pub mod Store

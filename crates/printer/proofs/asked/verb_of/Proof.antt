@@ -1,0 +1,16 @@
+-- `printer::asked::verb_of` meets its contract.
+use borrow.Author.Tests.{eq-eqb, ne-eqb}
+use Rattle.printer.specs.Asked.{verb-of}
+use Rattle.printer.proofs.asked.verb_of.Statement.{statement}
+use Rattle.printer.proofs.asked.verb_of.Tie as tie
+
+returns : tie.Need-returns
+unfolding verb-of
+returns c = simp (eq-eqb _ _ (c .if1 .taken))
+
+returns-2 : tie.Need-returns-2
+unfolding verb-of
+returns-2 c = simp (ne-eqb _ _ (c .if1 .left))
+
+pub verb-of-spec : {M : Type 1} → statement M
+verb-of-spec = tie.close (tie.spec returns returns-2)

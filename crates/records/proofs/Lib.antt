@@ -1,2 +1,0 @@
-pub mod Puts
-pub mod Turns

@@ -1,6 +1,0 @@
-pub mod Either
-pub mod Stack
-pub mod Memory
-pub mod Instruction
-pub mod Tasks
-pub mod Acts

@@ -1,0 +1,156 @@
+-- What the calls of each carrier answer, put together: a change made, an instruction done, a turn, and the turn after it.
+use Prim.Native.Nat.{ℕ, _<_, _^_}
+use mathlib.Core.Path.{_≡_, sym, _∙_, ap, subst}
+use mathlib.Core.Bool.{true, false}
+use mathlib.Core.List.{List}
+use lib.Dec.{eqb}
+use lib.ListN.{getD, set, length}
+use Rattle.bytecode.specs.Opcodes.{CALL, END-CALL, S-SAVE}
+use Rattle.storage.specs.declared.Task.{Task}
+use Rattle.storage.specs.declared.StateResult.{StateResult}
+use Rattle.storage.specs.Tasks.{blank, After, after}
+use Rattle.storage.specs.Table.{set-state-at}
+use Rattle.image.specs.declared.SaveResult.{SaveResult}
+use Rattle.image.specs.Table.{SavedTable, saved-table, save-table}
+use Rattle.table_image.specs.Tables.{Held, held}
+use Rattle.machine.specs.Changes.{applied}
+use Rattle.machine.specs.declared.Change.{Change}
+use Rattle.machine.specs.declared.Machine.{Machine}
+use Rattle.machine.specs.Act.{OnAll, on-all, act}
+use Rattle.machine.specs.Advance.{GoneOn, gone-on, advance}
+use Rattle.machine.specs.Turns.{begun, turned, saved, ran}
+use Rattle.machine.specs.declared.Acted.{Acted}
+use Rattle.machine.specs.declared.Gone.{Gone}
+use Rattle.machine.specs.declared.Ran.{Ran}
+use Rattle.machine.specs.World.{world}
+use Rattle.machine.specs.Run.{End, ran-to, run}
+use Rattle.machine.specs.declared.Stated.{Stated}
+use Rattle.runner.specs.States.{stated, restated}
+use Rattle.runner.specs.Going.{Going, going, Acting, acting, after-act, task-turn, slot-at, Entering, entering, call-turn, from-entering, returned, state-turn, act-turn, Saving, saving, after-save, save-turn, from-acting, from-saving, turn, beside, begins, goes-on}
+use Rattle.runner.proofs.Leaving.{at-end-call, at-call, at-other}
+use Rattle.runner.proofs.Runs.{comes-to, turns-left, went-on, fewer, ended}
+
+-- ---- a change
+
+module _ (table : List Task) (slot : ℕ) (change : Change) where
+  -- the whole record
+  pub puts-task : {after : List Task} → change .puts ≡ true → after ≡ set table slot (change .task) → after ≡ applied table slot change
+  unfolding applied
+  puts-task puts e = e ∙ sym (simp (puts))
+
+  -- its state byte
+  pub puts-state : {answer : StateResult} {table′ : List Task} → change .puts ≡ false → change .states ≡ true → after answer table′ ≡ set-state-at table slot (change .state) → table′ ≡ applied table slot change
+  unfolding applied
+  puts-state puts states e = ap (λ (a : After StateResult (List Task)). a .lent) e ∙ sym (simp (puts, states))
+
+  -- nothing
+  pub puts-none : change .puts ≡ false → change .states ≡ false → table ≡ applied table slot change
+  unfolding applied
+  puts-none puts states = sym (simp (puts, states))
+
+-- ---- an instruction on the record of the slot it names
+
+-- the slot named, its record read, the instruction done, its change made
+pub task-turns : (table : List Task) (stack memory pool ends : List ℕ) (gone : Gone) {slot : ℕ} {stack′ : List ℕ} {task : Task} {table′ table″ : List Task} {acted : Acted} {stack″ memory′ pool′ ends′ : List ℕ} {r : Gone}
+    → after slot stack′ ≡ after (slot-at stack gone) stack → after task table′ ≡ after (getD table slot blank) table → on-all acted stack″ memory′ pool′ ends′ ≡ act stack′ memory pool ends (gone .machine) task
+    → table″ ≡ applied table′ slot (acted .change) → r ≡ turned (gone .machine) (gone .left) (acted .went)
+    → acting r table″ stack″ memory′ pool′ ends′ ≡ task-turn table stack memory pool ends gone
+unfolding task-turn
+task-turns table stack memory pool ends gone {slot} {stack′} {task} {table′} {table″} {acted} {stack″} {memory′} {pool′} {ends′} names read did made went =
+    (λ j. acting (went j) (made j) stack″ memory′ pool′ ends′) ∙ ap (after-act gone slot table′) did
+    ∙ ap (λ (a : After Task (List Task)). after-act gone slot (a .lent) (act stack′ memory pool ends (gone .machine) (a .answer))) read
+    ∙ ap (λ (a : After ℕ (List ℕ)). after-act gone (a .answer) table (act (a .lent) memory pool ends (gone .machine) (getD table (a .answer) blank))) names
+
+-- ---- an instruction by its opcode
+
+module _ (table : List Task) (stack memory pool ends : List ℕ) (gone : Gone) where
+  -- END_CALL
+  pub acts-returning : {r : Gone} → eqb (gone .op) END-CALL ≡ true → r ≡ returned gone → acting r table stack memory pool ends ≡ act-turn table stack memory pool ends gone
+  acts-returning is went = ap (λ (g : Gone). acting g table stack memory pool ends) went ∙ sym (at-end-call table stack memory pool ends gone is)
+
+  -- CALL
+  pub acts-calling : {r : Gone} {table′ : List Task} {stack′ ends′ : List ℕ} → eqb (gone .op) END-CALL ≡ false → eqb (gone .op) CALL ≡ true → entering r table′ stack′ ends′ ≡ call-turn table stack ends gone
+      → acting r table′ stack′ memory pool ends′ ≡ act-turn table stack memory pool ends gone
+  acts-calling not is made = ap (λ (e : Entering). from-entering e memory pool) made ∙ sym (at-call table stack memory pool ends gone not is)
+
+  -- any other: its slot named, its task read, and what it does to a state
+  module _ (not-end : eqb (gone .op) END-CALL ≡ false) (not-call : eqb (gone .op) CALL ≡ false) {slot : ℕ} {stack′ stack″ : List ℕ} {task : Task} {table′ : List Task} {s : Stated}
+      (names : after slot stack′ ≡ after (slot-at stack gone) stack) (read : after task table′ ≡ after (getD table slot blank) table) (did : after s stack″ ≡ stated stack′ (gone .machine) (gone .op) task) where
+    told : state-turn table′ memory pool ends gone slot (after s stack″) ≡ act-turn table stack memory pool ends gone
+    told =
+        ap (state-turn table′ memory pool ends gone slot) did
+        ∙ ap (λ (a : After Task (List Task)). state-turn (a .lent) memory pool ends gone slot (stated stack′ (gone .machine) (gone .op) (a .answer))) read
+        ∙ ap (λ (a : After ℕ (List ℕ)). state-turn table memory pool ends gone (a .answer) (stated (a .lent) (gone .machine) (gone .op) (getD table (a .answer) blank))) names
+        ∙ sym (at-other table stack memory pool ends gone not-end not-call)
+
+    -- with the whole record
+    pub acts-whole : {after-it : Acting} → s .whole ≡ true → after-it ≡ task-turn table′ stack″ memory pool ends gone → after-it ≡ act-turn table stack memory pool ends gone
+    unfolding state-turn
+    acts-whole all made =
+        let with-it : state-turn table′ memory pool ends gone slot (after s stack″) ≡ task-turn table′ stack″ memory pool ends gone = simp (all) in
+        made ∙ sym with-it ∙ told
+
+    -- without it
+    pub acts-stating : {r : Gone} {table″ : List Task} → s .whole ≡ false → table″ ≡ restated table′ slot s → r ≡ turned (gone .machine) (gone .left) (s .went)
+        → acting r table″ stack″ memory pool ends ≡ act-turn table stack memory pool ends gone
+    unfolding state-turn
+    acts-stating small made went =
+        let without : state-turn table′ memory pool ends gone slot (after s stack″) ≡ acting (turned (gone .machine) (gone .left) (s .went)) (restated table′ slot s) stack″ memory pool ends = simp (small) in
+        (λ j. acting (went j) (made j) stack″ memory pool ends) ∙ sym without ∙ told
+
+-- ---- S_SAVE
+
+-- the table saved, its length kept
+pub save-turns : (table : List Task) (pool ends save : List ℕ) (gone : Gone) {result : SaveResult} {table′ : List Task} {pool′ ends′ save′ : List ℕ} {r : Gone}
+    → held (saved-table result save′) table′ pool′ ends′ ≡ held (save-table (gone .machine .«next_id») table pool ends (gone .machine .entries) save) table pool ends
+    → r ≡ saved (gone .machine) (gone .left) result → saving r table′ pool′ ends′ save′ ≡ save-turn table pool ends save gone
+unfolding save-turn
+save-turns table pool ends save gone {result} {table′} {pool′} {ends′} {save′} done went =
+    (λ j. saving (went j) table′ pool′ ends′ save′) ∙ ap (λ (h : Held SavedTable). after-save gone (h .table) (h .pool) (h .ends) (h .answer)) done
+
+-- ---- a turn
+
+module _ (table : List Task) (stack memory pool ends save : List ℕ) (gone : Gone) where
+  -- one that saves
+  pub turns-saving : {r : Gone} {table′ : List Task} {pool′ ends′ save′ : List ℕ} → eqb (gone .op) S-SAVE ≡ true → saving r table′ pool′ ends′ save′ ≡ save-turn table pool ends save gone
+      → going r table′ stack memory pool′ ends′ save′ ≡ turn (going gone table stack memory pool ends save)
+  unfolding turn
+  turns-saving saves e = ap (λ (s : Saving). from-saving s stack memory) e ∙ sym (simp (saves))
+
+  -- one that names a slot
+  pub turns-acting : {r : Gone} {table′ : List Task} {stack′ memory′ pool′ ends′ : List ℕ} → eqb (gone .op) S-SAVE ≡ false → gone .running ≡ true → acting r table′ stack′ memory′ pool′ ends′ ≡ act-turn table stack memory pool ends gone
+      → going r table′ stack′ memory′ pool′ ends′ save ≡ turn (going gone table stack memory pool ends save)
+  unfolding turn
+  turns-acting saves running e = ap (λ (a : Acting). from-acting a save) e ∙ sym (simp (saves, running))
+
+  -- at its outcome
+  pub turns-none : eqb (gone .op) S-SAVE ≡ false → gone .running ≡ false → going gone table stack memory pool ends save ≡ turn (going gone table stack memory pool ends save)
+  unfolding turn
+  turns-none saves running = sym (simp (saves, running))
+
+-- ---- the run
+
+-- it begins
+pub begins-same : (machine : Machine) (fuel : ℕ) (table : List Task) (stack memory pool ends save : List ℕ) {r : Gone} → r ≡ begun machine fuel
+    → comes-to (going r table stack memory pool ends save) ≡ run fuel (world machine table stack memory pool ends save)
+unfolding comes-to
+begins-same machine fuel table stack memory pool ends save e = ap (λ (g : Gone). comes-to (going g table stack memory pool ends save)) e
+
+-- the current code, and the instruction that it comes to
+pub goes-at : (g : Going) {r r′ : Gone} {table′ : List Task} {stack memory pool ends stack′ memory′ pool′ ends′ save′ : List ℕ}
+    → gone-on r stack memory pool ends ≡ advance (g .stack) (g .memory) (g .pool) (g .ends) (g .gone .machine) (g .gone .left)
+    → going r′ table′ stack′ memory′ pool′ ends′ save′ ≡ turn (going r (g .table) stack memory pool ends (g .save)) → going r′ table′ stack′ memory′ pool′ ends′ save′ ≡ goes-on g
+unfolding goes-on begins
+goes-at g e f = f ∙ ap (λ (a : GoneOn). turn (beside a (g .table) (g .save))) e
+
+-- it comes to the same end
+pub goes-same : (g : Going) {now : Going} {end : End} → length (g .pool) < 2 ^ 64 → now ≡ goes-on g → g .gone .running ≡ true → comes-to g ≡ end → comes-to now ≡ end
+goes-same g fits e running so-far = ap comes-to e ∙ went-on g fits running ∙ so-far
+
+-- with fewer turns to come
+pub goes-fewer : (g : Going) {now : Going} → length (g .pool) < 2 ^ 64 → now ≡ goes-on g → g .gone .running ≡ true → turns-left now < turns-left g
+goes-fewer g fits e running = subst (λ (h : Going). turns-left h < turns-left g) (sym e) (fewer g fits running)
+
+-- at its outcome
+pub ends-run : (g : Going) {r : Ran} {end : End} → g .gone .running ≡ false → r ≡ ran (g .gone) → comes-to g ≡ end → ran-to r (g .table) (g .stack) (g .memory) (g .pool) (g .ends) (g .save) ≡ end
+ends-run g running e so-far = ap (λ (a : Ran). ran-to a (g .table) (g .stack) (g .memory) (g .pool) (g .ends) (g .save)) e ∙ sym (ended g running) ∙ so-far

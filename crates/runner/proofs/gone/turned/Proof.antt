@@ -1,0 +1,31 @@
+-- `runner::gone::turned` meets its contract.
+use Rattle.machine.specs.Turns.{turned}
+use borrow.Author.Needs.{needs}
+use Rattle.runner.proofs.gone.turned.Statement.{statement}
+use Rattle.runner.proofs.gone.turned.Tie as tie
+use Rattle.runner.proofs.gone.turned.Reads as reads
+use Rattle.runner.proofs.gone.turned.Lts as lts
+use Rattle.runner.proofs.gone.spent.Reads as spent-reads
+
+enum-known-went : tie.Need-enum-known-went
+enum-known-went c = search needs
+
+spent-requires : tie.Need-spent-requires
+spent-requires c κs = search needs
+
+enum-known-went-2 : tie.Need-enum-known-went-2
+enum-known-went-2 c = search needs
+
+returns : tie.Need-returns
+unfolding turned
+returns c =
+    simp (← c .spent .ensures, c .before .before .went .given .1)
+
+returns-2 : tie.Need-returns-2
+unfolding turned
+returns-2 c =
+    simp (c .before .went2 .given .1)
+
+pub turned-spec : {M : Type 1} → statement M
+turned-spec =
+    tie.close (tie.spec enum-known-went spent-requires enum-known-went-2 returns returns-2)

@@ -1,0 +1,150 @@
+-- A machine on its way, and everything lent to it.
+use Prim.Native.Nat.{ℕ}
+use mathlib.Core.Bool.{cond}
+use mathlib.Core.List.{List}
+use lib.Dec.{eqb}
+use lib.ListN.{getD}
+use Rattle.bytecode.specs.Opcodes.{CALL, END-CALL, S-SAVE}
+use Rattle.storage.specs.declared.Task.{Task}
+use Rattle.storage.specs.Tasks.{After, blank}
+use Rattle.machine.specs.Changes.{applied}
+use Rattle.image.specs.Table.{SavedTable, save-table}
+use Rattle.machine.specs.Frames.{op-call, op-end-call}
+use Rattle.machine.specs.Act.{OnAll, act}
+use Rattle.machine.specs.Advance.{GoneOn, named, wanted, advance}
+use Rattle.machine.specs.Turns.{turned, saved}
+use Rattle.machine.specs.declared.Gone.{Gone}
+use Rattle.machine.specs.declared.Stated.{Stated}
+use Rattle.machine.specs.World.{World, world}
+use Rattle.runner.specs.Behind.{next-of}
+use Rattle.runner.specs.States.{stated, restated}
+
+-- the machine, then what is lent, in the order of each call
+pub record Going : Type 0 where
+  pub gone : Gone
+  pub table : List Task
+  pub stack : List ℕ
+  pub memory : List ℕ
+  pub pool : List ℕ
+  pub ends : List ℕ
+  pub save : List ℕ
+
+-- these seven together
+abbrev pub going : Gone → List Task → List ℕ → List ℕ → List ℕ → List ℕ → List ℕ → Going
+going gone table stack memory pool ends save =
+    record { gone = gone; table = table; stack = stack; memory = memory; pool = pool; ends = ends; save = save }
+
+-- ---- an instruction on the record of the slot it names
+
+-- without the save buffer
+pub record Acting : Type 0 where
+  pub gone : Gone
+  pub table : List Task
+  pub stack : List ℕ
+  pub memory : List ℕ
+  pub pool : List ℕ
+  pub ends : List ℕ
+
+abbrev pub acting : Gone → List Task → List ℕ → List ℕ → List ℕ → List ℕ → Acting
+acting gone table stack memory pool ends = record { gone = gone; table = table; stack = stack; memory = memory; pool = pool; ends = ends }
+
+abbrev pub after-act : Gone → ℕ → List Task → OnAll → Acting
+after-act gone slot table after =
+    acting (turned (gone .machine) (gone .left) (after .acted .went)) (applied table slot (after .acted .change)) (after .stack) (after .memory) (after .pool) (after .ends)
+
+-- the slot that the instruction at hand names
+abbrev pub slot-at : List ℕ → Gone → ℕ
+slot-at stack gone = wanted stack (gone .machine) (gone .op)
+
+unfoldable pub task-turn : List Task → List ℕ → List ℕ → List ℕ → List ℕ → Gone → Acting
+task-turn table stack memory pool ends gone =
+    after-act gone (slot-at stack gone) table (act stack memory pool ends (gone .machine) (getD table (slot-at stack gone) blank))
+
+-- ---- CALL and END_CALL, which change no slot
+
+-- after END_CALL
+unfoldable pub returned : Gone → Gone
+returned gone = turned (gone .machine) (gone .left) (op-end-call (gone .machine) (next-of (gone .machine)))
+
+-- after CALL of a task
+unfoldable pub called : List ℕ → List ℕ → Gone → Task → Gone
+called stack ends gone task = turned (gone .machine) (gone .left) (op-call stack ends (gone .machine) (next-of (gone .machine)) task)
+
+-- the slot that it names
+abbrev pub slot-of-call : List ℕ → Gone → ℕ
+slot-of-call stack gone = named stack (gone .machine .height)
+
+-- without memory, the pool and the save buffer
+pub record Entering : Type 0 where
+  pub gone : Gone
+  pub table : List Task
+  pub stack : List ℕ
+  pub ends : List ℕ
+
+abbrev pub entering : Gone → List Task → List ℕ → List ℕ → Entering
+entering gone table stack ends = record { gone = gone; table = table; stack = stack; ends = ends }
+
+unfoldable pub call-turn : List Task → List ℕ → List ℕ → Gone → Entering
+call-turn table stack ends gone = entering (called stack ends gone (getD table (slot-of-call stack gone) blank)) table stack ends
+
+abbrev pub from-entering : Entering → List ℕ → List ℕ → Acting
+from-entering e memory pool = acting (e .gone) (e .table) (e .stack) memory pool (e .ends)
+
+-- ---- an instruction by its opcode
+
+-- on a state without the rest of a record, or on the whole one
+unfoldable pub state-turn : List Task → List ℕ → List ℕ → List ℕ → Gone → ℕ → After Stated (List ℕ) → Acting
+state-turn table memory pool ends gone slot a =
+    cond (a .answer .whole) (task-turn table (a .lent) memory pool ends gone)
+    (acting (turned (gone .machine) (gone .left) (a .answer .went)) (restated table slot (a .answer)) (a .lent) memory pool ends)
+
+unfoldable pub act-turn : List Task → List ℕ → List ℕ → List ℕ → List ℕ → Gone → Acting
+act-turn table stack memory pool ends gone =
+    cond (eqb (gone .op) END-CALL) (acting (returned gone) table stack memory pool ends)
+    (cond (eqb (gone .op) CALL) (from-entering (call-turn table stack ends gone) memory pool)
+    (state-turn table memory pool ends gone (slot-at stack gone) (stated stack (gone .machine) (gone .op) (getD table (slot-at stack gone) blank))))
+
+-- ---- S_SAVE
+
+-- without the stack and memory
+pub record Saving : Type 0 where
+  pub gone : Gone
+  pub table : List Task
+  pub pool : List ℕ
+  pub ends : List ℕ
+  pub save : List ℕ
+
+abbrev pub saving : Gone → List Task → List ℕ → List ℕ → List ℕ → Saving
+saving gone table pool ends save = record { gone = gone; table = table; pool = pool; ends = ends; save = save }
+
+abbrev pub after-save : Gone → List Task → List ℕ → List ℕ → SavedTable → Saving
+after-save gone table pool ends after = saving (saved (gone .machine) (gone .left) (after .answer)) table pool ends (after .save)
+
+unfoldable pub save-turn : List Task → List ℕ → List ℕ → List ℕ → Gone → Saving
+save-turn table pool ends save gone =
+    after-save gone table pool ends (save-table (gone .machine .«next_id») table pool ends (gone .machine .entries) save)
+
+-- ---- a turn
+
+abbrev pub from-acting : Acting → List ℕ → Going
+from-acting a save = going (a .gone) (a .table) (a .stack) (a .memory) (a .pool) (a .ends) save
+
+abbrev pub from-saving : Saving → List ℕ → List ℕ → Going
+from-saving s stack memory = going (s .gone) (s .table) stack memory (s .pool) (s .ends) (s .save)
+
+-- the instruction at hand; a machine at its outcome stays as it is
+unfoldable pub turn : Going → Going
+turn g =
+    cond (eqb (g .gone .op) S-SAVE) (from-saving (save-turn (g .table) (g .pool) (g .ends) (g .save) (g .gone)) (g .stack) (g .memory))
+    (cond (g .gone .running) (from-acting (act-turn (g .table) (g .stack) (g .memory) (g .pool) (g .ends) (g .gone)) (g .save)) g)
+
+-- the run of the current code, with the table and the save buffer beside it
+abbrev pub beside : GoneOn → List Task → List ℕ → Going
+beside a table save = going (a .gone) table (a .stack) (a .memory) (a .pool) (a .ends) save
+
+unfoldable pub begins : ℕ → World → Going
+begins fuel w = beside (advance (w .stack) (w .memory) (w .pool) (w .ends) (w .machine) fuel) (w .table) (w .save)
+
+-- that run, and the instruction that it comes to
+unfoldable pub goes-on : Going → Going
+goes-on g = turn (begins (g .gone .left) (world (g .gone .machine) (g .table) (g .stack) (g .memory) (g .pool) (g .ends) (g .save)))

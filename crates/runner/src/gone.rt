@@ -1,0 +1,120 @@
+// What an instruction that needs a task, a frame or the pool makes of a machine on its way: one unit of fuel less, or a refusal.
+ghost use mathlib.Core.Path.{_≡_};
+ghost use Rattle.storage.specs.Tasks.{after};
+ghost use Rattle.machine.specs.Turns.{begun, spent, turned, saved, ran};
+ghost use Rattle.runner.specs.Behind.{next-of};
+ghost use Rattle.runner.specs.Going.{returned, called};
+use image::SaveResult;
+use machine::Gone;
+use machine::Machine;
+use machine::Outcome;
+use machine::Ran;
+use machine::Went;
+use machine::machines::current;
+use machine::machines::registers_of;
+use machine::machines::settled;
+use machine::stack::moved;
+use storage::Task;
+
+// A run at its beginning.
+pub(crate) fn begun(machine: Machine, fuel: u64) -> Gone
+    ensures { λ r. ⌜ r ≡ begun machine fuel ⌝ }
+{
+    Gone {
+        machine,
+        left: fuel,
+        running: true,
+        op: 0,
+        outcome: Outcome::Paused,
+    }
+}
+
+// The fuel after one instruction.
+fn spent(left: u64) -> u64
+    ensures { λ r. ⌜ r ≡ spent left ⌝ }
+{
+    if left == 0 {
+        return 0;
+    }
+    left - 1
+}
+
+// After an instruction: on its way again, or refused, the machine as before it.
+pub(crate) fn turned(machine: Machine, left: u64, went: Went) -> Gone
+    ensures { λ r. ⌜ r ≡ turned machine left went ⌝ }
+{
+    match went {
+        Went::Onto(after) => Gone {
+            machine: after,
+            left: spent(left),
+            running: true,
+            op: 0,
+            outcome: Outcome::Paused,
+        },
+        Went::Refused(refusal) => Gone {
+            machine,
+            left,
+            running: false,
+            op: 0,
+            outcome: Outcome::Refused(refusal),
+        },
+    }
+}
+
+// The place behind an instruction without operands.
+pub(crate) fn next_of(machine: Machine) -> usize
+    ensures { λ r. ⌜ r ≡ next-of machine ⌝ }
+{
+    let frame = current(machine.frames);
+    std::num::wrapping_add_usize(frame.place, 1)
+}
+
+// After END_CALL, which needs no slot.
+pub(crate) fn returned(gone: Gone) -> Gone
+    ensures { λ r. ⌜ r ≡ returned gone ⌝ }
+{
+    let went = stepper::entering::op_end_call(gone.machine, next_of(gone.machine));
+    turned(gone.machine, gone.left, went)
+}
+
+// After CALL, which changes no slot.
+pub(crate) fn called(
+    stack: &mut [u64; 1000],
+    ends: &mut [u32; 1024],
+    gone: Gone,
+    task: Task,
+) -> Gone
+    ensures { λ r. ⌜ after (after r (now (stack .exit))) (now (ends .exit)) ≡ after (after (called (now (stack .entry)) (now (ends .entry)) gone task) (now (stack .entry))) (now (ends .entry)) ⌝ }
+{
+    let went = stepper::entering::op_call(stack, ends, gone.machine, next_of(gone.machine), task);
+    turned(gone.machine, gone.left, went)
+}
+
+// After S_SAVE: the length of the image is kept.
+pub(crate) fn saved(machine: Machine, left: u64, result: SaveResult) -> Gone
+    ensures { λ r. ⌜ r ≡ saved machine left result ⌝ }
+{
+    match result {
+        SaveResult::NotSaved(refusal) => turned(machine, left, Went::Refused(refusal)),
+        SaveResult::Saved(length) => {
+            let registers = registers_of(machine);
+            let next = std::num::wrapping_add_usize(registers.place, 1);
+            let mut after = settled(machine, moved(registers, next, machine.height));
+            after.saved = length;
+            turned(machine, left, Went::Onto(after))
+        }
+    }
+}
+
+// The end of a run.
+pub(crate) fn ran(gone: Gone) -> Ran
+    ensures { λ r. ⌜ r ≡ ran gone ⌝ }
+{
+    let machine = gone.machine;
+    let outcome = gone.outcome;
+    Ran {
+        machine,
+        left: gone.left,
+        outcome,
+    }
+}

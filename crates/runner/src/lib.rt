@@ -1,0 +1,172 @@
+// The run of a machine over everything lent to it: the functions that carry the lent table of tasks from instruction to instruction.
+pub mod act;
+mod gone;
+mod states;
+mod wanted;
+
+ghost use mathlib.Core.Path.{_≡_};
+ghost use Rattle.machine.specs.Changes.{applied};
+ghost use Rattle.machine.specs.World.{world};
+ghost use Rattle.runner.specs.Going.{going, acting, task-turn, act-turn, entering, call-turn, saving, save-turn, turn};
+ghost use Rattle.machine.specs.Run.{ran-to, run};
+ghost use Rattle.runner.specs.States.{restated};
+use crate::act::act;
+use bytecode::opcodes::CALL;
+use bytecode::opcodes::END_CALL;
+use bytecode::opcodes::S_SAVE;
+use machine::Change;
+use machine::Gone;
+use machine::Machine;
+use machine::Ran;
+use machine::Stated;
+use machine::Went;
+use stepper::advance::advance;
+use storage::Task;
+
+// What an instruction changes in the slot that it names.
+fn apply(table: &mut [Task], slot: usize, change: Change)
+    ensures { λ _. ⌜ now (table .exit) ≡ applied (now (table .entry)) slot change ⌝ }
+{
+    if change.puts {
+        table::put(table, slot, change.task);
+        return;
+    }
+    if change.states {
+        let answer = table::set_state_at(table, slot, change.state);
+        return;
+    }
+}
+
+// The instruction at hand, on the record of the slot it names.
+fn task_turn(
+    table: &mut [Task],
+    stack: &mut [u64; 1000],
+    memory: &mut [u8],
+    pool: &mut [u8],
+    ends: &mut [u32; 1024],
+    gone: Gone,
+) -> Gone
+    ensures { λ r. ⌜ acting r (now (table .exit)) (now (stack .exit)) (now (memory .exit)) (now (pool .exit)) (now (ends .exit)) ≡ task-turn (now (table .entry)) (now (stack .entry)) (now (memory .entry)) (now (pool .entry)) (now (ends .entry)) gone ⌝ }
+{
+    let slot = crate::wanted::slot_of(stack, gone);
+    let task = table::get(table, slot);
+    let acted = act(stack, memory, pool, ends, gone.machine, task);
+    apply(table, slot, acted.change);
+    crate::gone::turned(gone.machine, gone.left, acted.went)
+}
+
+// The state that an instruction sets in the slot that it names.
+fn restate(table: &mut [Task], slot: usize, stated: Stated)
+    ensures { λ _. ⌜ now (table .exit) ≡ restated (now (table .entry)) slot stated ⌝ }
+{
+    if stated.states {
+        let answer = table::set_state_at(table, slot, stated.state);
+        return;
+    }
+}
+
+// CALL, at hand.
+fn call_turn(
+    table: &mut [Task],
+    stack: &mut [u64; 1000],
+    ends: &mut [u32; 1024],
+    gone: Gone,
+) -> Gone
+    ensures { λ r. ⌜ entering r (now (table .exit)) (now (stack .exit)) (now (ends .exit)) ≡ call-turn (now (table .entry)) (now (stack .entry)) (now (ends .entry)) gone ⌝ }
+{
+    let slot = crate::wanted::slot_of_call(stack, gone);
+    let task = table::get(table, slot);
+    crate::gone::called(stack, ends, gone, task)
+}
+
+// The instruction at hand. CALL, END_CALL and those on a state have their own way: where all came together, each carried the whole record of a slot.
+fn act_turn(
+    table: &mut [Task],
+    stack: &mut [u64; 1000],
+    memory: &mut [u8],
+    pool: &mut [u8],
+    ends: &mut [u32; 1024],
+    gone: Gone,
+) -> Gone
+    ensures { λ r. ⌜ acting r (now (table .exit)) (now (stack .exit)) (now (memory .exit)) (now (pool .exit)) (now (ends .exit)) ≡ act-turn (now (table .entry)) (now (stack .entry)) (now (memory .entry)) (now (pool .entry)) (now (ends .entry)) gone ⌝ }
+{
+    let op = gone.op;
+    if op == END_CALL {
+        return crate::gone::returned(gone);
+    }
+    if op == CALL {
+        return call_turn(table, stack, ends, gone);
+    }
+    let slot = crate::wanted::slot_of(stack, gone);
+    let task = table::get(table, slot);
+    let stated = crate::states::stated(stack, gone.machine, op, task);
+    if stated.whole {
+        return task_turn(table, stack, memory, pool, ends, gone);
+    }
+    restate(table, slot, stated);
+    crate::gone::turned(gone.machine, gone.left, stated.went)
+}
+
+// S_SAVE, at hand.
+fn save_turn(
+    table: &mut [Task],
+    pool: &mut [u8],
+    ends: &mut [u32; 1024],
+    save: &mut [u8],
+    gone: Gone,
+) -> Gone
+    ensures { λ r. ⌜ saving r (now (table .exit)) (now (pool .exit)) (now (ends .exit)) (now (save .exit)) ≡ save-turn (now (table .entry)) (now (pool .entry)) (now (ends .entry)) (now (save .entry)) gone ⌝ }
+{
+    let result = table_image::save_table(
+        table,
+        pool,
+        ends,
+        save,
+        gone.machine.entries,
+        gone.machine.next_id,
+    );
+    crate::gone::saved(gone.machine, gone.left, result)
+}
+
+// The instruction at hand; a machine that is at its outcome stays as it is.
+fn turn(
+    table: &mut [Task],
+    stack: &mut [u64; 1000],
+    memory: &mut [u8],
+    pool: &mut [u8],
+    ends: &mut [u32; 1024],
+    save: &mut [u8],
+    gone: Gone,
+) -> Gone
+    ensures { λ r. ⌜ going r (now (table .exit)) (now (stack .exit)) (now (memory .exit)) (now (pool .exit)) (now (ends .exit)) (now (save .exit)) ≡ turn (going gone (now (table .entry)) (now (stack .entry)) (now (memory .entry)) (now (pool .entry)) (now (ends .entry)) (now (save .entry))) ⌝ }
+{
+    if gone.op == S_SAVE {
+        return save_turn(table, pool, ends, save, gone);
+    }
+    if gone.running {
+        return act_turn(table, stack, memory, pool, ends, gone);
+    }
+    gone
+}
+
+// The run: at most so many instructions.
+pub fn drive(
+    table: &mut [Task],
+    stack: &mut [u64; 1000],
+    memory: &mut [u8],
+    pool: &mut [u8],
+    ends: &mut [u32; 1024],
+    save: &mut [u8],
+    machine: Machine,
+    fuel: u64,
+) -> Ran
+    ensures { λ r. ⌜ ran-to r (now (table .exit)) (now (stack .exit)) (now (memory .exit)) (now (pool .exit)) (now (ends .exit)) (now (save .exit)) ≡ run fuel (world machine (now (table .entry)) (now (stack .entry)) (now (memory .entry)) (now (pool .entry)) (now (ends .entry)) (now (save .entry))) ⌝ }
+{
+    let mut gone = crate::gone::begun(machine, fuel);
+    while gone.running {
+        gone = advance(stack, memory, pool, ends, gone.machine, gone.left);
+        let next = turn(table, stack, memory, pool, ends, save, gone);
+        gone = next;
+    }
+    crate::gone::ran(gone)
+}

@@ -1,0 +1,54 @@
+// The slot of the table that an instruction names.
+ghost use mathlib.Core.Path.{_≡_};
+ghost use Rattle.storage.specs.Tasks.{after};
+ghost use Rattle.machine.specs.Advance.{named, wanted};
+use bytecode::opcodes::T_CREATE;
+use bytecode::opcodes::T_GET_FIELD;
+use bytecode::opcodes::T_SET_FIELD;
+use inlinevec::PopResult;
+use machine::Gone;
+use machine::Machine;
+
+// The slot that a value names, with so many values on the stack below it; past the last slot where there is none.
+fn named(stack: &[u64; 1000], height: usize) -> usize
+    ensures { λ r. ⌜ r ≡ named (now (stack .entry)) height ⌝ }
+{
+    match inlinevec::pop(stack, height) {
+        PopResult::NotPopped(_) => 256,
+        PopResult::Popped { value, height: _ } => values::to_u32(value) as usize,
+    }
+}
+
+// The slot that an instruction names: the next one, that of the value below the field, that of the value on top.
+fn wanted(stack: &[u64; 1000], machine: Machine, op: u8) -> usize
+    ensures { λ r. ⌜ r ≡ wanted (now (stack .entry)) machine op ⌝ }
+{
+    let height = machine.height;
+    if op == T_CREATE {
+        return machine.next_id as usize;
+    }
+    if height == 0 {
+        return 256;
+    }
+    if op == T_GET_FIELD {
+        return named(stack, height - 1);
+    }
+    if op == T_SET_FIELD {
+        return named(stack, height - 1);
+    }
+    named(stack, height)
+}
+
+// The slot that CALL names.
+pub(crate) fn slot_of_call(stack: &mut [u64; 1000], gone: Gone) -> usize
+    ensures { λ r. ⌜ after r (now (stack .exit)) ≡ after (named (now (stack .entry)) (gone .machine .height)) (now (stack .entry)) ⌝ }
+{
+    named(stack, gone.machine.height)
+}
+
+// The slot that the instruction at hand names.
+pub(crate) fn slot_of(stack: &mut [u64; 1000], gone: Gone) -> usize
+    ensures { λ r. ⌜ after r (now (stack .exit)) ≡ after (wanted (now (stack .entry)) (gone .machine) (gone .op)) (now (stack .entry)) ⌝ }
+{
+    wanted(stack, gone.machine, gone.op)
+}

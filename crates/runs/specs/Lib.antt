@@ -1,3 +1,0 @@
-pub mod World
-pub mod Step
-pub mod Run

@@ -1,1 +1,0 @@
-// Theorems only: what a step, a run and a call keep sound.

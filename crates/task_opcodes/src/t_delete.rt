@@ -1,0 +1,31 @@
+// T_DELETE.
+ghost use mathlib.Core.Path.{_≡_};
+ghost use Rattle.machine.specs.Create.{op-t-delete};
+use inlinevec::PopResult;
+use machine::Did;
+use machine::Registers;
+use machine::Tasked;
+use machine::changes::put;
+use machine::changes::refused;
+use machine::stack::moved;
+use storage::FindResult;
+use storage::Task;
+use storage::TaskId;
+
+// T_DELETE: the id is on top; the task of its slot is given.
+pub fn op_t_delete(stack: &[u64; 1000], registers: Registers, next: usize, task: Task) -> Tasked
+    ensures { λ r. ⌜ r ≡ op-t-delete (now (stack .entry)) registers next task ⌝ }
+{
+    match inlinevec::pop(stack, registers.height) {
+        PopResult::NotPopped(refusal) => refused(task, refusal),
+        PopResult::Popped { value, height } => {
+            match storage::ids::find(task, TaskId(values::to_u32(value))) {
+                FindResult::NotFound(refusal) => refused(task, refusal),
+                FindResult::Found => Tasked {
+                    did: Did::Next(moved(registers, next, height)),
+                    change: put(storage::task_types::blank()),
+                },
+            }
+        }
+    }
+}

@@ -1,4 +1,0 @@
-pub mod Changes
-pub mod Titles
-pub mod Create
-pub mod Fields

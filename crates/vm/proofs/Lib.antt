@@ -1,4 +1,0 @@
-pub mod Measured
-pub mod Values
-pub mod Fields
-pub mod Answers
