@@ -154,7 +154,7 @@ fn exchange_change(exchange: Exchange, height: usize, first: u32, second: u32, t
 }
 
 // An element of a program.
-pub fn element_change(
+pub(crate) fn element_change(
     element: Element,
     height: usize,
     first: u32,

@@ -191,7 +191,7 @@ fn joined(code: &[u8], at: usize, op: u8) -> bool
 }
 
 // The element at a place, by a table of operand sizes.
-pub fn find(sizes: &[u8; 256], code: &[u8], at: usize) -> Found
+pub(crate) fn find(sizes: &[u8; 256], code: &[u8], at: usize) -> Found
     ensures { λ r. ⌜ r ≡ found-by (now (sizes .entry)) (now (code .entry)) at ⌝ }
 {
     if code.len() <= at {

@@ -36,21 +36,21 @@ fn second_detail(refusal: Refusal) -> usize
 }
 
 // A number in the lowest byte, and a detail above it.
-pub fn number_and_detail(number: u32, detail: usize) -> u64
+pub(crate) fn number_and_detail(number: u32, detail: usize) -> u64
     ensures { λ r. ⌜ r ≡ number-and-detail number detail ⌝ }
 {
     (number % 256) as u64 + 256 * ((detail % 72057594037927936) as u64)
 }
 
 // The number of a refusal, and its first detail.
-pub fn number_beside(refusal: Refusal) -> u64
+pub(crate) fn number_beside(refusal: Refusal) -> u64
     ensures { λ r. ⌜ r ≡ number-beside refusal ⌝ }
 {
     number_and_detail(errors::number_of(refusal), first_detail(refusal))
 }
 
 // A refusal as numbers.
-pub fn as_numbers(refusal: Refusal) -> Reason
+pub(crate) fn as_numbers(refusal: Refusal) -> Reason
     ensures { λ r. ⌜ r ≡ as-numbers refusal ⌝ }
 {
     Reason {

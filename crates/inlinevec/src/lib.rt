@@ -150,7 +150,7 @@ pub fn push_loop(loops: Loops, opened: Loop) -> LoopsResult
 }
 
 // One loop less.
-pub fn pop_loop(loops: Loops) -> PopLoopResult
+pub(crate) fn pop_loop(loops: Loops) -> PopLoopResult
     ensures { λ r. ⌜ r ≡ pop-loop loops ⌝ }
 {
     let outer = loops.outer;
@@ -182,7 +182,7 @@ pub fn pop_loop(loops: Loops) -> PopLoopResult
 }
 
 // The innermost loop.
-pub fn last_loop(loops: Loops) -> LastLoopResult
+pub(crate) fn last_loop(loops: Loops) -> LastLoopResult
     ensures { λ r. ⌜ r ≡ last-loop loops ⌝ }
 {
     let outer = loops.outer;

@@ -27,7 +27,7 @@ pub enum Counted {
 }
 
 // A line of a template and one number.
-pub fn say(out: &mut [u8], template: &[u8], number: u64) -> LineResult
+pub(crate) fn say(out: &mut [u8], template: &[u8], number: u64) -> LineResult
     ensures { λ r. ⌜ lined r (now (out .exit)) ≡ put-line (now (out .entry)) (said (now (template .entry)) (number ∷ [])) ⌝ }
 {
     let numbers = [number];

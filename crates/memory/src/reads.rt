@@ -6,7 +6,7 @@ ghost use Rattle.memory.specs.Reads.{get-slice-bytes};
 use values::FatPointer;
 
 // Whether a vector lies in a memory of so many bytes.
-pub fn lies_in(length: usize, pointer: FatPointer) -> bool
+pub(crate) fn lies_in(length: usize, pointer: FatPointer) -> bool
     ensures { λ r. ⌜ r ≡ leb (pointer .offset + pointer .size) length ⌝ }
 {
     pointer.offset as usize + pointer.size as usize <= length

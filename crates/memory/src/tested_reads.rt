@@ -42,7 +42,7 @@ pub fn is_m_slice_eq(memory: &[u8], left: FatPointer, right: FatPointer) -> Valu
 }
 
 // Whether a vector can be read as a text.
-pub fn get_slice_as_str(memory: &[u8], pointer: FatPointer) -> ReadResult
+pub(crate) fn get_slice_as_str(memory: &[u8], pointer: FatPointer) -> ReadResult
     ensures { λ r. ⌜ r ≡ get-slice-as-str (now (memory .entry)) pointer ⌝ }
 {
     if lies_in(memory.len(), pointer) {
@@ -55,7 +55,7 @@ pub fn get_slice_as_str(memory: &[u8], pointer: FatPointer) -> ReadResult
 }
 
 // Whether a vector can be read as numbers.
-pub fn get_slice_as_u32(memory: &[u8], pointer: FatPointer) -> ReadResult
+pub(crate) fn get_slice_as_u32(memory: &[u8], pointer: FatPointer) -> ReadResult
     ensures { λ r. ⌜ r ≡ get-slice-as-u32 (now (memory .entry)) pointer ⌝ }
 {
     if lies_in(memory.len(), pointer) {

@@ -29,7 +29,7 @@ pub enum InternResult {
 }
 
 // The smaller of two numbers.
-pub fn smaller(a: usize, b: usize) -> usize
+pub(crate) fn smaller(a: usize, b: usize) -> usize
     ensures { λ r. ⌜ r ≡ min a b ⌝ }
 {
     if a < b {

@@ -1,8 +1,8 @@
 // The lines on standard output that answers and machines share, and those of tasks and of a refused creation. What is printed is no part of a contract: the kit's `io` says nothing about standard output.
+pub mod shows;
 mod answer_lines;
 mod asked;
 mod machine_lines;
-pub mod shows;
 
 ghost use mathlib.Core.Path.{_≡_};
 use libc::STDOUT_FILENO;
@@ -21,7 +21,7 @@ pub struct Answered {
 }
 
 // Writes a line.
-pub fn emit(room: &[u8], line: LineResult)
+pub(crate) fn emit(room: &[u8], line: LineResult)
     ensures { λ r. ⌜ r ≡ tt ⌝ }
 {
     match line {
@@ -33,7 +33,7 @@ pub fn emit(room: &[u8], line: LineResult)
 }
 
 // How a call ended.
-pub fn show_head(head: Head)
+pub(crate) fn show_head(head: Head)
     ensures { λ r. ⌜ r ≡ tt ⌝ }
 {
     let mut room = io::buffer();
@@ -42,7 +42,7 @@ pub fn show_head(head: Head)
 }
 
 // How many values follow.
-pub fn show_height(height: usize)
+pub(crate) fn show_height(height: usize)
     ensures { λ r. ⌜ r ≡ tt ⌝ }
 {
     let mut room = io::buffer();
@@ -51,7 +51,7 @@ pub fn show_height(height: usize)
 }
 
 // How many tasks follow.
-pub fn show_count(count: usize)
+pub(crate) fn show_count(count: usize)
     ensures { λ r. ⌜ r ≡ tt ⌝ }
 {
     let mut room = io::buffer();
@@ -60,7 +60,7 @@ pub fn show_count(count: usize)
 }
 
 // A task; nothing for a slot that is not living.
-pub fn show_task(task: Task)
+pub(crate) fn show_task(task: Task)
     ensures { λ r. ⌜ r ≡ tt ⌝ }
 {
     let mut room = io::buffer();
@@ -69,7 +69,7 @@ pub fn show_task(task: Task)
 }
 
 // A line beside the listing.
-pub fn show_report(report: Report)
+pub(crate) fn show_report(report: Report)
     ensures { λ r. ⌜ r ≡ tt ⌝ }
 {
     let mut room = io::buffer();
@@ -78,7 +78,7 @@ pub fn show_report(report: Report)
 }
 
 // A creation that was refused.
-pub fn show_creation(creation: CreateResult)
+pub(crate) fn show_creation(creation: CreateResult)
     ensures { λ r. ⌜ r ≡ tt ⌝ }
 {
     match creation {

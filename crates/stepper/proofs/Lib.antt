@@ -1,2 +1,3 @@
 pub mod Reach
 pub mod Turns
+pub mod Reopened

@@ -20,19 +20,19 @@ use bytecode::operands::prepare_u32_from_be_checked;
 use machine::Did;
 use machine::Registers;
 use machine::stack::moved;
-use opcodes::arithmetic::op_mul;
-use opcodes::arithmetic::op_muli;
-use opcodes::control::op_do;
-use opcodes::control::op_loop;
-use opcodes::control::op_loop_index;
-use opcodes::equality::op_eq;
-use opcodes::jumps::op_jump_if_false;
-use opcodes::mutation::op_m_muta;
-use opcodes::ordering::op_compare;
-use opcodes::pushes::op_dup;
-use opcodes::pushes::op_push;
-use opcodes::stack::op_drop;
-use opcodes::stack::op_swap;
+use crate::arithmetic::op_mul;
+use crate::arithmetic::op_muli;
+use crate::control::op_do;
+use crate::control::op_loop;
+use crate::control::op_loop_index;
+use crate::equality::op_eq;
+use crate::jumps::op_jump_if_false;
+use crate::mutation::op_m_muta;
+use crate::ordering::op_compare;
+use crate::pushes::op_dup;
+use crate::pushes::op_push;
+use crate::stack::op_drop;
+use crate::stack::op_swap;
 
 // Over the stack alone. Bytes without an opcode, and S_LOAD, do nothing.
 pub(crate) fn plain(

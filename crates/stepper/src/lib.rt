@@ -1,7 +1,16 @@
 // Instructions one after the other, up to the code's end, the fuel's end, a refusal, or one that needs a task, a frame or the pool.
 pub mod advance;
-mod cut;
+pub mod arithmetic;
+pub mod control;
 pub mod entering;
+pub mod equality;
+pub mod jumps;
+pub mod mutation;
+pub mod ordering;
+pub mod pushes;
+pub mod stack;
+pub mod store;
+mod cut;
 mod execute;
 mod operated;
 

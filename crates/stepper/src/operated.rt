@@ -8,9 +8,9 @@ use bytecode::operands::prepare_u8;
 use bytecode::operands::prepare_u16_from_be_checked;
 use machine::Did;
 use machine::Registers;
-use opcodes::pushes::op_push;
-use opcodes::store::op_m_st;
-use opcodes::store::store;
+use crate::pushes::op_push;
+use crate::store::op_m_st;
+use crate::store::store;
 
 // PUSH_STATE, PUSH_MAX_STATES, PUSH_TASK_FIELD.
 pub(crate) fn push_u8(

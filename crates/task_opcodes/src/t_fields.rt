@@ -16,7 +16,7 @@ use machine::changes::restate;
 use machine::stack::moved;
 use machine::stack::push_value;
 use memory::ReadResult;
-use opcodes::store::store;
+use stepper::store::store;
 use pools::InstructionsRef;
 use storage::FindResult;
 use storage::StateResult;

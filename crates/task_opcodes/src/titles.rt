@@ -7,7 +7,7 @@ use storage::Task;
 use values::FatPointer;
 
 // Whether a vector lies in the memory in use.
-pub fn within(memory: &[u8], pointer: FatPointer) -> ReadResult
+pub(crate) fn within(memory: &[u8], pointer: FatPointer) -> ReadResult
     ensures { λ r. ⌜ r ≡ within (now (memory .entry)) pointer ⌝ }
 {
     if pointer.offset as usize + pointer.size as usize <= memory.len() {
@@ -20,7 +20,7 @@ pub fn within(memory: &[u8], pointer: FatPointer) -> ReadResult
 }
 
 // The length of a record's title.
-pub fn title_length(task: Task) -> usize
+pub(crate) fn title_length(task: Task) -> usize
     ensures { λ r. ⌜ r ≡ title-length task ⌝ }
 {
     let length = task.title_len;

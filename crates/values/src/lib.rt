@@ -56,14 +56,14 @@ pub enum ValueType {
 }
 
 // Whether a word is a boxed value.
-pub fn is_qnan(v: u64) -> bool
+pub(crate) fn is_qnan(v: u64) -> bool
     ensures { λ r. ⌜ r ≡ is-qnan v ⌝ }
 {
     v / 0x4000000000000 % 0x2000 == 0x1FFF
 }
 
 // Whether a word is a boxed scalar.
-pub fn is_scalar(v: u64) -> bool
+pub(crate) fn is_scalar(v: u64) -> bool
     ensures { λ r. ⌜ r ≡ is-scalar v ⌝ }
 {
     v / 0x4000000000000 == 0x1FFF
@@ -94,7 +94,7 @@ pub fn tag_of(v: u64) -> TagResult
 }
 
 // Whether a word is a boxed number.
-pub fn is_u32_val(v: u64) -> bool
+pub(crate) fn is_u32_val(v: u64) -> bool
     ensures { λ r. ⌜ r ≡ is-u32-val v ⌝ }
 {
     if is_scalar(v) {

@@ -1,0 +1,46 @@
+// Opcodes that multiply numbers: MUL, MULI.
+ghost use mathlib.Core.Path.{_≡_};
+ghost use Rattle.machine.specs.Registers.{on-stack};
+ghost use Rattle.machine.specs.Stack.{op-mul, op-muli};
+use inlinevec::PopResult;
+use machine::Did;
+use machine::PopTwoResult;
+use machine::Registers;
+use machine::stack::finish;
+use machine::stack::pop_two;
+
+// MUL.
+pub(crate) fn op_mul(stack: &mut [u64; 1000], registers: Registers, next: usize) -> Did
+    ensures { λ r. ⌜ on-stack r (now (stack .exit)) ≡ op-mul (now (stack .entry)) registers next ⌝ }
+{
+    match pop_two(stack, registers.height) {
+        PopTwoResult::NotPoppedTwo(refusal) => Did::Refused(refusal),
+        PopTwoResult::PoppedTwo {
+            first,
+            second,
+            height,
+        } => finish(
+            stack,
+            registers,
+            next,
+            height,
+            values::calculations::mul_checked(first, second),
+        ),
+    }
+}
+
+// MULI.
+pub(crate) fn op_muli(stack: &mut [u64; 1000], registers: Registers, next: usize, number: u32) -> Did
+    ensures { λ r. ⌜ on-stack r (now (stack .exit)) ≡ op-muli (now (stack .entry)) registers next number ⌝ }
+{
+    match inlinevec::pop(stack, registers.height) {
+        PopResult::NotPopped(refusal) => Did::Refused(refusal),
+        PopResult::Popped { value, height } => finish(
+            stack,
+            registers,
+            next,
+            height,
+            values::calculations::mul_checked_i(value, number),
+        ),
+    }
+}

@@ -1,0 +1,38 @@
+// Opcodes over the stack alone that push nothing: SWAP, DROP.
+ghost use mathlib.Core.Path.{_≡_};
+ghost use Rattle.machine.specs.Registers.{on-stack};
+ghost use Rattle.machine.specs.Stack.{op-swap, op-drop};
+use inlinevec::PopResult;
+use machine::Did;
+use machine::PopTwoResult;
+use machine::Registers;
+use machine::stack::moved;
+use machine::stack::pop_two;
+
+// SWAP.
+pub(crate) fn op_swap(stack: &mut [u64; 1000], registers: Registers, next: usize) -> Did
+    ensures { λ r. ⌜ on-stack r (now (stack .exit)) ≡ op-swap (now (stack .entry)) registers next ⌝ }
+{
+    match pop_two(stack, registers.height) {
+        PopTwoResult::NotPoppedTwo(refusal) => Did::Refused(refusal),
+        PopTwoResult::PoppedTwo {
+            first: top,
+            second: below,
+            height,
+        } => {
+            stack[height] = top;
+            stack[height + 1] = below;
+            Did::Next(moved(registers, next, registers.height))
+        }
+    }
+}
+
+// DROP.
+pub(crate) fn op_drop(stack: &[u64; 1000], registers: Registers, next: usize) -> Did
+    ensures { λ r. ⌜ r ≡ op-drop (now (stack .entry)) registers next ⌝ }
+{
+    match inlinevec::pop(stack, registers.height) {
+        PopResult::NotPopped(refusal) => Did::Refused(refusal),
+        PopResult::Popped { value: _, height } => Did::Next(moved(registers, next, height)),
+    }
+}
