@@ -17,13 +17,15 @@ use Rattle.pools.proofs.Laws.{length-entries}
 use Rattle.machine.specs.declared.Machine.{Machine}
 use Rattle.machine.specs.declared.Phase.{Phase}
 use Rattle.machine.specs.declared.Phase.the-variants.{Paused, Done, Stopped}
-use Rattle.machine.specs.Machines.{current, registers-of, settled}
-use Rattle.machine.specs.Turns.{rewound}
+use Rattle.machine.specs.Machines.{current}
+use Rattle.mechanism.specs.Registers.{registers-of, settled}
+use Rattle.machine.specs.Machines.{rewound}
 use Rattle.machine.specs.declared.Outcome.{Outcome}
 use Rattle.machine.specs.declared.Outcome.the-variants as outcome
 use Rattle.machine.specs.World.{World, place}
 use Rattle.machine.specs.Run.{End, run}
-use Rattle.machine.specs.Calls.{may-start, may-continue, fresh, allowed, ended, report, Reported, at-end, with-machine, is-sound, call-with, call, start, go-on}
+use Rattle.machine.specs.Calls.{may-start, may-continue, fresh, allowed, ended, report, Reported, at-end, is-sound, call-with, call, start, go-on}
+use Rattle.machine.specs.World.{with-machine}
 use Rattle.machine.specs.declared.Verb.the-variants.{Start}
 use Rattle.machine.specs.Reads.{is-done, readable, value-at, value-read}
 use Rattle.memory.specs.Unbox as unbox
@@ -87,11 +89,11 @@ unfolding finished finish onward inlinevec.last rust.last-pc view
 finished-is stale w = refl
 
 at-start : (w : World) → place (with-machine w (ended (w .machine) outcome.Done)) ≡ 0
-unfolding ended rewound settled registers-of
+unfolding ended rewound placed settled registers-of
 at-start w = ap (λ (f : Frame). f .place) (current-is (w .machine .frames) (record { entry = current (w .machine .frames) .entry; place = 0 }))
 
 rests-done : (w : World) → at-rest (with-machine w (ended (w .machine) outcome.Done)) ≡ left-done w
-unfolding view ended rewound settled registers-of
+unfolding view ended rewound placed settled registers-of
 rests-done w =
     rw (at-start w, current-is (w .machine .frames) (record { entry = current (w .machine .frames) .entry; place = 0 }), callers-are (w .machine .frames) (record { entry = current (w .machine .frames) .entry; place = 0 }))
 
@@ -99,7 +101,7 @@ done-is : (stale : ℕ) (w : World) → finished (view stale w) ≡ returned (va
 done-is stale w = finished-is stale w ∙ ap (returned (values-of (w .machine .height) (w .stack))) (sym (rests-done w))
 
 told : (fuel : ℕ) (e : End) (ran : Ran) → Same e ran → Told (at-end fuel e) ran
-unfolding report ended phase-by view rewound settled
+unfolding report ended phase-by view rewound placed settled
 told fuel _ _ (same.both-end stale w left s bytes) =
     rw (done-is stale w) (told-end refl (record { is-sound = ended-sound w outcome.Done s; bytes = bytes; phase = refl }))
 told fuel _ _ (same.both-pause stale w s bytes) = told-pause stale refl (record { is-sound = ended-sound w outcome.Paused s; bytes = bytes; phase = refl })

@@ -26,19 +26,20 @@ use Rattle.inlinevec.proofs.Lists.{pushed-two, popped-two, length-two}
 use Rattle.pools.specs.Pool.{entries-of}
 use Rattle.values.specs.Values.{to-u32-val, mul-checked-i, to-bool-val}
 use Rattle.values.specs.declared.ValueResult.{ValueResult}
-use Rattle.machine.specs.Registers.{on-memory}
-use Rattle.machine.specs.Stack.{finish, op-push, on-one, op-muli}
-use Rattle.machine.specs.Control.{looping, opened-to, do-two, op-do, looped, op-loop, index-of, op-loop-index, jumped, op-jump-if-false}
-use Rattle.machine.specs.declared.Registers.{Registers}
-use Rattle.machine.specs.declared.Did.{Did}
-use Rattle.machine.specs.declared.Did.the-variants.{Next}
-use Rattle.machine.specs.declared.PopTwoResult.{PopTwoResult}
-use Rattle.machine.specs.Cut.{cut, cut-value, cut-muli, cut-skip, cut-jump}
-use Rattle.machine.specs.Operated.{with-operand, push-u32, push-u8, muli, jump-if-false}
-use Rattle.machine.specs.Execute.{kept, operated, is-equality, execute, by-extent}
-use Rattle.machine.specs.Machines.{current, registers-of}
+use Rattle.mechanism.specs.Registers.{on-memory}
+use Rattle.mechanism.specs.Stack.{finish, op-push, on-one, op-muli}
+use Rattle.mechanism.specs.Control.{looping, opened-to, do-two, op-do, looped, op-loop, index-of, op-loop-index, jumped, op-jump-if-false}
+use Rattle.mechanism.specs.declared.Registers.{Registers}
+use Rattle.mechanism.specs.declared.Did.{Did}
+use Rattle.mechanism.specs.declared.Did.the-variants.{Next}
+use Rattle.mechanism.specs.declared.PopTwoResult.{PopTwoResult}
+use Rattle.mechanism.specs.Cut.{cut, cut-value, cut-muli, cut-skip, cut-jump}
+use Rattle.mechanism.specs.Operated.{with-operand, push-u32, push-u8, muli, jump-if-false}
+use Rattle.mechanism.specs.Execute.{kept, operated, is-equality, execute, by-extent}
+use Rattle.machine.specs.Machines.{current}
+use Rattle.mechanism.specs.Registers.{registers-of}
 use Rattle.machine.specs.World.{World, code, place}
-use Rattle.machine.specs.Step.{Stepped, refused, inner-did}
+use Rattle.mechanism.specs.Step.{Stepped, refused, inner-did}
 use Rattle.rust.specs.Errors.{StackUnderflow, StackOverflow, Out, ok, panic}
 use Rattle.rust.specs.InlineVec as inlinevec
 use Rattle.rust.specs.Helpers.{byte, prepare-u32-from-be-checked}
@@ -52,7 +53,7 @@ use Rattle.agreement.proofs.Laws.{same, one-off, two-off}
 use Rattle.agreement.proofs.Views.{stepped, goes, moves, pushed}
 use Rattle.agreement.proofs.Values.{muli-agrees}
 use Rattle.agreement.proofs.Stack.{finished, missed}
-use Rattle.agreement.proofs.Operands.{up-to, operand-there, one-byte}
+use Rattle.mechanism.proofs.Operands.{up-to, operand-there, one-byte}
 
 none-of : (two : Two Loop) → two .count ≡ 0 → two-of two ≡ []
 unfolding two-of

@@ -18,14 +18,14 @@ use Rattle.values.specs.declared.ValueResult.{ValueResult}
 use Rattle.values.specs.declared.ValueResult.the-variants.{Value, NoValue}
 use Rattle.memory.specs.Change.{inside}
 use Rattle.memory.specs.Reads.{get-slice-bytes, is-m-slice-eq}
-use Rattle.machine.specs.Stack.{finish, on-two}
-use Rattle.machine.specs.Equality.{eq-right, eq-left, eq-vectors, eq-tagged, eq-right-tag, eq-left-tag, eq-values, turned-if, op-eq}
-use Rattle.machine.specs.declared.Registers.{Registers}
-use Rattle.machine.specs.declared.PopTwoResult.{PopTwoResult}
-use Rattle.machine.specs.Execute.{kept}
-use Rattle.machine.specs.Machines.{registers-of}
+use Rattle.mechanism.specs.Stack.{finish, on-two}
+use Rattle.mechanism.specs.Equality.{eq-right, eq-left, eq-vectors, eq-tagged, eq-right-tag, eq-left-tag, eq-values, turned-if, op-eq}
+use Rattle.mechanism.specs.declared.Registers.{Registers}
+use Rattle.mechanism.specs.declared.PopTwoResult.{PopTwoResult}
+use Rattle.mechanism.specs.Execute.{kept}
+use Rattle.mechanism.specs.Registers.{registers-of}
 use Rattle.machine.specs.World.{World}
-use Rattle.machine.specs.Step.{Stepped, inner-did}
+use Rattle.mechanism.specs.Step.{Stepped, inner-did}
 use Rattle.laws.specs.Sound.{Inside}
 use Rattle.rust.specs.Errors.{VMError, InvalidType, TypeMismatch, Out, err}
 use Rattle.rust.specs.Values as values

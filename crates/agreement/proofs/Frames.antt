@@ -27,19 +27,21 @@ use Rattle.pools.proofs.Laws.{length-entries, getD-entries, length-entry, part-
 use Rattle.values.specs.Values.{to-u32, to-calldata-val}
 use Rattle.storage.specs.declared.Task.{Task}
 use Rattle.storage.specs.Tasks.{blank}
-use Rattle.machine.specs.Registers.{moved}
-use Rattle.machine.specs.Changes.{keep, applied}
+use Rattle.mechanism.specs.Registers.{moved}
+use Rattle.mechanism.specs.Changes.{keep, applied}
 use Rattle.machine.specs.declared.Machine.{Machine}
-use Rattle.machine.specs.Machines.{current, with-current, code-of, registers-of, settled, with-frames}
-use Rattle.machine.specs.Frames.{placed, intern-sized, intern-calldata, with-entry, calldata-pushed, push-calldata, framed, enter-bounded, enter, call-popped, op-call, left-frame, op-end-call}
-use Rattle.machine.specs.Act.{on-all, acted, after-pool, on-frames, act-by}
+use Rattle.machine.specs.Machines.{current, with-current, code-of, with-frames}
+use Rattle.mechanism.specs.Registers.{registers-of, settled}
+use Rattle.mechanism.specs.Frames.{intern-sized, intern-calldata, with-entry, calldata-pushed, push-calldata, framed, enter-bounded, enter, call-popped, op-call, left-frame, op-end-call}
+use Rattle.mechanism.specs.Registers.{machine-at}
+use Rattle.mechanism.specs.Act.{on-all, acted, after-pool, on-frames, act-by}
 use Rattle.bytecode.specs.declared.Extent.{Extent}
 use Rattle.bytecode.specs.declared.Extent.the-variants as extents
-use Rattle.machine.specs.Advance.{named-by, wanted}
-use Rattle.machine.specs.declared.Went.{Went}
-use Rattle.machine.specs.declared.Went.the-variants.{Onto}
+use Rattle.mechanism.specs.Advance.{named-by, wanted}
+use Rattle.mechanism.specs.declared.Went.{Went}
+use Rattle.mechanism.specs.declared.Went.the-variants.{Onto}
 use Rattle.machine.specs.World.{World, world, code, place}
-use Rattle.machine.specs.Step.{Stepped, next, acts-went}
+use Rattle.mechanism.specs.Step.{Stepped, next, acts-went}
 use Rattle.rust.specs.Errors.{StackOverflow, InvalidInstructionsIndex, ok, err, panic}
 use Rattle.rust.specs.InlineVec as inlinevec
 use Rattle.rust.specs.Helpers.{slice, prepare-u16-from-be-checked}
@@ -53,7 +55,7 @@ use Rattle.agreement.specs.Agreement.{Agree, lacks, errs, panics, Over, 
 use Rattle.agreement.proofs.Facts.{Facts}
 use Rattle.agreement.proofs.Laws.{goes-by, like, fails, one-off}
 use Rattle.agreement.proofs.Views.{current-is, callers-are, view-settled}
-use Rattle.agreement.proofs.Operands.{up-to, operand-there}
+use Rattle.mechanism.proofs.Operands.{up-to, operand-there}
 use Rattle.agreement.proofs.Store.{bytes-taken, code-bytes}
 use Rattle.agreement.proofs.Slots.{a-task, no-task, get-is}
 use Rattle.agreement.proofs.Tasks.{acted-as, wanted-top}
@@ -214,12 +216,12 @@ module _ (w : World) (stale : ℕ) (h : Facts w) (bytes : Bytes (w .pool)) where
   abbrev caller : ℕ → ℕ → VM
   caller to height = with-call-stack (at (view stale w) to (values-of height (w .stack))) (last-pc (view stale w .call-stack) to)
 
-  placed-goes : (to height slot : ℕ) (task : Task) → Agree w (went-as slot task (Onto (placed m to height))) (ok (caller to height))
+  placed-goes : (to height slot : ℕ) (task : Task) → Agree w (went-as slot task (Onto (machine-at m to height))) (ok (caller to height))
   unfolding acts-went applied last-pc registers-of view
   placed-goes to height slot task = goes-by to bytes (view-settled to m (moved (registers-of m) to height) (w .table) (w .stack) (w .memory) (w .pool) (w .ends) (w .save))
 
   -- at another place, the frame as it was noted before
-  stays : (to height slot : ℕ) (task : Task) → Agree w (went-as slot task (Onto (placed m to height))) (ok (at (view stale w) to (values-of height (w .stack))))
+  stays : (to height slot : ℕ) (task : Task) → Agree w (went-as slot task (Onto (machine-at m to height))) (ok (at (view stale w) to (values-of height (w .stack))))
   unfolding acts-went applied registers-of view
   stays to height slot task = goes-by stale bytes (view-settled stale m (moved (registers-of m) to height) (w .table) (w .stack) (w .memory) (w .pool) (w .ends) (w .save))
 
@@ -228,7 +230,7 @@ module _ (w : World) (stale : ℕ) (h : Facts w) (bytes : Bytes (w .pool)) where
 
   -- the frame of the task's instructions on top
   entered : (to height reference : ℕ) (n : ℕ) → m .frames .count ≡ n → 1 ≤ n → n ≤ 2
-      → (slot : ℕ) (task : Task) → Agree w (went-as slot task (framed (placed m to height) (push-frame (noted to) (record { entry = record { 0 = reference }; place = 0 }))))
+      → (slot : ℕ) (task : Task) → Agree w (went-as slot task (framed (machine-at m to height) (push-frame (noted to) (record { entry = record { 0 = reference }; place = 0 }))))
       (inlinevec.push 2 (caller to height .call-stack) (record { instructions-ref = reference; pc = 0 }) λ call-stack. ok (in-frame (with-call-stack (caller to height) call-stack) (record { instructions-ref = reference; pc = 0 })))
   unfolding framed push-frame if-room push-two change-two with-current settled registers-of acts-went applied inlinevec.push last-pc view callers current last-two
   entered to height reference zero e one few slot task = absurd (omega arith)
@@ -250,7 +252,7 @@ module _ (w : World) (stale : ℕ) (h : Facts w) (bytes : Bytes (w .pool)) where
       by false e = ne-eqb (end-of (w .ends) reference - start-of (w .ends) reference) 0 (λ (q : end-of (w .ends) reference - start-of (w .ends) reference ≡ 0). let z : start-of (w .ends) reference < end-of (w .ends) reference = leb-false _ _ e in omega arith)
 
   enters-there : (to height slot : ℕ) (task : Task) (reference : InstructionsRef) → reference .0 < m .entries
-      → Agree w (went-as slot task (enter-bounded (placed m to height) reference (Bounds (start-of (w .ends) (reference .0)) (end-of (w .ends) (reference .0)))))
+      → Agree w (went-as slot task (enter-bounded (machine-at m to height) reference (Bounds (start-of (w .ends) (reference .0)) (end-of (w .ends) (reference .0)))))
       (cond (eqb (length (getD entries (reference .0) [])) 0) (ok (caller to height))
       (inlinevec.push 2 (caller to height .call-stack) (record { instructions-ref = reference .0; pc = 0 }) λ call-stack. ok (in-frame (with-call-stack (caller to height) call-stack) (record { instructions-ref = reference .0; pc = 0 }))))
   unfolding enter-bounded settled registers-of
@@ -259,27 +261,27 @@ module _ (w : World) (stale : ℕ) (h : Facts w) (bytes : Bytes (w .pool)) where
       (λ t. placed-goes to height slot task)
       (λ t. entered to height (reference .0) (m .frames .count) refl (h .some-frame) (h .few-frames) slot task)
 
-  no-entry : (to height slot : ℕ) (task : Task) (reference : InstructionsRef) → Agree w (went-as slot task (enter-bounded (placed m to height) reference (NoBounds (refusal.InvalidInstructionsIndex (reference .0))))) (err (InvalidInstructionsIndex (reference .0)))
+  no-entry : (to height slot : ℕ) (task : Task) (reference : InstructionsRef) → Agree w (went-as slot task (enter-bounded (machine-at m to height) reference (NoBounds (refusal.InvalidInstructionsIndex (reference .0))))) (err (InvalidInstructionsIndex (reference .0)))
   unfolding enter-bounded acts-went
   no-entry to height slot task reference = errs (InvalidInstructionsIndex (reference .0))
 
   enters-agree : (to height slot : ℕ) (task : Task) (new : TaskVM) → new .instructions-ref ≡ task .«instructions_ref» .0
-      → Agree w (went-as slot task (enter (w .ends) (placed m to height) (task .«instructions_ref»))) (rust.enters to (caller to height) new)
+      → Agree w (went-as slot task (enter (w .ends) (machine-at m to height) (task .«instructions_ref»))) (rust.enters to (caller to height) new)
   unfolding enter settled rust.enters instructions.get view acts-went
   enters-agree to height slot task new is = by (ltb (task .«instructions_ref» .0) (m .entries)) refl
     where
-      by : (b : Bool) → ltb (task .«instructions_ref» .0) (m .entries) ≡ b → Agree w (went-as slot task (enter (w .ends) (placed m to height) (task .«instructions_ref»))) (rust.enters to (caller to height) new)
+      by : (b : Bool) → ltb (task .«instructions_ref» .0) (m .entries) ≡ b → Agree w (went-as slot task (enter (w .ends) (machine-at m to height) (task .«instructions_ref»))) (rust.enters to (caller to height) new)
       by true e = rw (is, entries-length, e, bounded (task .«instructions_ref») (ltb-true _ _ e)) (enters-there to height slot task (task .«instructions_ref») (ltb-true _ _ e))
       by false e = rw (is, entries-length, e, not-found (w .ends) (m .entries) (task .«instructions_ref») (ltb-false _ _ e)) (no-entry to height slot task (task .«instructions_ref»))
 
   -- a missing task does nothing
   call-there : (to height slot : ℕ) (task : Task)
-      → Agree w (went-as slot task (cond (task .living) (enter (w .ends) (placed m to height) (task .«instructions_ref»)) (Onto (placed m to height))))
+      → Agree w (went-as slot task (cond (task .living) (enter (w .ends) (machine-at m to height) (task .«instructions_ref»)) (Onto (machine-at m to height))))
       (rust-storage.if-some (task-of task) (λ new. rust.enters to (caller to height) new) (ok (at (view stale w) to (values-of height (w .stack)))))
   call-there to height slot task = by (task .living) refl
     where
       by : (b : Bool) → task .living ≡ b
-          → Agree w (went-as slot task (cond b (enter (w .ends) (placed m to height) (task .«instructions_ref»)) (Onto (placed m to height))))
+          → Agree w (went-as slot task (cond b (enter (w .ends) (machine-at m to height) (task .«instructions_ref»)) (Onto (machine-at m to height))))
           (rust-storage.if-some (task-of task) (λ new. rust.enters to (caller to height) new) (ok (at (view stale w) to (values-of height (w .stack)))))
       by true e = rw (a-task task e) (enters-agree to height slot task (held task) refl)
       by false e = rw (no-task task e) (stays to height slot task)

@@ -14,11 +14,11 @@ use Rattle.inlinevec.specs.declared.PopResult.{PopResult}
 use Rattle.inlinevec.specs.declared.PopResult.the-variants.{Popped, NotPopped}
 use Rattle.inlinevec.specs.declared.LastResult.{LastResult}
 use Rattle.inlinevec.specs.declared.LastResult.the-variants.{Last, NoLast}
-use Rattle.machine.specs.Stack.{pop-two, pop-first, pop-second}
-use Rattle.machine.specs.declared.PopTwoResult.{PopTwoResult}
-use Rattle.machine.specs.declared.PopTwoResult.the-variants.{PoppedTwo, NotPoppedTwo}
+use Rattle.mechanism.specs.Stack.{pop-two, pop-first, pop-second}
+use Rattle.mechanism.specs.declared.PopTwoResult.{PopTwoResult}
+use Rattle.mechanism.specs.declared.PopTwoResult.the-variants.{PoppedTwo, NotPoppedTwo}
 use Rattle.machine.specs.World.{World}
-use Rattle.machine.specs.Step.{Stepped, next, refused}
+use Rattle.mechanism.specs.Step.{Stepped, next, refused}
 use Rattle.rust.specs.Errors.{StackUnderflow, Out, ok}
 use Rattle.rust.specs.InlineVec as rust
 use Rattle.rust.specs.Vm.{VM}

@@ -1,7 +1,6 @@
 pub mod Facts
 pub mod Laws
 pub mod Views
-pub mod Operands
 pub mod Values
 pub mod Stack
 pub mod Control

@@ -12,7 +12,7 @@ use Rattle.pools.proofs.Laws.{getD-entries}
 use Rattle.machine.specs.Machines.{current, code-of}
 use Rattle.machine.specs.declared.Outcome.the-variants as outcome
 use Rattle.machine.specs.World.{World, code, place, at-end}
-use Rattle.machine.specs.Step.{Stepped, step}
+use Rattle.mechanism.specs.Step.{Stepped, step}
 use Rattle.machine.specs.Run.{End, end-at, follow, run}
 use Rattle.laws.specs.Sound.{Sound}
 use Rattle.laws.proofs.Step.{step-sound}

@@ -27,11 +27,12 @@ use Rattle.pools.proofs.Laws.{getD-entries, found, found-within, not-found}
 use Rattle.storage.specs.declared.Task.{Task}
 use Rattle.storage.specs.Tasks.{blank}
 use Rattle.machine.specs.declared.Machine.{Machine}
-use Rattle.machine.specs.Machines.{current, registers-of, settled, with-saved}
-use Rattle.machine.specs.Frames.{placed}
-use Rattle.machine.specs.Turns.{save-went}
+use Rattle.machine.specs.Machines.{current, with-saved}
+use Rattle.mechanism.specs.Registers.{registers-of, settled}
+use Rattle.mechanism.specs.Registers.{machine-at}
+use Rattle.mechanism.specs.Turns.{save-went}
 use Rattle.machine.specs.World.{World, world, code, place}
-use Rattle.machine.specs.Step.{Stepped, next, saves-went, saves}
+use Rattle.mechanism.specs.Step.{Stepped, next, saves-went, saves}
 use Rattle.rust.specs.Errors.{VMError, InvalidInstructionsIndex, BytesToStringConversionError, Out, ok, err}
 use Rattle.rust.specs.Instructions as instructions
 use Rattle.rust.specs.TaskTypes.{TaskVM, to-task}
@@ -161,12 +162,12 @@ module _ (w : World) (stale : ℕ) (h : Facts w) (bytes : Bytes (w .pool)) where
   p = place w
 
   saved-view : (save : List ℕ) (size : ℕ)
-      → view stale (world (with-saved (placed m (p + 1) (m .height)) size) (w .table) (w .stack) (w .memory) (w .pool) (w .ends) save) ≡ at (view stale w) (p + 1) (values-of (m .height) (w .stack))
+      → view stale (world (with-saved (machine-at m (p + 1) (m .height)) size) (w .table) (w .stack) (w .memory) (w .pool) (w .ends) save) ≡ at (view stale w) (p + 1) (values-of (m .height) (w .stack))
   unfolding view settled registers-of
   saved-view save size = rw (current-is (m .frames) (record { entry = current (m .frames) .entry; place = p + 1 }), callers-are (m .frames) (record { entry = current (m .frames) .entry; place = p + 1 }))
 
   saved-goes : (save : List ℕ) (size : ℕ) → p < length (code w)
-      → Agree w (next (world (with-saved (placed m ((p + 1) % 2 ^ 64) (m .height)) size) (w .table) (w .stack) (w .memory) (w .pool) (w .ends) save)) (ok (at (view stale w) (p + 1) (values-of (m .height) (w .stack))))
+      → Agree w (next (world (with-saved (machine-at m ((p + 1) % 2 ^ 64) (m .height)) size) (w .table) (w .stack) (w .memory) (w .pool) (w .ends) save)) (ok (at (view stale w) (p + 1) (values-of (m .height) (w .stack))))
   saved-goes save size inside =
       let long = code-length w stale h bytes in
       let most : end-of (w .ends) (current (m .frames) .entry .0) ≤ m .pool = found-within (w .ends) (m .pool) (m .entries) (h .ends) (current (m .frames) .entry .0) (h .frame) .in-bytes in

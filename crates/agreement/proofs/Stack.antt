@@ -14,15 +14,15 @@ use Rattle.inlinevec.proofs.Lists.{pushed-values, length-values}
 use Rattle.values.specs.Values.{mul-checked, value-cmp}
 use Rattle.values.specs.declared.ValueResult.{ValueResult}
 use Rattle.values.specs.declared.ValueResult.the-variants.{Value, NoValue}
-use Rattle.machine.specs.Registers.{on-memory, moved}
-use Rattle.machine.specs.Stack.{finish, on-two, op-mul, op-compare, dup-last, op-dup, swapped, op-swap, dropped, op-drop}
-use Rattle.machine.specs.declared.Registers.{Registers}
-use Rattle.machine.specs.declared.Did.the-variants.{Next}
-use Rattle.machine.specs.declared.PopTwoResult.{PopTwoResult}
-use Rattle.machine.specs.Execute.{kept}
-use Rattle.machine.specs.Machines.{registers-of}
+use Rattle.mechanism.specs.Registers.{on-memory, moved}
+use Rattle.mechanism.specs.Stack.{finish, on-two, op-mul, op-compare, dup-last, op-dup, swapped, op-swap, dropped, op-drop}
+use Rattle.mechanism.specs.declared.Registers.{Registers}
+use Rattle.mechanism.specs.declared.Did.the-variants.{Next}
+use Rattle.mechanism.specs.declared.PopTwoResult.{PopTwoResult}
+use Rattle.mechanism.specs.Execute.{kept}
+use Rattle.mechanism.specs.Registers.{registers-of}
 use Rattle.machine.specs.World.{World}
-use Rattle.machine.specs.Step.{Stepped, inner-did}
+use Rattle.mechanism.specs.Step.{Stepped, inner-did}
 use Rattle.rust.specs.Errors.{VMError, Out, err}
 use Rattle.rust.specs.InlineVec as inlinevec
 use Rattle.rust.specs.Vm as rust

@@ -15,16 +15,18 @@ use Rattle.inlinevec.specs.Stacks.{values-of}
 use Rattle.pools.proofs.Laws.{getD-entries}
 use Rattle.values.specs.Values.{to-u32-val}
 use Rattle.storage.specs.Tasks.{blank}
-use Rattle.machine.specs.Stack.{op-push}
-use Rattle.machine.specs.declared.Registers.{Registers}
-use Rattle.machine.specs.Execute.{kept, plain, operated, is-equality, execute, by-extent, instruct}
-use Rattle.machine.specs.Steps.{is-outer}
+use Rattle.mechanism.specs.Stack.{op-push}
+use Rattle.mechanism.specs.declared.Registers.{Registers}
+use Rattle.mechanism.specs.Execute.{kept, plain, operated, is-equality, execute, by-extent, instruct}
+use Rattle.mechanism.specs.Steps.{is-outer}
 use Rattle.machine.specs.declared.Machine.{Machine}
-use Rattle.machine.specs.Machines.{current, code-of, registers-of}
-use Rattle.machine.specs.Act.{on-task, on-frames, op-at, act-by, act-at, act}
-use Rattle.machine.specs.Advance.{wanted}
+use Rattle.machine.specs.Machines.{current, code-of}
+use Rattle.mechanism.specs.Registers.{registers-of}
+use Rattle.mechanism.specs.Act.{on-task, on-frames, act-by, act-at, act}
+use Rattle.machine.specs.Machines.{op-at}
+use Rattle.mechanism.specs.Advance.{wanted}
 use Rattle.machine.specs.World.{World, code, place, at-end}
-use Rattle.machine.specs.Step.{inner, acts, outer, step}
+use Rattle.mechanism.specs.Step.{inner, acts, outer, step}
 use Rattle.laws.specs.Sound.{Sound}
 use Rattle.rust.specs.Errors.{Out, ok}
 use Rattle.rust.specs.Storage as storage
@@ -35,7 +37,7 @@ use Rattle.agreement.specs.Agreement.{Agree}
 use Rattle.agreement.proofs.Facts.{Facts, facts}
 use Rattle.agreement.proofs.Views.{stepped, moves, pushed}
 use Rattle.agreement.proofs.Stack as stack
-use Rattle.agreement.proofs.Operands.{reaches, reaches-next, reaches-sti, reaches-calldata}
+use Rattle.mechanism.proofs.Operands.{reaches, reaches-next, reaches-sti, reaches-calldata}
 use Rattle.agreement.proofs.Control as control
 use Rattle.agreement.proofs.Equality as equality
 use Rattle.agreement.proofs.Store as store

@@ -32,17 +32,18 @@ use Rattle.memory.specs.Change.{element-size-bytes, scaled, little-endian, mut-
 use Rattle.memory.specs.declared.SizeResult.{SizeResult}
 use Rattle.memory.specs.declared.SizeResult.the-variants.{Size}
 use Rattle.memory.proofs.Placed.{aligned-above}
-use Rattle.machine.specs.Registers.{on-memory, moved}
-use Rattle.machine.specs.Store.{full-by, full, placed, store, sized, op-m-st, mut-in-use, changed-to, mutated, mutate-at, mutate, mutate-last, mutate-two, op-m-muta}
-use Rattle.machine.specs.declared.Registers.{Registers}
-use Rattle.machine.specs.declared.PopTwoResult.{PopTwoResult}
-use Rattle.machine.specs.declared.Did.the-variants.{Next, Refused}
-use Rattle.machine.specs.Cut.{cut, cut-size, cut-m-st}
-use Rattle.machine.specs.Operated.{with-operand, m-st, payload-of, m-sti-of, m-sti}
-use Rattle.machine.specs.Execute.{is-equality, execute, by-extent, changed}
-use Rattle.machine.specs.Machines.{current, code-of, registers-of}
+use Rattle.mechanism.specs.Registers.{on-memory, moved}
+use Rattle.mechanism.specs.Store.{full-by, full, placed, store, sized, op-m-st, mut-in-use, changed-to, mutated, mutate-at, mutate, mutate-last, mutate-two, op-m-muta}
+use Rattle.mechanism.specs.declared.Registers.{Registers}
+use Rattle.mechanism.specs.declared.PopTwoResult.{PopTwoResult}
+use Rattle.mechanism.specs.declared.Did.the-variants.{Next, Refused}
+use Rattle.mechanism.specs.Cut.{cut, cut-size, cut-m-st}
+use Rattle.mechanism.specs.Operated.{with-operand, m-st, payload-of, m-sti-of, m-sti}
+use Rattle.mechanism.specs.Execute.{is-equality, execute, by-extent, changed}
+use Rattle.machine.specs.Machines.{current, code-of}
+use Rattle.mechanism.specs.Registers.{registers-of}
 use Rattle.machine.specs.World.{World, code, place}
-use Rattle.machine.specs.Step.{Stepped, inner-did}
+use Rattle.mechanism.specs.Step.{Stepped, inner-did}
 use Rattle.rust.specs.Errors.{VMError, InvalidType, MSliceParamOverflow, MSliceOutOfBounds, StackOverflow, ok, err, panic}
 use Rattle.rust.specs.InlineVec as inlinevec
 use Rattle.rust.specs.Helpers.{byte, slice, prepare-u16-from-be-checked}
@@ -56,7 +57,7 @@ use Rattle.agreement.proofs.Facts.{Facts}
 use Rattle.agreement.proofs.Laws.{same, holds, one-off, two-off, one-seen}
 use Rattle.agreement.proofs.Views.{stepped, goes}
 use Rattle.agreement.proofs.Values.{pointer-agrees}
-use Rattle.agreement.proofs.Operands.{up-to, operand-there, one-byte}
+use Rattle.mechanism.proofs.Operands.{up-to, operand-there, one-byte}
 use Rattle.agreement.proofs.Grown.{grown, grown-empty, grown-length}
 use Rattle.agreement.proofs.Equality.{in-memory, is-inside}
 

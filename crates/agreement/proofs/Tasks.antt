@@ -30,26 +30,28 @@ use Rattle.storage.specs.Storage as tests
 use Rattle.storage.specs.Tasks as storage
 use Rattle.storage.specs.Tasks.{blank, default-state, new-task, restated}
 use Rattle.storage.specs.Table.{set-state-at}
-use Rattle.machine.specs.Registers.{on-memory, moved}
-use Rattle.machine.specs.Store.{store}
-use Rattle.machine.specs.declared.Registers.{Registers}
-use Rattle.machine.specs.declared.PopTwoResult.{PopTwoResult}
-use Rattle.machine.specs.declared.Did.{Did}
-use Rattle.machine.specs.declared.Did.the-variants.{Next, Refused}
-use Rattle.machine.specs.Changes.{applied, tasked}
-use Rattle.machine.specs.Changes as changes
+use Rattle.mechanism.specs.Registers.{on-memory, moved}
+use Rattle.mechanism.specs.Store.{store}
+use Rattle.mechanism.specs.declared.Registers.{Registers}
+use Rattle.mechanism.specs.declared.PopTwoResult.{PopTwoResult}
+use Rattle.mechanism.specs.declared.Did.{Did}
+use Rattle.mechanism.specs.declared.Did.the-variants.{Next, Refused}
+use Rattle.mechanism.specs.Changes.{applied, tasked}
+use Rattle.mechanism.specs.Changes as changes
 use Rattle.machine.specs.Titles.{within, title-length, title-bytes}
-use Rattle.machine.specs.Create.{with-room, if-within, new, if-vector, with-title, titled, with-state, with-two, op-t-create, delete-found, delete-popped, op-t-delete}
-use Rattle.machine.specs.Fields.{if-found, owner-popped, owner, field-popped, field-of, pushed, get-field, get-found, op-t-get-field, retitled, retargeted, title-within, set-title, title-vector, state-answered, set-state, set-instructions, set-field, set-popped, set-found, op-t-set-field}
-use Rattle.machine.specs.declared.Tasked.{Tasked}
-use Rattle.machine.specs.declared.FieldResult.{FieldResult}
-use Rattle.machine.specs.declared.FieldResult.the-variants.{NoField}
+use Rattle.mechanism.specs.Create.{with-room, if-within, new, if-vector, with-title, titled, with-state, with-two, op-t-create, delete-found, delete-popped, op-t-delete}
+use Rattle.mechanism.specs.Fields.{if-found, owner-popped, owner, field-popped, field-of, pushed, get-field, get-found, op-t-get-field, title-within, set-title, title-vector, state-answered, set-state, set-instructions, set-field, set-popped, set-found, op-t-set-field}
+use Rattle.machine.specs.Titles.{retitled, retargeted}
+use Rattle.mechanism.specs.declared.Tasked.{Tasked}
+use Rattle.mechanism.specs.declared.FieldResult.{FieldResult}
+use Rattle.mechanism.specs.declared.FieldResult.the-variants.{NoField}
 use Rattle.machine.specs.declared.Machine.{Machine}
-use Rattle.machine.specs.Machines.{registers-of, settled, with-ids}
-use Rattle.machine.specs.Act.{OnAll, on-all, went-by, created, tasked-by, created-by, after-memory}
-use Rattle.machine.specs.Advance.{named-by, named, wanted}
+use Rattle.machine.specs.Machines.{with-ids}
+use Rattle.mechanism.specs.Registers.{registers-of, settled}
+use Rattle.mechanism.specs.Act.{OnAll, on-all, went-by, created, tasked-by, created-by, after-memory}
+use Rattle.mechanism.specs.Advance.{named-by, named, wanted}
 use Rattle.machine.specs.World.{World, world}
-use Rattle.machine.specs.Step.{Stepped, next, inner-did, acts-went}
+use Rattle.mechanism.specs.Step.{Stepped, next, inner-did, acts-went}
 use Rattle.rust.specs.Errors.{StackUnderflow, InvalidType, TaskNotFound, InvalidTaskField, InvalidStatus, MaxStatesError, Out, ok, err}
 use Rattle.rust.specs.InlineVec as inlinevec
 use Rattle.rust.specs.TaskTypes.{TaskVM, TaskField, Title, State, Instructions, default, try-from}

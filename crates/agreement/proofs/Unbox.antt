@@ -7,7 +7,7 @@ use native.Mathlib.Omega.{arith}
 use lib.Dec.{eqb, ltb}
 use lib.ListN.{length, getD, take}
 use lib.Seq.{length-take-le}
-use Rattle.machine.proofs.Either.{either}
+use Rattle.mechanism.proofs.Either.{either}
 use borrow.Author.Tests.{ltb-true, ltb-false, le-leb, eq-eqb, eqb-true}
 use Rattle.utf8.specs.Utf8.{valid}
 use Rattle.values.specs.Values.{is-vec, is-scalar, raw-tag, fat-pointer, to-fat-pointer, to-u32, vec-type, scalar-type, get-value-type}

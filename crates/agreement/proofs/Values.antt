@@ -13,7 +13,7 @@ use Rattle.values.specs.declared.PointerResult.{PointerResult}
 use Rattle.values.specs.declared.PointerResult.the-variants.{Pointer, NoPointer}
 use Rattle.errors.specs.declared.Refusal.the-variants as refusal
 use Rattle.machine.specs.World.{World}
-use Rattle.machine.specs.Step.{Stepped}
+use Rattle.mechanism.specs.Step.{Stepped}
 use Rattle.rust.specs.Errors.{VMError, InvalidType, TypeMismatch, MultiplicationOverflowed, Out, err}
 use Rattle.rust.specs.Values as rust
 use Rattle.rust.specs.Vm.{VM}

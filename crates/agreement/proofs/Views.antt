@@ -14,15 +14,16 @@ use Rattle.inlinevec.proofs.Lists.{pushed-values, length-values}
 use borrow.Author.Tests.{ltb-true}
 use Rattle.pools.specs.Pool.{entries-of}
 use Rattle.storage.specs.declared.Task.{Task}
-use Rattle.machine.specs.Registers.{OnMemory, on-memory, moved}
-use Rattle.machine.specs.Stack.{push-value, pushed-to}
-use Rattle.machine.specs.declared.Registers.{Registers}
-use Rattle.machine.specs.declared.Did.the-variants.{Next}
-use Rattle.machine.specs.Execute.{kept}
+use Rattle.mechanism.specs.Registers.{OnMemory, on-memory, moved}
+use Rattle.mechanism.specs.Stack.{push-value, pushed-to}
+use Rattle.mechanism.specs.declared.Registers.{Registers}
+use Rattle.mechanism.specs.declared.Did.the-variants.{Next}
+use Rattle.mechanism.specs.Execute.{kept}
 use Rattle.machine.specs.declared.Machine.{Machine}
-use Rattle.machine.specs.Machines.{current, with-current, registers-of, settled, with-ids}
+use Rattle.machine.specs.Machines.{current, with-current, with-ids}
+use Rattle.mechanism.specs.Registers.{registers-of, settled}
 use Rattle.machine.specs.World.{World, world}
-use Rattle.machine.specs.Step.{Stepped, inner-did}
+use Rattle.mechanism.specs.Step.{Stepped, inner-did}
 use Rattle.rust.specs.Errors.{StackOverflow, ok}
 use Rattle.rust.specs.InlineVec as rust
 use Rattle.rust.specs.Vm.{VM, at, pushes}

@@ -9,7 +9,7 @@ use Rattle.errors.specs.declared.Refusal.the-variants as refusal
 use Rattle.image.specs.Image.{ImageTask, Image, written}
 use Rattle.image.specs.Numbers.{Bytes}
 use Rattle.machine.specs.World.{World}
-use Rattle.machine.specs.Step.{Stepped, next, refused}
+use Rattle.mechanism.specs.Step.{Stepped, next, refused}
 use Rattle.rust.specs.Errors.{VMError, TaskNotFound, InvalidInstructionsIndex, StackUnderflow, StackOverflow, MSliceParamOverflow, MSliceOutOfBounds, TypeMismatch, InvalidType, EmptyInstructions, MaxStatesError, InvalidStatus, InvalidTaskField, BytesToStringConversionError, AlignmentMismatch, MultiplicationOverflowed, SliceSizeMismatch, Out, ok, err, panic}
 use Rattle.rust.specs.TaskTypes.{TaskVM}
 use Rattle.rust.specs.Storage.{get}

@@ -6,21 +6,23 @@ use mathlib.Core.Path.{_≡_, refl}
 use lib.ListN.{replicate, getD}
 use Rattle.errors.specs.declared.Refusal.the-variants.{EmptyInstructions, StackOverflow, TaskNotFound, InvalidInstructionsIndex, SaveBufferTooShort, BadImage, WrongPhaseOrUnsound}
 use Rattle.machine.specs.declared.Phase.the-variants as phase
-use Rattle.machine.specs.declared.Halt.the-variants as halt
+use Rattle.mechanism.specs.declared.Halt.the-variants as halt
 use Rattle.machine.specs.declared.Outcome.the-variants as outcome
-use Rattle.machine.specs.declared.Went.the-variants.{Onto}
+use Rattle.mechanism.specs.declared.Went.the-variants.{Onto}
 use Rattle.storage.specs.Tasks.{blank}
 use Rattle.values.specs.Values.{to-u32-val, to-calldata-val}
 use Rattle.image.specs.declared.SaveResult.the-variants.{Saved, NotSaved}
 use Rattle.memory.specs.declared.unbox.Return.the-variants.{U32, CallData, NoReturn}
 use Rattle.machine.specs.declared.CreateResult.the-variants.{Created, NotCreated}
 use Rattle.machine.specs.declared.TaskResult.the-variants.{Readable, NotReadable}
-use Rattle.machine.specs.Steps.{Halted, steps}
-use Rattle.machine.specs.Machines.{registers-of, with-pool}
-use Rattle.machine.specs.Frames.{placed}
-use Rattle.machine.specs.Act.{OnAll, act}
+use Rattle.mechanism.specs.Steps.{Halted, steps}
+use Rattle.machine.specs.Machines.{with-pool}
+use Rattle.mechanism.specs.Registers.{registers-of}
+use Rattle.mechanism.specs.Registers.{machine-at}
+use Rattle.mechanism.specs.Act.{OnAll, act}
 use Rattle.machine.specs.World.{World, world}
-use Rattle.machine.specs.Calls.{Reported, with-machine, is-sound, start, go-on}
+use Rattle.machine.specs.Calls.{Reported, is-sound, start, go-on}
+use Rattle.machine.specs.World.{with-machine}
 use Rattle.machine.specs.Creation.{Made, new-machine, create}
 use Rattle.machine.specs.Reads.{SavedTo, value-read, task-read, host-save}
 use Rattle.roundtrips.proofs.Cases.{I1}
@@ -30,22 +32,22 @@ use Rattle.bytecode.specs.Operands as bytecode-operands
 use Rattle.inlinevec.specs.Stacks as inlinevec-stacks
 use Rattle.values.specs.Values as values-values
 use Rattle.pools.specs.Pool as pools-pool
-use Rattle.machine.specs.Stack as opcodes-stack
-use Rattle.machine.specs.Control as opcodes-control
-use Rattle.machine.specs.Operated as core-operated
-use Rattle.machine.specs.Execute as core-execute
-use Rattle.machine.specs.Steps as core-steps
-use Rattle.machine.specs.Changes as tasks-changes
+use Rattle.mechanism.specs.Stack as opcodes-stack
+use Rattle.mechanism.specs.Control as opcodes-control
+use Rattle.mechanism.specs.Operated as core-operated
+use Rattle.mechanism.specs.Execute as core-execute
+use Rattle.mechanism.specs.Steps as core-steps
+use Rattle.mechanism.specs.Changes as tasks-changes
 use Rattle.storage.specs.Tasks as storage-tasks
 use Rattle.storage.specs.Storage as storage-storage
 use Rattle.storage.specs.Table as storage-table
 use Rattle.machine.specs.Machines as calls-machines
-use Rattle.machine.specs.Frames as calls-frames
-use Rattle.machine.specs.Act as calls-act
-use Rattle.machine.specs.Advance as calls-advance
-use Rattle.machine.specs.Turns as calls-turns
+use Rattle.mechanism.specs.Frames as calls-frames
+use Rattle.mechanism.specs.Act as calls-act
+use Rattle.mechanism.specs.Advance as calls-advance
+use Rattle.mechanism.specs.Turns as calls-turns
 use Rattle.machine.specs.World as runs-world
-use Rattle.machine.specs.Step as runs-step
+use Rattle.mechanism.specs.Step as runs-step
 use Rattle.machine.specs.Run as runs-run
 use Rattle.utf8.specs.Grammar as utf8-grammar
 use Rattle.utf8.specs.Utf8 as utf8-utf8
@@ -96,7 +98,7 @@ after r = world (r .report .machine) (r .table) (r .stack) (r .memory) (r .pool)
 
 -- a machine of C1 whose stack has this height
 abbrev high : ℕ → World
-high height = with-machine (fresh C1) (placed (fresh C1 .machine) 0 height)
+high height = with-machine (fresh C1) (machine-at (fresh C1 .machine) 0 height)
 
 -- one with a length of the pool in use, and a next id and an S_LEN count
 abbrev counting : ℕ → ℕ → ℕ → World
@@ -136,9 +138,9 @@ pub record Examples : Type 0 where
   -- and is not finished, so it costs the steps no fuel
   pub steps-before-calldata-left : stepping 9 Calldata .at .left ≡ 9
   -- runner::act::act: END_CALL in main does nothing
-  pub act-end-call : acting End-call .acted .went ≡ Onto (placed (fresh End-call .machine) 1 0)
+  pub act-end-call : acting End-call .acted .went ≡ Onto (machine-at (fresh End-call .machine) 1 0)
   -- PUSH_CALLDATA: one value more, one byte of the pool more, one entry more
-  pub act-calldata : acting Calldata .acted .went ≡ Onto (with-pool (placed (fresh Calldata .machine) 4 1) 5 2)
+  pub act-calldata : acting Calldata .acted .went ≡ Onto (with-pool (machine-at (fresh Calldata .machine) 4 1) 5 2)
   -- the value is calldata, of entry 1
   pub act-calldata-value : getD (acting Calldata .stack) 0 0 ≡ to-calldata-val 1
   -- the entry is the data, joined at the pool's end

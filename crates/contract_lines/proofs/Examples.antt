@@ -11,10 +11,10 @@ use Rattle.text.specs.Lines.{parted, hex-part, lined, put-line}
 use Rattle.listing.specs.declared.Head.the-variants.{Refused}
 use Rattle.listing.specs.Listing.{line-of-head}
 use Rattle.memory.specs.declared.unbox.Return.the-variants.{U32}
-use Rattle.machine.specs.declared.Halt.the-variants.{OutOfFuel}
-use Rattle.machine.specs.Steps.{steps}
+use Rattle.mechanism.specs.declared.Halt.the-variants.{OutOfFuel}
+use Rattle.mechanism.specs.Steps.{steps}
 use Rattle.machine.specs.declared.Outcome.the-variants.{Done}
-use Rattle.machine.specs.Machines.{registers-of}
+use Rattle.mechanism.specs.Registers.{registers-of}
 use Rattle.machine.specs.World.{World, world}
 use Rattle.machine.specs.Run.{run}
 use Rattle.image.specs.declared.SaveResult.the-variants.{NotSaved}

@@ -11,11 +11,11 @@ use Rattle.image.specs.Reading
 use Rattle.image.specs.Reading.{read-record}
 use Rattle.image.specs.Table.{saved-table, save-table}
 use Rattle.table_image.specs.Tables.{held}
-use Rattle.machine.specs.Steps.{stepped, steps}
-use Rattle.machine.specs.Registers.{on-memory}
-use Rattle.machine.specs.Fields.{op-t-get-field, op-t-set-field}
-use Rattle.machine.specs.Frames.{op-call, op-end-call}
-use Rattle.machine.specs.Act.{on-all, act}
+use Rattle.mechanism.specs.Steps.{stepped, steps}
+use Rattle.mechanism.specs.Registers.{on-memory}
+use Rattle.mechanism.specs.Fields.{op-t-get-field, op-t-set-field}
+use Rattle.mechanism.specs.Frames.{op-call, op-end-call}
+use Rattle.mechanism.specs.Act.{on-all, act}
 use Rattle.machine.specs.World.{world}
 use Rattle.machine.specs.Run.{ran-to, run}
 use Rattle.machine.specs.Sound.{tested, sound-world}

@@ -6,7 +6,7 @@ use crate::lines::put_tasks;
 use crate::outcomes::performed;
 use crate::outcomes::to_save;
 use machine::Verb;
-use machine::vm_machines::machine_of;
+use machine::new_machines::machine_of;
 use storage::Task;
 
 // Creates a machine over an image's tasks, starts it, saves it where the run was not refused, and lists its tasks.

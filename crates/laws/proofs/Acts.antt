@@ -15,19 +15,22 @@ use Rattle.bytecode.specs.declared.Extent.the-variants.{Next, Cut}
 use Rattle.storage.specs.declared.Task.{Task}
 use Rattle.storage.specs.Storage.{len-after}
 use Rattle.storage.specs.Tasks.{blank}
-use Rattle.machine.specs.Registers.{OnMemory}
-use Rattle.machine.specs.declared.Registers.{Registers}
-use Rattle.machine.specs.Changes.{keep, applied}
-use Rattle.machine.specs.Create.{op-t-create}
-use Rattle.machine.specs.declared.Change.{Change}
-use Rattle.machine.specs.declared.Tasked.{Tasked}
+use Rattle.mechanism.specs.Registers.{OnMemory}
+use Rattle.mechanism.specs.declared.Registers.{Registers}
+use Rattle.mechanism.specs.Changes.{keep, applied}
+use Rattle.mechanism.specs.Create.{op-t-create}
+use Rattle.mechanism.specs.declared.Change.{Change}
+use Rattle.mechanism.specs.declared.Tasked.{Tasked}
 use Rattle.machine.specs.declared.Machine.{Machine}
-use Rattle.machine.specs.Machines.{current, code-of, registers-of, settled, with-ids}
-use Rattle.machine.specs.Frames.{OnPool, placed}
-use Rattle.machine.specs.Act.{acted, OnAll, on-all, went-by, created, tasked-by, created-by, on-task, after-pool, after-memory, on-frames, op-at, act-by, act-at, act}
-use Rattle.machine.specs.declared.Went.{Went}
-use Rattle.machine.specs.declared.Went.the-variants.{Onto, Refused}
-use Rattle.machine.specs.declared.Acted.{Acted}
+use Rattle.machine.specs.Machines.{current, code-of, with-ids}
+use Rattle.mechanism.specs.Registers.{registers-of, settled}
+use Rattle.mechanism.specs.Frames.{OnPool}
+use Rattle.mechanism.specs.Registers.{machine-at}
+use Rattle.mechanism.specs.Act.{acted, OnAll, on-all, went-by, created, tasked-by, created-by, on-task, after-pool, after-memory, on-frames, act-by, act-at, act}
+use Rattle.machine.specs.Machines.{op-at}
+use Rattle.mechanism.specs.declared.Went.{Went}
+use Rattle.mechanism.specs.declared.Went.the-variants.{Onto, Refused}
+use Rattle.mechanism.specs.declared.Acted.{Acted}
 use Rattle.laws.specs.Counted.{creates, deletes}
 use Rattle.laws.proofs.Either.{either}
 use Rattle.laws.proofs.Parts.{Machined, Tabled}
@@ -135,16 +138,16 @@ module _ (save : ℕ) (stack memory pool ends : List ℕ) (machine : Machine) (t
   unfolding deletes
   none-deleted op other = simp other
 
-  idle-acts : (next : ℕ) → On 0 0 (on-all (acted (Onto (placed machine next (machine .height))) (keep task)) stack memory pool ends)
+  idle-acts : (next : ℕ) → On 0 0 (on-all (acted (Onto (machine-at machine next (machine .height))) (keep task)) stack memory pool ends)
   idle-acts next =
-      keeps (placed machine next (machine .height)) stack memory pool ends (placed-sound next (machine .height) m (omega arith)) (settled-same _)
-      (same-entries (placed machine next (machine .height)) (settled-entries _))
+      keeps (machine-at machine next (machine .height)) stack memory pool ends (placed-sound next (machine .height) m (omega arith)) (settled-same _)
+      (same-entries (machine-at machine next (machine .height)) (settled-entries _))
 
   as-none : (op next : ℕ) → eqb op T-CREATE ≡ false → eqb op T-DELETE ≡ false
-      → On (creates op) (deletes op) (on-all (acted (Onto (placed machine next (machine .height))) (keep task)) stack memory pool ends)
+      → On (creates op) (deletes op) (on-all (acted (Onto (machine-at machine next (machine .height))) (keep task)) stack memory pool ends)
   as-none op next made deleted =
-      subst (λ (c : ℕ). On c (deletes op) (on-all (acted (Onto (placed machine next (machine .height))) (keep task)) stack memory pool ends)) (sym (none-made op made))
-      (subst (λ (d : ℕ). On 0 d (on-all (acted (Onto (placed machine next (machine .height))) (keep task)) stack memory pool ends)) (sym (none-deleted op deleted)) (idle-acts next))
+      subst (λ (c : ℕ). On c (deletes op) (on-all (acted (Onto (machine-at machine next (machine .height))) (keep task)) stack memory pool ends)) (sym (none-made op made))
+      (subst (λ (d : ℕ). On 0 d (on-all (acted (Onto (machine-at machine next (machine .height))) (keep task)) stack memory pool ends)) (sym (none-deleted op deleted)) (idle-acts next))
 
   abbrev OnTask : ℕ → Acted → Type 0
   OnTask op a = On (creates op) (deletes op) (on-all a stack memory pool ends)

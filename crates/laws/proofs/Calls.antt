@@ -6,13 +6,14 @@ use native.Mathlib.Omega.{arith}
 use Rattle.machine.specs.declared.Machine.{Machine}
 use Rattle.machine.specs.declared.Phase.{Phase}
 use Rattle.machine.specs.declared.Phase.the-variants as phase
-use Rattle.machine.specs.Machines.{registers-of, settled}
-use Rattle.machine.specs.Turns.{rewound}
+use Rattle.mechanism.specs.Registers.{registers-of, settled}
+use Rattle.machine.specs.Machines.{rewound}
 use Rattle.machine.specs.declared.Outcome.{Outcome}
 use Rattle.machine.specs.declared.Outcome.the-variants.{Done, Paused, Refused}
 use Rattle.machine.specs.World.{World, world}
 use Rattle.machine.specs.Run.{End, end-at, run}
-use Rattle.machine.specs.Calls.{may-continue, allowed, phased, ended, report, not-allowed, Reported, reports, at-end, with-machine, is-sound, call-with, call, start, go-on}
+use Rattle.machine.specs.Calls.{may-continue, allowed, phased, ended, report, not-allowed, Reported, reports, at-end, is-sound, call-with, call, start, go-on}
+use Rattle.machine.specs.World.{with-machine}
 use Rattle.machine.specs.declared.Verb.{Verb}
 use Rattle.machine.specs.declared.Verb.the-variants.{Start, Continue}
 use Rattle.machine.specs.declared.Allowed.{Allowed}
@@ -46,7 +47,7 @@ left-below n w _ (is-refused k left v refusal sum way over refuses) = omega (ari
 
 -- the phase before the end plays no part in the phase after it
 ended-phase : (machine : Machine) (before : Phase) (outcome : Outcome) → ended (phased machine before) outcome ≡ ended machine outcome
-unfolding ended rewound settled registers-of
+unfolding ended rewound placed settled registers-of
 ended-phase machine before Done = refl
 ended-phase machine before Paused = refl
 ended-phase machine before (Refused refusal) = refl

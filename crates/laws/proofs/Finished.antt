@@ -7,7 +7,7 @@ use Rattle.errors.specs.declared.Refusal.{Refusal}
 use Rattle.machine.specs.declared.Outcome.{Outcome}
 use Rattle.machine.specs.declared.Outcome.the-variants.{Done, Paused, Refused}
 use Rattle.machine.specs.World.{World, at-end}
-use Rattle.machine.specs.Step.{Stepped, next, refused, step}
+use Rattle.mechanism.specs.Step.{Stepped, next, refused, step}
 use Rattle.machine.specs.Run.{End, end-at, follow, run}
 
 -- so many finished instructions lead from one world to another

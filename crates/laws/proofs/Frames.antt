@@ -21,13 +21,15 @@ use Rattle.pools.specs.declared.InstructionsRef.{InstructionsRef}
 use Rattle.pools.specs.declared.BoundsResult.{BoundsResult}
 use Rattle.pools.specs.declared.BoundsResult.the-variants.{Bounds, NoBounds}
 use Rattle.storage.specs.declared.Task.{Task}
-use Rattle.machine.specs.Registers.{moved}
-use Rattle.machine.specs.declared.Registers.{Registers}
+use Rattle.mechanism.specs.Registers.{moved}
+use Rattle.mechanism.specs.declared.Registers.{Registers}
 use Rattle.machine.specs.declared.Machine.{Machine}
-use Rattle.machine.specs.Machines.{current, with-current, registers-of, settled, with-frames}
-use Rattle.machine.specs.Frames.{placed, framed, enter-bounded, enter, call-popped, op-call, left-frame, op-end-call}
-use Rattle.machine.specs.declared.Went.{Went}
-use Rattle.machine.specs.declared.Went.the-variants.{Onto, Refused}
+use Rattle.machine.specs.Machines.{current, with-current, with-frames}
+use Rattle.mechanism.specs.Registers.{registers-of, settled}
+use Rattle.mechanism.specs.Frames.{framed, enter-bounded, enter, call-popped, op-call, left-frame, op-end-call}
+use Rattle.mechanism.specs.Registers.{machine-at}
+use Rattle.mechanism.specs.declared.Went.{Went}
+use Rattle.mechanism.specs.declared.Went.the-variants.{Onto, Refused}
 use Rattle.machine.specs.Sound.{names, sound-frames}
 use Rattle.laws.proofs.Either.{either}
 use Rattle.laws.proofs.Parts.{Machined}
@@ -99,7 +101,7 @@ settled-sound {machine = machine} registers new m r =
 
 -- another place, and a height that is not above
 pub placed-sound : {memory pool save : ℕ} {stack ends : List ℕ} {machine : Machine} (next height : ℕ) → Machined memory pool save stack ends machine → height ≤ machine .height
-    → Machined memory pool save stack ends (placed machine next height)
+    → Machined memory pool save stack ends (machine-at machine next height)
 unfolding registers-of
 placed-sound {memory} {stack = stack} {machine = machine} next height m low =
     settled-sound (moved (registers-of machine) next height) stack m (lowered memory (registers-of machine) stack next height (registered m) low)
@@ -177,19 +179,19 @@ module _ (memory pool save : ℕ) (stack ends : List ℕ) (machine : Machine) (m
       (λ _. framed-on caller _ c many same (frame-pushes (caller .frames) (caller .entries) _ (c .frames) (lt-ltb (entry .0) (caller .entries) less)))
   bounded-on caller entry _ c many same (not-bounded refusal) = refused refusal
 
-  placed-same : (next height : ℕ) → Same machine (placed machine next height)
+  placed-same : (next height : ℕ) → Same machine (machine-at machine next height)
   unfolding settled
   placed-same next height = record { next-id = refl; count = refl }
 
-  placed-entries : (next height : ℕ) → placed machine next height .entries ≡ machine .entries
+  placed-entries : (next height : ℕ) → machine-at machine next height .entries ≡ machine .entries
   unfolding settled
   placed-entries next height = refl
 
   popped-on : (next : ℕ) (task : Task) (result : PopResult) → Pops stack (machine .height) result → On (call-popped ends machine next task result)
   unfolding call-popped enter
   popped-on next task _ (popped new less) =
-      let c : Machined memory pool save stack ends (placed machine next new) = placed-sound next new m (omega arith) in
-      either On (task .living) _ _ (λ _. bounded-on (placed machine next new) (task .«instructions_ref») _ c (placed-entries next new) (placed-same next new) (bounds-told ends _ (task .«instructions_ref»)))
+      let c : Machined memory pool save stack ends (machine-at machine next new) = placed-sound next new m (omega arith) in
+      either On (task .living) _ _ (λ _. bounded-on (machine-at machine next new) (task .«instructions_ref») _ c (placed-entries next new) (placed-same next new) (bounds-told ends _ (task .«instructions_ref»)))
       (λ _. went-on _ c (placed-entries next new) (placed-same next new))
   popped-on next task _ (not-popped refusal) = refused refusal
 

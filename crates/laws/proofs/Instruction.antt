@@ -15,12 +15,12 @@ use Rattle.bytecode.specs.declared.OperandResult.the-variants.{Operand, NoOpera
 use Rattle.inlinevec.specs.declared.PopResult.{PopResult}
 use Rattle.inlinevec.specs.declared.PopResult.the-variants.{Popped, NotPopped}
 use Rattle.values.specs.Values.{to-u32, to-bool-val}
-use Rattle.machine.specs.Registers.{OnStack}
-use Rattle.machine.specs.declared.Registers.{Registers}
-use Rattle.machine.specs.declared.Did.the-variants.{Next}
-use Rattle.machine.specs.Operated.{with-operand, push-u32, push-u8, muli, jump-if-false, m-st, m-sti-of, m-sti}
-use Rattle.machine.specs.Cut.{cut-value, cut-muli, cut-size, cut-m-st, cut-skip, cut-jump, cut}
-use Rattle.machine.specs.Execute.{plain, operated, is-equality, execute, by-extent, instruct}
+use Rattle.mechanism.specs.Registers.{OnStack}
+use Rattle.mechanism.specs.declared.Registers.{Registers}
+use Rattle.mechanism.specs.declared.Did.the-variants.{Next}
+use Rattle.mechanism.specs.Operated.{with-operand, push-u32, push-u8, muli, jump-if-false, m-st, m-sti-of, m-sti}
+use Rattle.mechanism.specs.Cut.{cut-value, cut-muli, cut-size, cut-m-st, cut-skip, cut-jump, cut}
+use Rattle.mechanism.specs.Execute.{plain, operated, is-equality, execute, by-extent, instruct}
 use Rattle.laws.proofs.Either.{either}
 use Rattle.laws.proofs.Stack as stacked
 use Rattle.laws.proofs.Stack.{Registered, Goes, goes, stops, Pops, popped, not-popped, pops, lowered, push-keeps, mul-keeps, muli-keeps, compare-keeps, eq-keeps, dup-keeps, swap-keeps, drop-goes, do-goes, loop-goes, loop-index-keeps, jump-goes, idle-goes}

@@ -10,10 +10,11 @@ use Rattle.storage.specs.Table.{living-of}
 use Rattle.image.specs.Image.{task-count}
 use Rattle.machine.specs.declared.Machine.{Machine}
 use Rattle.machine.specs.World.{World, world}
-use Rattle.machine.specs.Step.{op}
+use Rattle.machine.specs.World.{op}
 use Rattle.machine.specs.Run.{End, run}
-use Rattle.machine.proofs.Either.{either}
-use Rattle.machine.specs.Calls.{spent, allowed, with-machine, is-sound, call-with, call}
+use Rattle.mechanism.proofs.Either.{either}
+use Rattle.machine.specs.Calls.{spent, allowed, is-sound, call-with, call}
+use Rattle.machine.specs.World.{with-machine}
 use Rattle.machine.specs.Reads.{SavedTo, host-save}
 use Rattle.machine.specs.Creation.{create}
 use Rattle.machine.specs.declared.Verb.{Verb}

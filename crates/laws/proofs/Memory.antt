@@ -29,12 +29,12 @@ use Rattle.memory.specs.declared.ElementIndex.{ElementIndex}
 use Rattle.inlinevec.specs.declared.LastResult.{LastResult}
 use Rattle.inlinevec.specs.declared.LastResult.the-variants.{Last, NoLast}
 use Rattle.inlinevec.specs.declared.PopResult.{PopResult}
-use Rattle.machine.specs.Registers.{OnStack, OnMemory, on-memory}
-use Rattle.machine.specs.Store.{placed, store, sized, op-m-st, mut-in-use, ChangedTo, mutated, mutate-at, mutate, mutate-last, mutate-two, op-m-muta}
-use Rattle.machine.specs.declared.Registers.{Registers}
-use Rattle.machine.specs.declared.Did.{Did}
-use Rattle.machine.specs.declared.Did.the-variants.{Next, Refused}
-use Rattle.machine.specs.declared.PopTwoResult.{PopTwoResult}
+use Rattle.mechanism.specs.Registers.{OnStack, OnMemory, on-memory}
+use Rattle.mechanism.specs.Store.{placed, store, sized, op-m-st, mut-in-use, ChangedTo, mutated, mutate-at, mutate, mutate-last, mutate-two, op-m-muta}
+use Rattle.mechanism.specs.declared.Registers.{Registers}
+use Rattle.mechanism.specs.declared.Did.{Did}
+use Rattle.mechanism.specs.declared.Did.the-variants.{Next, Refused}
+use Rattle.mechanism.specs.declared.PopTwoResult.{PopTwoResult}
 use Rattle.laws.specs.Sound.{Inside}
 use Rattle.laws.proofs.Either.{either}
 use Rattle.laws.proofs.Stack as stacked

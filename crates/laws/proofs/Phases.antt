@@ -27,29 +27,33 @@ use Rattle.storage.specs.declared.Task.{Task}
 use Rattle.storage.specs.Tasks.{blank}
 use Rattle.image.specs.declared.SaveResult.{SaveResult}
 use Rattle.image.specs.declared.SaveResult.the-variants.{Saved, NotSaved}
-use Rattle.machine.specs.declared.Did.{Did}
-use Rattle.machine.specs.declared.Did.the-variants as did
-use Rattle.machine.specs.Registers.{OnMemory}
-use Rattle.machine.specs.Changes.{keep}
-use Rattle.machine.specs.Create.{op-t-create, op-t-delete}
-use Rattle.machine.specs.Fields.{op-t-get-field, op-t-set-field}
-use Rattle.machine.specs.declared.Tasked.{Tasked}
-use Rattle.machine.specs.Steps.{is-outer}
+use Rattle.mechanism.specs.declared.Did.{Did}
+use Rattle.mechanism.specs.declared.Did.the-variants as did
+use Rattle.mechanism.specs.Registers.{OnMemory}
+use Rattle.mechanism.specs.Changes.{keep}
+use Rattle.mechanism.specs.Create.{op-t-create, op-t-delete}
+use Rattle.mechanism.specs.Fields.{op-t-get-field, op-t-set-field}
+use Rattle.mechanism.specs.declared.Tasked.{Tasked}
+use Rattle.mechanism.specs.Steps.{is-outer}
 use Rattle.machine.specs.declared.Machine.{Machine}
 use Rattle.machine.specs.declared.Phase.{Phase}
-use Rattle.machine.specs.Machines.{current, code-of, registers-of, settled}
-use Rattle.machine.specs.Frames.{OnPool, on-pool, placed, intern-sized, intern-calldata, with-entry, calldata-pushed, push-calldata, framed, enter-bounded, enter, call-popped, op-call, left-frame, op-end-call}
-use Rattle.machine.specs.Act.{acted, OnAll, on-all, went-by, created, tasked-by, created-by, on-task, after-pool, after-memory, on-frames, op-at, act-by, act-at, act}
-use Rattle.machine.specs.Advance.{wanted}
-use Rattle.machine.specs.Turns.{save-went}
-use Rattle.machine.specs.declared.Went.{Went}
-use Rattle.machine.specs.declared.Went.the-variants.{Onto, Refused}
-use Rattle.machine.specs.declared.Acted.{Acted}
+use Rattle.machine.specs.Machines.{current, code-of}
+use Rattle.mechanism.specs.Registers.{registers-of, settled}
+use Rattle.mechanism.specs.Frames.{OnPool, on-pool, intern-sized, intern-calldata, with-entry, calldata-pushed, push-calldata, framed, enter-bounded, enter, call-popped, op-call, left-frame, op-end-call}
+use Rattle.mechanism.specs.Registers.{machine-at}
+use Rattle.mechanism.specs.Act.{acted, OnAll, on-all, went-by, created, tasked-by, created-by, on-task, after-pool, after-memory, on-frames, act-by, act-at, act}
+use Rattle.machine.specs.Machines.{op-at}
+use Rattle.mechanism.specs.Advance.{wanted}
+use Rattle.mechanism.specs.Turns.{save-went}
+use Rattle.mechanism.specs.declared.Went.{Went}
+use Rattle.mechanism.specs.declared.Went.the-variants.{Onto, Refused}
+use Rattle.mechanism.specs.declared.Acted.{Acted}
 use Rattle.machine.specs.World.{World, world, at-end}
-use Rattle.machine.specs.Step as steps
-use Rattle.machine.specs.Step.{Stepped, inner-did, inner, acts-went, acted-at, acts, saves-went, saves, outer, step}
+use Rattle.mechanism.specs.Step as steps
+use Rattle.mechanism.specs.Step.{Stepped, inner-did, inner, acts-went, acted-at, acts, saves-went, saves, outer, step}
 use Rattle.machine.specs.Run.{End, end-at, follow, run}
-use Rattle.machine.specs.Calls.{phased, with-machine}
+use Rattle.machine.specs.Calls.{phased}
+use Rattle.machine.specs.World.{with-machine}
 
 -- tests of one outcome, each side the same but for a function
 alike : {A B : Type 0} (f : A → B) (b : Bool) (x y : A) (u v : B) → u ≡ f x → v ≡ f y → cond b u v ≡ f (cond b x y)
@@ -120,7 +124,7 @@ module _ (phase : Phase) where
 
   popped-as : (ends : List ℕ) (machine : Machine) (next : ℕ) (task : Task) (result : PopResult) → call-popped ends (phased machine phase) next task result ≡ went-as (call-popped ends machine next task result)
   unfolding call-popped enter settled registers-of went-as
-  popped-as ends machine next task (Popped value height) = alike went-as (task .living) _ _ _ _ (bounded-as (placed machine next height) (task .«instructions_ref») _) refl
+  popped-as ends machine next task (Popped value height) = alike went-as (task .living) _ _ _ _ (bounded-as (machine-at machine next height) (task .«instructions_ref») _) refl
   popped-as ends machine next task (NotPopped refusal) = refl
 
   left-as : (machine : Machine) (result : PopFrameResult) → left-frame (phased machine phase) result ≡ went-as (left-frame machine result)

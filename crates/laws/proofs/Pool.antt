@@ -17,9 +17,10 @@ use Rattle.pools.proofs.Interns.{room, when-room, when-full}
 use Rattle.pools.proofs.Laws.{length-entries, getD-entries, same-lengths, joined, still-sound}
 use Rattle.values.specs.Values.{to-calldata-val}
 use Rattle.machine.specs.declared.Machine.{Machine}
-use Rattle.machine.specs.Machines.{registers-of, settled}
-use Rattle.machine.specs.Frames.{OnPool, on-pool, placed, intern-sized, intern-calldata, with-entry, calldata-pushed, push-calldata}
-use Rattle.machine.specs.declared.Went.the-variants.{Onto, Refused}
+use Rattle.mechanism.specs.Registers.{registers-of, settled}
+use Rattle.mechanism.specs.Frames.{OnPool, on-pool, intern-sized, intern-calldata, with-entry, calldata-pushed, push-calldata}
+use Rattle.mechanism.specs.Registers.{machine-at}
+use Rattle.mechanism.specs.declared.Went.the-variants.{Onto, Refused}
 use Rattle.laws.proofs.Either.{either}
 use Rattle.laws.proofs.Parts.{Entries, Machined}
 use Rattle.laws.proofs.Values.{boxed-no-vec, no-vec-inside}
@@ -88,7 +89,7 @@ module _ (memory save : ℕ) (stack pool ends : List ℕ) (machine : Machine) (m
       → Machined memory (length new-pool) save (set stack (machine .height) (to-calldata-val (machine .entries))) new-ends (with-entry machine next (record { 0 = machine .entries }) bytes)
   unfolding with-entry settled registers-of
   entry-sound bytes new-pool new-ends low new =
-      let p : Machined memory (length pool) save stack ends (placed machine next (machine .height)) = placed-sound next (machine .height) m (omega arith) in
+      let p : Machined memory (length pool) save stack ends (machine-at machine next (machine .height)) = placed-sound next (machine .height) m (omega arith) in
       record {
         values = record {
           high = omega arith;

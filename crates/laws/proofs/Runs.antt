@@ -3,7 +3,7 @@ use Prim.Native.Nat.{ℕ, zero, suc}
 use mathlib.Core.Path.{_≡_, refl, _∙_}
 use native.Mathlib.Omega.{arith}
 use Rattle.machine.specs.World.{World, at-end}
-use Rattle.machine.specs.Step.{Stepped, next, refused, step}
+use Rattle.mechanism.specs.Step.{Stepped, next, refused, step}
 use Rattle.machine.specs.Run.{End, follow, run}
 use Rattle.laws.specs.Sound.{Sound}
 use Rattle.laws.proofs.Either.{either}

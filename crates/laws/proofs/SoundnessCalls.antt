@@ -8,14 +8,16 @@ use lib.ListN.{length}
 use Rattle.machine.specs.declared.Machine.{Machine}
 use Rattle.machine.specs.declared.Phase.{Phase}
 use Rattle.machine.specs.declared.Phase.the-variants.{Done, Paused, Stopped}
-use Rattle.machine.specs.Machines.{settled, with-saved}
-use Rattle.machine.specs.Turns.{rewound}
+use Rattle.machine.specs.Machines.{with-saved}
+use Rattle.mechanism.specs.Registers.{settled}
+use Rattle.machine.specs.Machines.{rewound}
 use Rattle.machine.specs.declared.Outcome.{Outcome}
 use Rattle.machine.specs.declared.Outcome.the-variants as outcome
 use Rattle.image.specs.Table.{SavedTable}
 use Rattle.machine.specs.World.{World, world}
 use Rattle.machine.specs.Run.{run}
-use Rattle.machine.specs.Calls.{fresh, allowed, phased, ended, report, with-machine, is-sound, call-with, call, start, go-on, Reported}
+use Rattle.machine.specs.Calls.{fresh, allowed, phased, ended, report, is-sound, call-with, call, start, go-on, Reported}
+use Rattle.machine.specs.World.{with-machine}
 use Rattle.machine.specs.Reads.{host-saved, SavedTo, host-save-as, host-save}
 use Rattle.machine.specs.declared.Verb.{Verb}
 use Rattle.machine.specs.declared.Verb.the-variants.{Start, Continue}
@@ -48,7 +50,7 @@ phased-sound phase m = record { values = m .values; entries = m .entries; frames
 
 -- the machine at the end of a run
 pub ended-sound : (w : World) (outcome : Outcome) → Sound w → Sound (with-machine w (ended (w .machine) outcome))
-unfolding ended rewound settled
+unfolding ended rewound placed settled
 ended-sound w outcome.Done s = sound (with-machine w (ended (w .machine) outcome.Done)) (phased-sound Done (placed-sound 0 (w .machine .height) (machined w s) (omega arith))) (tabled w s)
 ended-sound w outcome.Paused s = sound (with-machine w (ended (w .machine) outcome.Paused)) (phased-sound Paused (machined w s)) (tabled w s)
 ended-sound w (outcome.Refused refusal) s = sound (with-machine w (ended (w .machine) (outcome.Refused refusal))) (phased-sound Stopped (machined w s)) (tabled w s)

@@ -28,15 +28,15 @@ use Rattle.inlinevec.specs.declared.PopLoopResult.{PopLoopResult}
 use Rattle.inlinevec.specs.declared.PopLoopResult.the-variants.{PoppedLoop, NotPoppedLoop}
 use Rattle.inlinevec.specs.declared.LastLoopResult.{LastLoopResult}
 use Rattle.inlinevec.specs.declared.LastLoopResult.the-variants.{LastLoop, NoLastLoop}
-use Rattle.machine.specs.Registers.{OnStack, on-stack, moved, in-use}
-use Rattle.machine.specs.Stack.{pop-second, pop-first, pop-two, pushed-to, push-value, finish, op-push, on-two, op-mul, op-compare, on-one, op-muli, dup-last, op-dup, swapped, op-swap, dropped, op-drop}
-use Rattle.machine.specs.Control.{looping, opened-to, do-two, op-do, looped, op-loop, index-of, op-loop-index, jumped, op-jump-if-false}
-use Rattle.machine.specs.Equality.{eq-values, turned-if, op-eq}
-use Rattle.machine.specs.declared.Registers.{Registers}
-use Rattle.machine.specs.declared.Did.{Did}
-use Rattle.machine.specs.declared.Did.the-variants.{Next, Refused}
-use Rattle.machine.specs.declared.PopTwoResult.{PopTwoResult}
-use Rattle.machine.specs.declared.PopTwoResult.the-variants.{PoppedTwo, NotPoppedTwo}
+use Rattle.mechanism.specs.Registers.{OnStack, on-stack, moved, in-use}
+use Rattle.mechanism.specs.Stack.{pop-second, pop-first, pop-two, pushed-to, push-value, finish, op-push, on-two, op-mul, op-compare, on-one, op-muli, dup-last, op-dup, swapped, op-swap, dropped, op-drop}
+use Rattle.mechanism.specs.Control.{looping, opened-to, do-two, op-do, looped, op-loop, index-of, op-loop-index, jumped, op-jump-if-false}
+use Rattle.mechanism.specs.Equality.{eq-values, turned-if, op-eq}
+use Rattle.mechanism.specs.declared.Registers.{Registers}
+use Rattle.mechanism.specs.declared.Did.{Did}
+use Rattle.mechanism.specs.declared.Did.the-variants.{Next, Refused}
+use Rattle.mechanism.specs.declared.PopTwoResult.{PopTwoResult}
+use Rattle.mechanism.specs.declared.PopTwoResult.the-variants.{PoppedTwo, NotPoppedTwo}
 use Rattle.laws.specs.Sound.{Inside}
 use Rattle.laws.proofs.Either.{either}
 use Rattle.laws.proofs.Values.{Scalar, scalar, no-scalar, boxed-no-vec, no-vec-inside, mul-scalar, muli-scalar, compare-scalar, eq-scalar}

@@ -13,18 +13,20 @@ use Rattle.pools.specs.Pool.{entry-of}
 use Rattle.storage.specs.declared.Task.{Task}
 use Rattle.storage.specs.Table.{living-of}
 use Rattle.image.specs.Table.{SavedTable}
-use Rattle.machine.specs.Registers.{OnMemory}
-use Rattle.machine.specs.declared.Registers.{Registers}
-use Rattle.machine.specs.Changes.{applied}
-use Rattle.machine.specs.Steps.{is-outer}
-use Rattle.machine.specs.Machines.{registers-of, settled, with-saved}
-use Rattle.machine.specs.Frames.{placed}
-use Rattle.machine.specs.Act.{OnAll}
-use Rattle.machine.specs.Advance.{wanted}
-use Rattle.machine.specs.Turns.{save-went}
+use Rattle.mechanism.specs.Registers.{OnMemory}
+use Rattle.mechanism.specs.declared.Registers.{Registers}
+use Rattle.mechanism.specs.Changes.{applied}
+use Rattle.mechanism.specs.Steps.{is-outer}
+use Rattle.machine.specs.Machines.{with-saved}
+use Rattle.mechanism.specs.Registers.{registers-of, settled}
+use Rattle.mechanism.specs.Registers.{machine-at}
+use Rattle.mechanism.specs.Act.{OnAll}
+use Rattle.mechanism.specs.Advance.{wanted}
+use Rattle.mechanism.specs.Turns.{save-went}
 use Rattle.machine.specs.World.{World, world, code}
-use Rattle.machine.specs.Step.{Stepped, next, inner-did, inner, acts-went, acts, saves-went, saves, op, outer, step}
-use Rattle.machine.specs.Step as runs
+use Rattle.mechanism.specs.Step.{Stepped, next, inner-did, inner, acts-went, acts, saves-went, saves, outer, step}
+use Rattle.machine.specs.World.{op}
+use Rattle.mechanism.specs.Step as runs
 use Rattle.laws.specs.Sound.{Sound}
 use Rattle.laws.specs.Counted.{creates, deletes}
 use Rattle.laws.proofs.Either.{either}
@@ -116,7 +118,7 @@ module _ (w : World) (s : Sound w) where
   behind = (registers-of (w .machine) .place + 1) % 2 ^ 64
 
   abbrev saved-world : ℕ → List ℕ → World
-  saved-world size save = world (with-saved (placed (w .machine) behind (w .machine .height)) size) (w .table) (w .stack) (w .memory) (w .pool) (w .ends) save
+  saved-world size save = world (with-saved (machine-at (w .machine) behind (w .machine .height)) size) (w .table) (w .stack) (w .memory) (w .pool) (w .ends) save
 
   saved-sound : (size : ℕ) (save : List ℕ) → size ≤ length (w .save) → length save ≡ length (w .save) → Sound (saved-world size save)
   saved-sound size save fits long =

@@ -31,18 +31,19 @@ use Rattle.storage.specs.Storage.{find, room, len-after}
 use Rattle.storage.specs.Tasks.{blank, default-state, new-task}
 use Rattle.storage.proofs.Laws.{length-title}
 use Rattle.storage.proofs.Soundness.{Living}
-use Rattle.machine.specs.Registers.{moved}
-use Rattle.machine.specs.declared.Registers.{Registers}
-use Rattle.machine.specs.declared.Did.the-variants.{Next, Refused}
-use Rattle.machine.specs.declared.PopTwoResult.{PopTwoResult}
-use Rattle.machine.specs.Changes.{tasked, applied}
-use Rattle.machine.specs.Create.{with-room, if-within, new, if-vector, with-title, titled, with-state, with-two, op-t-create, delete-found, delete-popped, op-t-delete}
-use Rattle.machine.specs.Fields.{if-found, owner-popped, owner, field-popped, field-of, get-field, get-found, op-t-get-field, retitled, retargeted, title-within, set-title, title-vector, state-answered, set-state, set-instructions, set-field, set-popped, set-found, op-t-set-field}
+use Rattle.mechanism.specs.Registers.{moved}
+use Rattle.mechanism.specs.declared.Registers.{Registers}
+use Rattle.mechanism.specs.declared.Did.the-variants.{Next, Refused}
+use Rattle.mechanism.specs.declared.PopTwoResult.{PopTwoResult}
+use Rattle.mechanism.specs.Changes.{tasked, applied}
+use Rattle.mechanism.specs.Create.{with-room, if-within, new, if-vector, with-title, titled, with-state, with-two, op-t-create, delete-found, delete-popped, op-t-delete}
+use Rattle.mechanism.specs.Fields.{if-found, owner-popped, owner, field-popped, field-of, get-field, get-found, op-t-get-field, title-within, set-title, title-vector, state-answered, set-state, set-instructions, set-field, set-popped, set-found, op-t-set-field}
+use Rattle.machine.specs.Titles.{retitled, retargeted}
 use Rattle.machine.specs.Titles.{title-length, title-bytes}
-use Rattle.machine.specs.declared.Change.{Change}
-use Rattle.machine.specs.declared.Tasked.{Tasked}
-use Rattle.machine.specs.declared.FieldResult.{FieldResult}
-use Rattle.machine.specs.declared.FieldResult.the-variants.{Field, NoField}
+use Rattle.mechanism.specs.declared.Change.{Change}
+use Rattle.mechanism.specs.declared.Tasked.{Tasked}
+use Rattle.mechanism.specs.declared.FieldResult.{FieldResult}
+use Rattle.mechanism.specs.declared.FieldResult.the-variants.{Field, NoField}
 use Rattle.laws.proofs.Either.{either}
 use Rattle.laws.proofs.Parts.{Tabled}
 use Rattle.laws.proofs.Values.{boxed-no-vec}

@@ -16,7 +16,7 @@ use Rattle.values.specs.declared.ValueResult.the-variants.{Value, NoValue}
 use Rattle.values.proofs.Laws.{scalar-is-scalar, scalar-no-vec, bool-turned}
 use Rattle.memory.specs.Change.{inside}
 use Rattle.memory.specs.Reads.{is-m-slice-eq}
-use Rattle.machine.specs.Equality.{eq-right, eq-left, eq-vectors, eq-tagged, eq-right-tag, eq-left-tag, eq-values, turned-if}
+use Rattle.mechanism.specs.Equality.{eq-right, eq-left, eq-vectors, eq-tagged, eq-right-tag, eq-left-tag, eq-values, turned-if}
 use Rattle.laws.specs.Sound.{Inside}
 use Rattle.laws.proofs.Either.{either}
 

@@ -7,11 +7,11 @@ use Rattle.storage.specs.declared.Task.{Task}
 use Rattle.machine.specs.declared.Machine.{Machine}
 use Rattle.machine.specs.declared.Phase.{Phase}
 use Rattle.machine.specs.declared.Phase.the-variants.{New, Paused, Done, Stopped}
-use Rattle.machine.specs.Turns.{rewound}
+use Rattle.machine.specs.Machines.{rewound}
 use Rattle.machine.specs.declared.Ran.{Ran}
 use Rattle.machine.specs.declared.Outcome.{Outcome}
 use Rattle.machine.specs.declared.Outcome.the-variants as outcome
-use Rattle.machine.specs.World.{World, world}
+use Rattle.machine.specs.World.{World, with-machine}
 use Rattle.machine.specs.Run.{End, run}
 use Rattle.machine.specs.Sound.{sound-world}
 use Rattle.machine.specs.declared.Verb.{Verb}
@@ -115,10 +115,6 @@ reports report w = reported report (w .table) (w .stack) (w .memory) (w .pool) (
 abbrev pub at-end : ℕ → End → Reported
 at-end fuel end =
     reports (report fuel (record { machine = end .world .machine; left = end .left; outcome = end .outcome })) (end .world)
-
--- the same lent things beside another machine
-abbrev pub with-machine : World → Machine → World
-with-machine w machine = world machine (w .table) (w .stack) (w .memory) (w .pool) (w .ends) (w .save)
 
 abbrev pub is-sound : World → Bool
 is-sound w = sound-world (w .table) (w .memory) (w .pool) (w .ends) (w .save) (w .machine)

@@ -1,11 +1,12 @@
--- The machine's record: its current frame, its code, its registers.
+-- The machine's record: the frame that runs, its code, its place, and the record with a part of it changed.
 use Prim.Native.Nat.{ℕ}
 use mathlib.Core.List.{List}
+use lib.ListN.{getD}
 use Rattle.inlinevec.specs.Stacks.{of-frames, to-frames, last-two, change-two}
+use Rattle.inlinevec.specs.declared.Loops.{Loops}
 use Rattle.inlinevec.specs.declared.Frame.{Frame}
 use Rattle.inlinevec.specs.declared.Frames.{Frames}
 use Rattle.pools.specs.Pool.{entry-of}
-use Rattle.machine.specs.declared.Registers.{Registers}
 use Rattle.machine.specs.declared.Machine.{Machine}
 
 -- the frame that runs: the last one
@@ -20,23 +21,20 @@ with-current frames frame = to-frames (change-two (of-frames frames) frame)
 unfoldable pub code-of : List ℕ → List ℕ → Machine → List ℕ
 code-of pool ends machine = entry-of pool ends (current (machine .frames) .entry .0)
 
--- what most opcodes change, taken out of the machine
-unfoldable pub registers-of : Machine → Registers
-registers-of machine = record {
-  place = current (machine .frames) .place;
-  height = machine .height;
-  loops = machine .loops;
-  memory = machine .memory;
-}
+-- the opcode at its place; 0 at or past its end
+unfoldable pub op-at : List ℕ → List ℕ → Machine → ℕ
+op-at pool ends machine = getD (code-of pool ends machine) (current (machine .frames) .place) 0
 
--- and put back
-unfoldable pub settled : Machine → Registers → Machine
-settled machine registers = record {
+-- ---- the machine with a part of it changed
+
+-- at another place of its code, with another height
+unfoldable pub placed : Machine → ℕ → ℕ → Machine
+placed machine place height = record {
   phase = machine .phase;
-  height = registers .height;
-  loops = registers .loops;
-  frames = with-current (machine .frames) (record { entry = current (machine .frames) .entry; place = registers .place });
-  memory = registers .memory;
+  height = height;
+  loops = machine .loops;
+  frames = with-current (machine .frames) (record { entry = current (machine .frames) .entry; place = place });
+  memory = machine .memory;
   pool = machine .pool;
   entries = machine .entries;
   «next_id» = machine .«next_id»;
@@ -44,7 +42,39 @@ settled machine registers = record {
   saved = machine .saved;
 }
 
--- the machine with another pool, other frames, other ids, another saved length
+-- at its code's start
+unfoldable pub rewound : Machine → Machine
+rewound machine = placed machine 0 (machine .height)
+
+-- with other loops, another length of memory in use, another pool, other frames, other ids, another saved length
+abbrev pub with-loops : Machine → Loops → Machine
+with-loops machine loops = record {
+  phase = machine .phase;
+  height = machine .height;
+  loops = loops;
+  frames = machine .frames;
+  memory = machine .memory;
+  pool = machine .pool;
+  entries = machine .entries;
+  «next_id» = machine .«next_id»;
+  count = machine .count;
+  saved = machine .saved;
+}
+
+abbrev pub with-used : Machine → ℕ → Machine
+with-used machine used = record {
+  phase = machine .phase;
+  height = machine .height;
+  loops = machine .loops;
+  frames = machine .frames;
+  memory = used;
+  pool = machine .pool;
+  entries = machine .entries;
+  «next_id» = machine .«next_id»;
+  count = machine .count;
+  saved = machine .saved;
+}
+
 abbrev pub with-pool : Machine → ℕ → ℕ → Machine
 with-pool machine bytes entries = record {
   phase = machine .phase;

@@ -7,7 +7,8 @@ use Rattle.machine.specs.declared.Ran.{Ran}
 use Rattle.machine.specs.declared.Outcome.{Outcome}
 use Rattle.machine.specs.declared.Outcome.the-variants.{Done, Paused, Refused}
 use Rattle.machine.specs.World.{World, world, at-end}
-use Rattle.machine.specs.Step.{Stepped, next, refused, step}
+use Rattle.machine.specs.Words.{StepResult, next, refused}
+use Rattle.machine.specs.Step.{step}
 
 -- where a run ended, the fuel that is left, and how it ended
 pub record End : Type 0 where
@@ -25,7 +26,7 @@ ran-to ran table stack memory pool ends save =
     end-at (world (ran .machine) table stack memory pool ends save) (ran .left) (ran .outcome)
 
 -- on after an instruction, or stopped before a refused one
-unfoldable pub follow : (World → End) → World → ℕ → Stepped → End
+unfoldable pub follow : (World → End) → World → ℕ → StepResult → End
 follow others w left (next v) = others v
 follow others w left (refused refusal) = end-at w left (Refused refusal)
 

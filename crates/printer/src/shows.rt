@@ -17,7 +17,7 @@ use crate::show_count;
 use crate::show_creation;
 use crate::show_task;
 use machine::Machine;
-use machine::vm_machines::machine_of;
+use machine::new_machines::machine_of;
 use storage::Task;
 
 // The tasks, by id.

@@ -10,7 +10,7 @@ use borrow.Author.Tests.{eqb-true, le-leb}
 use Rattle.bytecode.specs.Opcodes.{operand-size, PUSH-CALLDATA, M-STI, T-CREATE, T-GET-FIELD, T-SET-FIELD, T-DELETE, CALL, END-CALL}
 use Rattle.bytecode.specs.Operands.{data-size, behind, extent}
 use Rattle.bytecode.specs.declared.Extent.the-variants.{Next}
-use Rattle.machine.specs.Act.{bare}
+use Rattle.mechanism.specs.Act.{bare}
 
 -- by a test
 on-bool : {A : Type 0} (b : Bool) → (b ≡ true → A) → (b ≡ false → A) → A

@@ -13,17 +13,18 @@ use Rattle.inlinevec.specs.Stacks.{if-some, pop}
 use Rattle.pools.specs.Pool.{entry-of, end-of, start-of}
 use Rattle.storage.specs.declared.Task.{Task}
 use Rattle.storage.specs.Tasks.{blank, After, after}
-use Rattle.machine.specs.Changes.{applied}
+use Rattle.mechanism.specs.Changes.{applied}
 use Rattle.machine.specs.declared.Machine.{Machine}
 use Rattle.machine.specs.Machines.{current, code-of}
-use Rattle.machine.specs.Frames.{op-call, op-end-call}
-use Rattle.machine.specs.Act.{on-frames, op-at, act-by, act-at, act, bare}
-use Rattle.machine.specs.Advance.{named-by, named, wanted}
-use Rattle.machine.specs.Turns.{turned}
-use Rattle.machine.specs.declared.Gone.{Gone}
-use Rattle.machine.specs.declared.Went.{Went}
+use Rattle.mechanism.specs.Frames.{op-call, op-end-call}
+use Rattle.mechanism.specs.Act.{on-frames, act-by, act-at, act, bare}
+use Rattle.machine.specs.Machines.{op-at}
+use Rattle.mechanism.specs.Advance.{named-by, named, wanted}
+use Rattle.mechanism.specs.Turns.{turned}
+use Rattle.mechanism.specs.declared.Gone.{Gone}
+use Rattle.mechanism.specs.declared.Went.{Went}
 use Rattle.runner.proofs.Extents.{bare-extent}
-use Rattle.machine.proofs.Settled.{on-bool}
+use Rattle.mechanism.proofs.Settled.{on-bool}
 use Rattle.runner.specs.Behind.{next-of}
 use Rattle.runner.specs.Going.{Acting, acting, after-act, task-turn, slot-at, returned, called, slot-of-call, Entering, entering, call-turn, from-entering, state-turn, act-turn}
 use Rattle.runner.specs.States.{stated}

@@ -11,34 +11,36 @@ use Rattle.errors.specs.declared.Refusal.{Refusal}
 use Rattle.bytecode.specs.Opcodes.{S-SAVE}
 use Rattle.storage.specs.declared.Task.{Task}
 use Rattle.storage.specs.Tasks.{blank}
-use Rattle.machine.specs.Registers.{OnMemory, on-memory}
-use Rattle.machine.specs.declared.Registers.{Registers}
-use Rattle.machine.specs.declared.Did.{Did}
-use Rattle.machine.specs.declared.Did.the-variants.{Next, Refused}
+use Rattle.mechanism.specs.Registers.{OnMemory, on-memory}
+use Rattle.mechanism.specs.declared.Registers.{Registers}
+use Rattle.mechanism.specs.declared.Did.{Did}
+use Rattle.mechanism.specs.declared.Did.the-variants.{Next, Refused}
 use Rattle.image.specs.Table.{SavedTable, saved-table, Measured, measured, refused as not-measured, saved-as, save-table}
 use Rattle.image.specs.declared.SaveResult.the-variants.{Saved, NotSaved}
-use Rattle.machine.specs.Changes.{applied}
-use Rattle.machine.specs.Execute.{instruct}
-use Rattle.machine.specs.Steps.{Halted, is-outer, halted, onward, turn as core-turn, steps}
+use Rattle.mechanism.specs.Changes.{applied}
+use Rattle.mechanism.specs.Execute.{instruct}
+use Rattle.mechanism.specs.Steps.{Halted, is-outer, halted, onward, turn as core-turn, steps}
 use Rattle.machine.specs.declared.Machine.{Machine}
-use Rattle.machine.specs.declared.Halt.{Halt}
-use Rattle.machine.specs.declared.Halt.the-variants as halt
-use Rattle.machine.specs.Machines.{current, code-of, registers-of, settled}
-use Rattle.machine.specs.Advance.{GoneOn, ended as outcome-at, at-hand, wanted, halted-at, after-steps, advance}
-use Rattle.machine.specs.Turns.{turned, save-went, saved}
-use Rattle.machine.specs.Act.{OnAll, op-at}
+use Rattle.mechanism.specs.declared.Halt.{Halt}
+use Rattle.mechanism.specs.declared.Halt.the-variants as halt
+use Rattle.machine.specs.Machines.{current, code-of}
+use Rattle.mechanism.specs.Registers.{registers-of, settled}
+use Rattle.mechanism.specs.Advance.{GoneOn, ended as outcome-at, at-hand, wanted, halted-at, after-steps, advance}
+use Rattle.mechanism.specs.Turns.{turned, save-went, saved}
+use Rattle.mechanism.specs.Act.{OnAll}
+use Rattle.machine.specs.Machines.{op-at}
 use Rattle.machine.specs.declared.Outcome.the-variants as outcomes
-use Rattle.machine.proofs.Either.{either}
-use Rattle.machine.proofs.Acts as acts-law
-use Rattle.machine.proofs.Acts.{act-leaves}
-use Rattle.machine.proofs.Memory.{Leaves, finished, kept}
-use Rattle.machine.proofs.Instruction.{instruct-leaves}
+use Rattle.mechanism.proofs.Either.{either}
+use Rattle.mechanism.proofs.Acts as acts-law
+use Rattle.mechanism.proofs.Acts.{act-leaves}
+use Rattle.mechanism.proofs.Memory.{Leaves, finished, kept}
+use Rattle.mechanism.proofs.Instruction.{instruct-leaves}
 use Rattle.machine.specs.World.{World, world, at-end}
-use Rattle.machine.specs.Step.{Stepped, next, refused, outer, inner, inner-did, acts-went, acts, saves-went, saves, step}
+use Rattle.mechanism.specs.Step.{Stepped, next, refused, outer, inner, inner-did, acts-went, acts, saves-went, saves, step}
 use Rattle.machine.specs.Run.{End, end-at, follow, run}
 use Rattle.runner.specs.Going.{Going, going, beside, Acting, after-act, task-turn, slot-at, act-turn, after-save, save-turn, from-acting, from-saving, turn, begins, goes-on}
 use Rattle.runner.proofs.Stating.{acts-on-record}
-use Rattle.machine.proofs.Settled.{on-bool, registers-settled, code-settled, place-settled, settled-twice, settled-same, op-settled, count-settled}
+use Rattle.mechanism.proofs.Settled.{on-bool, registers-settled, code-settled, place-settled, settled-twice, settled-same, op-settled, count-settled}
 
 -- the machine with everything lent to it
 abbrev pub world-of : Going → World

@@ -16,26 +16,27 @@ use Rattle.storage.specs.declared.StateResult.{StateResult}
 use Rattle.storage.specs.Storage.{find}
 use Rattle.storage.specs.Table.{set-state-at}
 use Rattle.storage.specs.Tasks.{After, after, blank, with-state}
-use Rattle.machine.specs.Registers.{OnMemory, on-memory, moved}
-use Rattle.machine.specs.Stack.{pushed-to, push-value}
-use Rattle.machine.specs.declared.Did.the-variants.{Next}
-use Rattle.machine.specs.Changes.{keep, restate, tasked, applied}
-use Rattle.machine.specs.declared.Tasked.{Tasked}
-use Rattle.machine.specs.Fields.{if-found, owner-popped, owner, field-popped, field-of, get-field, get-found, op-t-get-field, state-answered, set-state, set-field, set-popped, set-found, op-t-set-field}
-use Rattle.machine.specs.declared.FieldResult.the-variants.{Field}
+use Rattle.mechanism.specs.Registers.{OnMemory, on-memory, moved}
+use Rattle.mechanism.specs.Stack.{pushed-to, push-value}
+use Rattle.mechanism.specs.declared.Did.the-variants.{Next}
+use Rattle.mechanism.specs.Changes.{keep, restate, tasked, applied}
+use Rattle.mechanism.specs.declared.Tasked.{Tasked}
+use Rattle.mechanism.specs.Fields.{if-found, owner-popped, owner, field-popped, field-of, get-field, get-found, op-t-get-field, state-answered, set-state, set-field, set-popped, set-found, op-t-set-field}
+use Rattle.mechanism.specs.declared.FieldResult.the-variants.{Field}
 use Rattle.bytecode.specs.Opcodes.{T-GET-FIELD, T-SET-FIELD, CALL, END-CALL}
 use Rattle.machine.specs.declared.Machine.{Machine}
-use Rattle.machine.specs.Machines.{registers-of}
-use Rattle.machine.specs.Frames.{placed}
-use Rattle.machine.specs.Act.{OnAll, on-all, acted, went-by, tasked-by, after-memory, on-task, on-frames, op-at, act, bare}
-use Rattle.machine.specs.Turns.{turned}
-use Rattle.machine.specs.declared.Gone.{Gone}
-use Rattle.machine.specs.declared.Went.the-variants.{Onto}
+use Rattle.mechanism.specs.Registers.{registers-of}
+use Rattle.mechanism.specs.Registers.{machine-at}
+use Rattle.mechanism.specs.Act.{OnAll, on-all, acted, went-by, tasked-by, after-memory, on-task, on-frames, act, bare}
+use Rattle.machine.specs.Machines.{op-at}
+use Rattle.mechanism.specs.Turns.{turned}
+use Rattle.mechanism.specs.declared.Gone.{Gone}
+use Rattle.mechanism.specs.declared.Went.the-variants.{Onto}
 use Rattle.runner.specs.Going.{Acting, acting, after-act, task-turn, slot-at, state-turn, act-turn}
 use Rattle.runner.specs.States.{names-state, whole, went-on, got, gets, sets-to, set-third, sets, stated, restated}
-use Rattle.machine.specs.declared.Stated.{Stated}
+use Rattle.mechanism.specs.declared.Stated.{Stated}
 use Rattle.runner.proofs.Leaving.{place, inside, next-is, acts-bare, returns-turn, calls-turn, at-end-call, at-call, at-other}
-use Rattle.machine.proofs.Settled.{on-bool}
+use Rattle.mechanism.proofs.Settled.{on-bool}
 
 never : {A : Type 0} → false ≡ true → A
 never e = absurd (let z : _≡_ {A = ℕ} 0 1 = ap (λ (b : Bool). cond {A = ℕ} b 1 0) e in omega arith)
@@ -131,7 +132,7 @@ module _ (stack memory pool ends : List ℕ) (machine : Machine) (task : Task) w
     got-acts at =
         acts-bare stack memory pool ends machine task T-GET-FIELD at (λ none. omega arith) refl
         ∙ ap (λ (m : OnMemory). after-memory machine m pool ends task) (get-is stack memory machine (place pool ends machine + 1) task named)
-        ∙ ap (λ (next : ℕ). on-all (acted (Onto (placed machine next (machine .height - 1))) (keep task)) (set stack (machine .height - 2) (to-u32-val (task .state .state))) memory pool ends)
+        ∙ ap (λ (next : ℕ). on-all (acted (Onto (machine-at machine next (machine .height - 1))) (keep task)) (set stack (machine .height - 2) (to-u32-val (task .state .state))) memory pool ends)
         (sym (next-is pool ends machine fits (inside pool ends machine T-GET-FIELD at (λ none. omega arith))))
 
     set-acts : 3 ≤ machine .height → to-u32 (getD stack (machine .height - 3) 0) < task .state .len → to-u32 (getD stack (machine .height - 3) 0) < 255 → op-at pool ends machine ≡ T-SET-FIELD
@@ -140,7 +141,7 @@ module _ (stack memory pool ends : List ℕ) (machine : Machine) (task : Task) w
     set-acts third has few at =
         acts-bare stack memory pool ends machine task T-SET-FIELD at (λ none. omega arith) refl
         ∙ ap (λ (t : Tasked). on-all (tasked-by machine t) stack memory pool ends) (set-is stack memory machine (place pool ends machine + 1) task named third has few)
-        ∙ ap (λ (next : ℕ). on-all (acted (Onto (placed machine next (machine .height - 3))) (restate task (to-u32 (getD stack (machine .height - 3) 0)))) stack memory pool ends)
+        ∙ ap (λ (next : ℕ). on-all (acted (Onto (machine-at machine next (machine .height - 3))) (restate task (to-u32 (getD stack (machine .height - 3) 0)))) stack memory pool ends)
         (sym (next-is pool ends machine fits (inside pool ends machine T-SET-FIELD at (λ none. omega arith))))
 
   -- the answer is that nothing was done, or what the instruction does

@@ -13,18 +13,18 @@ use Rattle.storage.specs.Table.{set-state-at}
 use Rattle.image.specs.declared.SaveResult.{SaveResult}
 use Rattle.image.specs.Table.{SavedTable, saved-table, save-table}
 use Rattle.table_image.specs.Tables.{Held, held}
-use Rattle.machine.specs.Changes.{applied}
-use Rattle.machine.specs.declared.Change.{Change}
+use Rattle.mechanism.specs.Changes.{applied}
+use Rattle.mechanism.specs.declared.Change.{Change}
 use Rattle.machine.specs.declared.Machine.{Machine}
-use Rattle.machine.specs.Act.{OnAll, on-all, act}
-use Rattle.machine.specs.Advance.{GoneOn, gone-on, advance}
-use Rattle.machine.specs.Turns.{begun, turned, saved, ran}
-use Rattle.machine.specs.declared.Acted.{Acted}
-use Rattle.machine.specs.declared.Gone.{Gone}
+use Rattle.mechanism.specs.Act.{OnAll, on-all, act}
+use Rattle.mechanism.specs.Advance.{GoneOn, gone-on, advance}
+use Rattle.mechanism.specs.Turns.{begun, turned, saved, ran}
+use Rattle.mechanism.specs.declared.Acted.{Acted}
+use Rattle.mechanism.specs.declared.Gone.{Gone}
 use Rattle.machine.specs.declared.Ran.{Ran}
 use Rattle.machine.specs.World.{world}
 use Rattle.machine.specs.Run.{End, ran-to, run}
-use Rattle.machine.specs.declared.Stated.{Stated}
+use Rattle.mechanism.specs.declared.Stated.{Stated}
 use Rattle.runner.specs.States.{stated, restated}
 use Rattle.runner.specs.Going.{Going, going, Acting, acting, after-act, task-turn, slot-at, Entering, entering, call-turn, from-entering, returned, state-turn, act-turn, Saving, saving, after-save, save-turn, from-acting, from-saving, turn, beside, begins, goes-on}
 use Rattle.runner.proofs.Leaving.{at-end-call, at-call, at-other}

@@ -7,14 +7,14 @@ use lib.ListN.{getD}
 use Rattle.bytecode.specs.Opcodes.{CALL, END-CALL, S-SAVE}
 use Rattle.storage.specs.declared.Task.{Task}
 use Rattle.storage.specs.Tasks.{After, blank}
-use Rattle.machine.specs.Changes.{applied}
+use Rattle.mechanism.specs.Changes.{applied}
 use Rattle.image.specs.Table.{SavedTable, save-table}
-use Rattle.machine.specs.Frames.{op-call, op-end-call}
-use Rattle.machine.specs.Act.{OnAll, act}
-use Rattle.machine.specs.Advance.{GoneOn, named, wanted, advance}
-use Rattle.machine.specs.Turns.{turned, saved}
-use Rattle.machine.specs.declared.Gone.{Gone}
-use Rattle.machine.specs.declared.Stated.{Stated}
+use Rattle.mechanism.specs.Frames.{op-call, op-end-call}
+use Rattle.mechanism.specs.Act.{OnAll, act}
+use Rattle.mechanism.specs.Advance.{GoneOn, named, wanted, advance}
+use Rattle.mechanism.specs.Turns.{turned, saved}
+use Rattle.mechanism.specs.declared.Gone.{Gone}
+use Rattle.mechanism.specs.declared.Stated.{Stated}
 use Rattle.machine.specs.World.{World, world}
 use Rattle.runner.specs.Behind.{next-of}
 use Rattle.runner.specs.States.{stated, restated}

@@ -10,11 +10,11 @@ use Rattle.storage.specs.declared.Task.{Task}
 use Rattle.storage.specs.Tasks.{After, after}
 use Rattle.storage.specs.Table.{set-state-at}
 use Rattle.machine.specs.declared.Machine.{Machine}
-use Rattle.machine.specs.Frames.{placed}
-use Rattle.machine.specs.declared.Went.{Went}
-use Rattle.machine.specs.declared.Went.the-variants.{Onto}
+use Rattle.mechanism.specs.Registers.{machine-at}
+use Rattle.mechanism.specs.declared.Went.{Went}
+use Rattle.mechanism.specs.declared.Went.the-variants.{Onto}
 use Rattle.runner.specs.Behind.{next-of}
-use Rattle.machine.specs.declared.Stated.{Stated}
+use Rattle.mechanism.specs.declared.Stated.{Stated}
 
 -- the field on top is that of a state, with a value below it, and the task is there
 unfoldable pub names-state : List ℕ → ℕ → Task → Bool
@@ -29,7 +29,7 @@ whole machine = record { whole = true; states = false; state = 0; went = Onto ma
 
 -- it is done, and leaves the machine behind it
 abbrev pub went-on : Machine → ℕ → Went
-went-on machine height = Onto (placed machine (next-of machine) height)
+went-on machine height = Onto (machine-at machine (next-of machine) height)
 
 -- the state is read
 unfoldable pub got : List ℕ → Machine → Task → After Stated (List ℕ)

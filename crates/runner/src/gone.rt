@@ -1,19 +1,19 @@
 // What an instruction that needs a task, a frame or the pool makes of a machine on its way: one unit of fuel less, or a refusal.
 ghost use mathlib.Core.Path.{_≡_};
 ghost use Rattle.storage.specs.Tasks.{after};
-ghost use Rattle.machine.specs.Turns.{begun, spent, turned, saved, ran};
+ghost use Rattle.mechanism.specs.Turns.{begun, spent, turned, saved, ran};
 ghost use Rattle.runner.specs.Behind.{next-of};
 ghost use Rattle.runner.specs.Going.{returned, called};
 use image::SaveResult;
-use machine::Gone;
+use mechanism::Gone;
 use machine::Machine;
 use machine::Outcome;
 use machine::Ran;
-use machine::Went;
-use machine::machines::current;
-use machine::machines::registers_of;
-use machine::machines::settled;
-use machine::stack::moved;
+use mechanism::Went;
+use mechanism::machines::current;
+use mechanism::machines::registers_of;
+use mechanism::machines::settled;
+use mechanism::stack::moved;
 use storage::Task;
 
 // A run at its beginning.

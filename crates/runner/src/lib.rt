@@ -5,7 +5,7 @@ mod states;
 mod wanted;
 
 ghost use mathlib.Core.Path.{_≡_};
-ghost use Rattle.machine.specs.Changes.{applied};
+ghost use Rattle.mechanism.specs.Changes.{applied};
 ghost use Rattle.machine.specs.World.{world};
 ghost use Rattle.runner.specs.Going.{going, acting, task-turn, act-turn, entering, call-turn, saving, save-turn, turn};
 ghost use Rattle.machine.specs.Run.{ran-to, run};
@@ -14,12 +14,12 @@ use crate::act::act;
 use bytecode::opcodes::CALL;
 use bytecode::opcodes::END_CALL;
 use bytecode::opcodes::S_SAVE;
-use machine::Change;
-use machine::Gone;
+use mechanism::Change;
+use mechanism::Gone;
 use machine::Machine;
 use machine::Ran;
-use machine::Stated;
-use machine::Went;
+use mechanism::Stated;
+use mechanism::Went;
 use stepper::advance::advance;
 use storage::Task;
 

@@ -7,11 +7,11 @@ use crate::gone::next_of;
 use bytecode::opcodes::T_GET_FIELD;
 use bytecode::opcodes::T_SET_FIELD;
 use machine::Machine;
-use machine::Stated;
-use machine::Went;
-use machine::machines::registers_of;
-use machine::machines::settled;
-use machine::stack::moved;
+use mechanism::Stated;
+use mechanism::Went;
+use mechanism::machines::registers_of;
+use mechanism::machines::settled;
+use mechanism::stack::moved;
 use storage::Task;
 
 // Whether the field on top of the stack is that of a state, with a value below it, and the task is there.

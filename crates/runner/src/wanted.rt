@@ -1,12 +1,12 @@
 // The slot of the table that an instruction names.
 ghost use mathlib.Core.Path.{_≡_};
 ghost use Rattle.storage.specs.Tasks.{after};
-ghost use Rattle.machine.specs.Advance.{named, wanted};
+ghost use Rattle.mechanism.specs.Advance.{named, wanted};
 use bytecode::opcodes::T_CREATE;
 use bytecode::opcodes::T_GET_FIELD;
 use bytecode::opcodes::T_SET_FIELD;
 use inlinevec::PopResult;
-use machine::Gone;
+use mechanism::Gone;
 use machine::Machine;
 
 // The slot that a value names, with so many values on the stack below it; past the last slot where there is none.

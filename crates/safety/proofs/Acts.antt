@@ -12,20 +12,21 @@ use Rattle.bytecode.specs.Operands.{behind, data-size}
 use Rattle.values.specs.Values.{to-u32-val}
 use Rattle.storage.specs.Tasks.{blank}
 use Rattle.image.specs.declared.SaveResult.{SaveResult}
-use Rattle.machine.specs.Registers.{moved}
-use Rattle.machine.specs.declared.Did.{Did}
-use Rattle.machine.specs.declared.Did.the-variants.{Next}
-use Rattle.machine.specs.Changes.{keep}
-use Rattle.machine.specs.Fields.{op-t-get-field, op-t-set-field}
-use Rattle.machine.specs.declared.Change.{Change}
-use Rattle.machine.specs.Machines.{registers-of}
-use Rattle.machine.specs.Frames.{op-end-call}
-use Rattle.machine.specs.Act.{acted, OnAll, on-all, went-by, created, tasked-by, created-by, on-task, on-frames, act-by, act-at, act}
-use Rattle.machine.specs.Turns.{save-went}
-use Rattle.machine.specs.declared.Went.{Went}
+use Rattle.mechanism.specs.Registers.{moved}
+use Rattle.mechanism.specs.declared.Did.{Did}
+use Rattle.mechanism.specs.declared.Did.the-variants.{Next}
+use Rattle.mechanism.specs.Changes.{keep}
+use Rattle.mechanism.specs.Fields.{op-t-get-field, op-t-set-field}
+use Rattle.mechanism.specs.declared.Change.{Change}
+use Rattle.mechanism.specs.Registers.{registers-of}
+use Rattle.mechanism.specs.Frames.{op-end-call}
+use Rattle.mechanism.specs.Act.{acted, OnAll, on-all, went-by, created, tasked-by, created-by, on-task, on-frames, act-by, act-at, act}
+use Rattle.mechanism.specs.Turns.{save-went}
+use Rattle.mechanism.specs.declared.Went.{Went}
 use Rattle.machine.specs.World.{World, place, at-end}
 use Rattle.machine.specs.World as worlds
-use Rattle.machine.specs.Step.{acts-went, acted-at, acts, saves-went, saved-table-of, saves}
+use Rattle.mechanism.specs.Step.{acts-went, acted-at, acts, saves-went, saves}
+use Rattle.machine.specs.Opcodes.{saving}
 use Rattle.labels.specs.declared.Kind.{Kind}
 use Rattle.labels.specs.declared.Kind.the-variants.{Number, Calldata}
 use Rattle.labels.specs.declared.Exchange.{Exchange}
@@ -190,5 +191,5 @@ module _ (w : World) (labels : ℕ → Label) (lent : length (w .stack) ≡ 1000
     pub save-acts : length code ≤ 65535 → getD code here 0 ≡ S-SAVE → Steps code labels (saves w)
     unfolding saves whole-element plain-element moving-element
     save-acts short e =
-        by-kinds S-SAVE Unchanged e refl refl (λ left s a. saved-steps (saved-table-of w .save) (behind-save e short) s a
+        by-kinds S-SAVE Unchanged e refl refl (λ left s a. saved-steps (saving w .save) (behind-save e short) s a
         (table-saves (w .machine .«next_id») (w .table) (w .pool) (w .ends) (w .machine .entries) (w .save)))

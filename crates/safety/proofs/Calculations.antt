@@ -13,11 +13,11 @@ use Rattle.values.specs.declared.ValueResult.the-variants.{Value}
 use Rattle.values.proofs.Laws.{scalar-no-vec, bool-turned}
 use Rattle.memory.specs.Change.{inside}
 use Rattle.memory.specs.Reads.{is-m-slice-eq}
-use Rattle.machine.specs.Equality.{eq-right, eq-left, eq-vectors, eq-tagged, eq-right-tag, eq-left-tag, eq-values, turned-if}
+use Rattle.mechanism.specs.Equality.{eq-right, eq-left, eq-vectors, eq-tagged, eq-right-tag, eq-left-tag, eq-values, turned-if}
 use Rattle.labels.specs.declared.Kind.{Kind}
 use Rattle.labels.specs.declared.Kind.the-variants.{Number, Calldata, Boolean, Text, Numbers}
 use Rattle.labels.specs.Labels.{same-kind}
-use Rattle.machine.proofs.Either.{either}
+use Rattle.mechanism.proofs.Either.{either}
 use Rattle.safety.specs.Kinds.{HasKind}
 use Rattle.safety.proofs.Kinded.{number-kind, bool-kind}
 use Rattle.safety.proofs.Holds.{Result, is-value, is-refused}

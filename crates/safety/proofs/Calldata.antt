@@ -11,13 +11,14 @@ use Rattle.pools.specs.declared.InternResult.{InternResult}
 use Rattle.pools.proofs.Interns.{when-full}
 use Rattle.inlinevec.specs.declared.Frame.{Frame}
 use Rattle.storage.specs.declared.Task.{Task}
-use Rattle.machine.specs.Machines.{current, registers-of, settled}
-use Rattle.machine.specs.Frames.{OnPool, intern-sized, intern-calldata, with-entry, calldata-pushed, push-calldata}
-use Rattle.machine.specs.Act.{after-pool}
+use Rattle.machine.specs.Machines.{current}
+use Rattle.mechanism.specs.Registers.{registers-of, settled}
+use Rattle.mechanism.specs.Frames.{OnPool, intern-sized, intern-calldata, with-entry, calldata-pushed, push-calldata}
+use Rattle.mechanism.specs.Act.{after-pool}
 use Rattle.machine.specs.World.{World, place}
 use Rattle.machine.specs.World as worlds
-use Rattle.machine.specs.Step.{acts-went}
-use Rattle.machine.proofs.Settled.{current-changed}
+use Rattle.mechanism.specs.Step.{acts-went}
+use Rattle.mechanism.proofs.Settled.{current-changed}
 use Rattle.labels.specs.declared.Kind.{Kind}
 use Rattle.labels.specs.declared.Kind.the-variants.{Calldata}
 use Rattle.labels.specs.Labels.{Open, Label}

@@ -12,23 +12,25 @@ use Rattle.errors.specs.Refusals.{number-of}
 use Rattle.inlinevec.specs.declared.Frame.{Frame}
 use Rattle.inlinevec.specs.declared.Loops.{Loops}
 use Rattle.machine.specs.declared.Machine.{Machine}
-use Rattle.machine.specs.Machines.{current, registers-of, settled}
-use Rattle.machine.specs.Turns.{rewound}
+use Rattle.machine.specs.Machines.{current}
+use Rattle.mechanism.specs.Registers.{registers-of, settled}
+use Rattle.machine.specs.Machines.{rewound}
 use Rattle.machine.specs.declared.Outcome.the-variants.{Done, Paused, Refused}
 use Rattle.machine.specs.World.{World, place, at-end}
 use Rattle.image.specs.declared.SaveResult.{SaveResult}
 use Rattle.image.specs.declared.SaveResult.the-variants.{Saved, NotSaved}
-use Rattle.machine.specs.Step.{saved-table-of}
+use Rattle.machine.specs.Opcodes.{saving}
 use Rattle.machine.specs.Run.{End, end-at}
-use Rattle.machine.proofs.Settled.{current-changed}
-use Rattle.machine.specs.Calls.{may-start, may-continue, fresh, allowing, allowed, ended, report, Reported, reports, not-allowed, with-machine, is-sound, call-with, call}
+use Rattle.mechanism.proofs.Settled.{current-changed}
+use Rattle.machine.specs.Calls.{may-start, may-continue, fresh, allowing, allowed, ended, report, Reported, reports, not-allowed, is-sound, call-with, call}
+use Rattle.machine.specs.World.{with-machine}
 use Rattle.machine.specs.Calls as calls
 use Rattle.machine.specs.declared.Verb.{Verb}
 use Rattle.machine.specs.declared.Verb.the-variants.{Start, Continue}
 use Rattle.machine.specs.Reads.{host-saved, SavedTo, saved-to, host-save}
 use Rattle.labels.specs.declared.Kind.{Kind}
 use Rattle.labels.specs.Labels.{Label, zeroth, Labelled}
-use Rattle.machine.proofs.Either.{either}
+use Rattle.mechanism.proofs.Either.{either}
 use Rattle.laws.specs.After.{world-after, world-saved}
 use Rattle.safety.specs.Lives.{ruled-out, may-come, allows, Safe}
 use Rattle.safety.proofs.Kinded.{nil}
@@ -89,7 +91,7 @@ module _ (program : List ℕ) (kinds : List Kind) (labelled : Labelled program k
     pub safe : Safe kinds r
 
   keeps-done : {v : World} (fuel left : ℕ) → Stands program labels v → at-end v ≡ true → Keeps (calls.at-end fuel (end-at v left Done))
-  unfolding report ended rewound settled registers-of may-continue
+  unfolding report ended rewound placed settled registers-of may-continue
   keeps-done {v} fuel left stands over =
       let e = end-good program kinds labelled v stands over in
       record {
@@ -197,4 +199,4 @@ module _ (program : List ℕ) (kinds : List Kind) (labelled : Labelled program k
   unfolding host-save
   save-keeps w ready =
       either (λ (s : SavedTo). Ready (world-saved s)) (is-sound w) _ _
-      (save-by w (saved-table-of w .answer) (saved-table-of w .save) ready) ready
+      (save-by w (saving w .answer) (saving w .save) ready) ready

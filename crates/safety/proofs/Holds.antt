@@ -15,11 +15,11 @@ use Rattle.values.specs.declared.ValueResult.the-variants.{Value, NoValue}
 use Rattle.inlinevec.specs.Stacks.{if-room, push}
 use Rattle.inlinevec.specs.declared.Loop.{Loop}
 use Rattle.inlinevec.specs.declared.Loops.{Loops}
-use Rattle.machine.specs.Registers.{OnStack, OnMemory}
-use Rattle.machine.specs.Stack.{pushed-to, push-value, finish}
-use Rattle.machine.specs.declared.Registers.{Registers}
-use Rattle.machine.specs.declared.Did.{Did}
-use Rattle.machine.specs.declared.Did.the-variants.{Next, Refused}
+use Rattle.mechanism.specs.Registers.{OnStack, OnMemory}
+use Rattle.mechanism.specs.Stack.{pushed-to, push-value, finish}
+use Rattle.mechanism.specs.declared.Registers.{Registers}
+use Rattle.mechanism.specs.declared.Did.{Did}
+use Rattle.mechanism.specs.declared.Did.the-variants.{Next, Refused}
 use Rattle.labels.specs.declared.Kind.{Kind}
 use Rattle.labels.specs.declared.Kind.the-variants.{Number, Calldata, Text}
 use Rattle.labels.specs.Labels.{Open, opened, Label, label, Start}

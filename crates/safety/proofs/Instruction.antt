@@ -17,13 +17,13 @@ use Rattle.bytecode.specs.declared.OperandResult.the-variants.{Operand}
 use Rattle.values.specs.Values.{to-u32-val}
 use Rattle.inlinevec.specs.Stacks.{if-room, push}
 use Rattle.inlinevec.specs.declared.Loops.{Loops}
-use Rattle.machine.specs.Registers.{on-memory, moved}
-use Rattle.machine.specs.Stack.{pushed-to, push-value, op-push}
-use Rattle.machine.specs.declared.Registers.{Registers}
-use Rattle.machine.specs.declared.Did.the-variants.{Next}
-use Rattle.machine.specs.Operated.{with-operand, push-u32, push-u8, muli, jump-if-false, m-st, payload-of, m-sti-of, m-sti}
-use Rattle.machine.specs.Execute.{plain, operated, is-equality, execute, by-extent, instruct}
-use Rattle.machine.specs.Steps.{is-outer}
+use Rattle.mechanism.specs.Registers.{on-memory, moved}
+use Rattle.mechanism.specs.Stack.{pushed-to, push-value, op-push}
+use Rattle.mechanism.specs.declared.Registers.{Registers}
+use Rattle.mechanism.specs.declared.Did.the-variants.{Next}
+use Rattle.mechanism.specs.Operated.{with-operand, push-u32, push-u8, muli, jump-if-false, m-st, payload-of, m-sti-of, m-sti}
+use Rattle.mechanism.specs.Execute.{plain, operated, is-equality, execute, by-extent, instruct}
+use Rattle.mechanism.specs.Steps.{is-outer}
 use Rattle.labels.specs.declared.Kind.{Kind}
 use Rattle.labels.specs.declared.Kind.the-variants.{Number, Boolean}
 use Rattle.labels.specs.declared.KindResult.the-variants.{Known, Unknown}

@@ -13,8 +13,8 @@ use Rattle.values.proofs.Laws.{scalar-is-scalar, scalar-tag-back, vec-is-vec, v
 use Rattle.inlinevec.specs.Stacks.{if-some, pop, last}
 use Rattle.inlinevec.specs.declared.PopResult.the-variants.{Popped}
 use Rattle.inlinevec.specs.declared.LastResult.the-variants.{Last}
-use Rattle.machine.specs.Stack.{pop-second, pop-first, pop-two}
-use Rattle.machine.specs.declared.PopTwoResult.the-variants.{PoppedTwo}
+use Rattle.mechanism.specs.Stack.{pop-second, pop-first, pop-two}
+use Rattle.mechanism.specs.declared.PopTwoResult.the-variants.{PoppedTwo}
 use Rattle.labels.specs.declared.Kind.{Kind}
 use Rattle.labels.specs.declared.Kind.the-variants.{Number, Calldata, Boolean, Text, Numbers}
 use Rattle.safety.specs.Kinds.{HasKind}

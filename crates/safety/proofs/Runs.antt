@@ -13,7 +13,7 @@ use Rattle.inlinevec.specs.declared.Loops.{Loops}
 use Rattle.machine.specs.declared.Outcome.the-variants.{Done, Paused, Refused}
 use Rattle.machine.specs.World.{World, place, at-end}
 use Rattle.machine.specs.World as worlds
-use Rattle.machine.specs.Step.{Stepped, next, refused}
+use Rattle.mechanism.specs.Step.{Stepped, next, refused}
 use Rattle.machine.specs.Run.{End, end-at, run}
 use Rattle.laws.proofs.Finished.{Reaches, here, onto, Ends, is-done, is-paused, is-refused, finished}
 use Rattle.labels.specs.declared.Kind.{Kind}

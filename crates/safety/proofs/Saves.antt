@@ -16,7 +16,7 @@ use Rattle.image.specs.declared.SaveResult.{SaveResult}
 use Rattle.image.specs.declared.SaveResult.the-variants.{Saved, NotSaved}
 use Rattle.image.specs.Writing.{task-in, size-of, sized, measure}
 use Rattle.image.specs.Table.{Measured, measured, refused, added, measure-slot, count-slot, grown, measures, SavedTable, saved-as, save-table}
-use Rattle.machine.proofs.Either.{either}
+use Rattle.mechanism.proofs.Either.{either}
 use Rattle.safety.proofs.Holds.{May}
 
 data Sizes : SizeResult → Type 0 where

@@ -14,16 +14,16 @@ use Rattle.slices.proofs.Equality.{same-equal}
 use Rattle.inlinevec.specs.Stacks.{if-room, if-some, push-two, last-two, push-loop, pop-loop, last-loop}
 use Rattle.inlinevec.specs.Stacks as stacks
 use Rattle.inlinevec.specs.declared.Loops.{Loops}
-use Rattle.machine.specs.Stack.{op-push, on-two, op-mul, op-compare, on-one, op-muli, dup-last, op-dup, swapped, op-swap, dropped, op-drop}
-use Rattle.machine.specs.Control.{opened-to, do-two, op-do, looped, op-loop, index-of, op-loop-index, jumped, op-jump-if-false}
-use Rattle.machine.specs.Equality.{op-eq}
-use Rattle.machine.specs.declared.Did.{Did}
+use Rattle.mechanism.specs.Stack.{op-push, on-two, op-mul, op-compare, on-one, op-muli, dup-last, op-dup, swapped, op-swap, dropped, op-drop}
+use Rattle.mechanism.specs.Control.{opened-to, do-two, op-do, looped, op-loop, index-of, op-loop-index, jumped, op-jump-if-false}
+use Rattle.mechanism.specs.Equality.{op-eq}
+use Rattle.mechanism.specs.declared.Did.{Did}
 use Rattle.labels.specs.declared.Kind.{Kind}
 use Rattle.labels.specs.declared.Kind.the-variants.{Number, Boolean}
 use Rattle.labels.specs.declared.Exchange.the-variants.{Adds, Turns, Joins, Dup, Swap, Drop, Compares}
 use Rattle.labels.specs.Labels.{letters, Open, opened, Label, closes, needs-open}
 use Rattle.labels.proofs.Comparison.{letters-equal}
-use Rattle.machine.proofs.Either.{either}
+use Rattle.mechanism.proofs.Either.{either}
 use Rattle.safety.proofs.Kinded.{Kinded, more, number-kind, put-on, popped, looked, popped-two}
 use Rattle.safety.proofs.Rules.{passed, no-answer, Shape, is-adds, is-turns, is-joins, is-dup, is-swap, is-drop, is-compares}
 use Rattle.safety.proofs.Calculations.{mul-result, muli-result, compare-result, equality-result}

@@ -11,14 +11,15 @@ use Rattle.inlinevec.specs.Stacks.{change-two}
 use Rattle.inlinevec.specs.declared.Frame.{Frame}
 use Rattle.inlinevec.specs.declared.Frames.{Frames}
 use Rattle.storage.specs.declared.Task.{Task}
-use Rattle.machine.specs.declared.Registers.{Registers}
-use Rattle.machine.specs.declared.Did.{Did}
+use Rattle.mechanism.specs.declared.Registers.{Registers}
+use Rattle.mechanism.specs.declared.Did.{Did}
 use Rattle.machine.specs.declared.Machine.{Machine}
-use Rattle.machine.specs.Machines.{current, with-current, code-of, settled}
+use Rattle.machine.specs.Machines.{current, with-current, code-of}
+use Rattle.mechanism.specs.Registers.{settled}
 use Rattle.machine.specs.World.{World, world, place}
 use Rattle.machine.specs.World as worlds
-use Rattle.machine.specs.Step.{Stepped, next, refused, inner-did}
-use Rattle.machine.proofs.Settled.{current-changed}
+use Rattle.mechanism.specs.Step.{Stepped, next, refused, inner-did}
+use Rattle.mechanism.proofs.Settled.{current-changed}
 use Rattle.labels.specs.Labels.{Label}
 use Rattle.safety.proofs.Rules.{on-bool}
 use Rattle.safety.proofs.Holds.{May, Holds, Good, goes-on, may-end}

@@ -7,12 +7,12 @@ use lib.Dec.{eqb}
 use lib.ListN.{length, getD}
 use borrow.Author.Tests.{leb-false}
 use Rattle.bytecode.specs.Opcodes.{S-SAVE}
-use Rattle.machine.specs.Steps.{is-outer}
-use Rattle.machine.specs.Machines.{registers-of}
-use Rattle.machine.specs.Act.{op-at}
+use Rattle.mechanism.specs.Steps.{is-outer}
+use Rattle.mechanism.specs.Registers.{registers-of}
+use Rattle.machine.specs.Machines.{op-at}
 use Rattle.machine.specs.World.{World, place, at-end}
 use Rattle.machine.specs.World as worlds
-use Rattle.machine.specs.Step.{inner, outer, step}
+use Rattle.mechanism.specs.Step.{inner, outer, step}
 use Rattle.labels.specs.declared.Kind.{Kind}
 use Rattle.labels.specs.Labels.{Open, Label, Labelling}
 use Rattle.safety.proofs.Kinded.{Kinded}

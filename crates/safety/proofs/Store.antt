@@ -21,13 +21,13 @@ use Rattle.memory.specs.declared.ChangeResult.{ChangeResult}
 use Rattle.memory.specs.declared.ChangeResult.the-variants.{Changed, NotChanged}
 use Rattle.memory.specs.declared.SizeResult.the-variants.{Size}
 use Rattle.inlinevec.specs.declared.Loops.{Loops}
-use Rattle.machine.specs.Store.{placed, store, sized, op-m-st, mut-in-use, mutated, mutate-at, mutate, mutate-last, mutate-two, op-m-muta}
-use Rattle.machine.specs.declared.Registers.{Registers}
+use Rattle.mechanism.specs.Store.{placed, store, sized, op-m-st, mut-in-use, mutated, mutate-at, mutate, mutate-last, mutate-two, op-m-muta}
+use Rattle.mechanism.specs.declared.Registers.{Registers}
 use Rattle.labels.specs.declared.Kind.{Kind}
 use Rattle.labels.specs.declared.Kind.the-variants.{Number, Calldata, Boolean, Text, Numbers}
 use Rattle.labels.specs.declared.Exchange.the-variants.{Turns, Changes}
 use Rattle.labels.specs.Labels.{same-kind, Open, Label}
-use Rattle.machine.proofs.Either.{either}
+use Rattle.mechanism.proofs.Either.{either}
 use Rattle.safety.specs.Kinds.{HasKind}
 use Rattle.safety.proofs.Kinded.{Kinded, more, lengths, pushed, text-kind, numbers-kind, popped, looked, popped-two}
 use Rattle.safety.proofs.Rules.{Shape, is-turns, is-changes}

@@ -24,14 +24,14 @@ use Rattle.storage.specs.Tasks.{default-state}
 use Rattle.storage.specs.Tasks as records
 use Rattle.inlinevec.specs.declared.Loops.{Loops}
 use Rattle.machine.specs.Titles.{within, title-bytes}
-use Rattle.machine.specs.Create.{with-room, if-within, new, if-vector, with-title, titled, with-state, with-two, op-t-create, delete-found, delete-popped, op-t-delete}
-use Rattle.machine.specs.Fields.{if-found, owner-popped, owner, field-popped, field-of, get-field, get-found, op-t-get-field, title-within, set-title, title-vector, state-answered, set-state, set-instructions, set-field, set-popped, set-found, op-t-set-field}
-use Rattle.machine.specs.declared.Tasked.{Tasked}
+use Rattle.mechanism.specs.Create.{with-room, if-within, new, if-vector, with-title, titled, with-state, with-two, op-t-create, delete-found, delete-popped, op-t-delete}
+use Rattle.mechanism.specs.Fields.{if-found, owner-popped, owner, field-popped, field-of, get-field, get-found, op-t-get-field, title-within, set-title, title-vector, state-answered, set-state, set-instructions, set-field, set-popped, set-found, op-t-set-field}
+use Rattle.mechanism.specs.declared.Tasked.{Tasked}
 use Rattle.labels.specs.declared.Kind.{Kind}
 use Rattle.labels.specs.declared.Kind.the-variants.{Number, Text}
 use Rattle.labels.specs.declared.Exchange.the-variants.{Takes, Creates}
 use Rattle.labels.specs.Labels.{Open, Label}
-use Rattle.machine.proofs.Either.{either}
+use Rattle.mechanism.proofs.Either.{either}
 use Rattle.safety.specs.Kinds.{HasKind}
 use Rattle.safety.proofs.Kinded.{Kinded, more, number-kind, calldata-kind, popped, popped-two}
 use Rattle.safety.proofs.Rules.{Shape, is-takes, is-creates}

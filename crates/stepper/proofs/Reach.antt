@@ -15,16 +15,16 @@ use Rattle.bytecode.specs.declared.OperandResult.{OperandResult}
 use Rattle.bytecode.specs.declared.OperandResult.the-variants.{Operand, NoOperand}
 use Rattle.bytecode.specs.declared.Extent.{Extent}
 use Rattle.bytecode.specs.declared.Extent.the-variants as extents
-use Rattle.machine.specs.Registers.{OnStack, on-stack, on-memory}
-use Rattle.machine.specs.Control.{op-jump-if-false}
-use Rattle.machine.specs.Equality.{op-eq}
-use Rattle.machine.specs.declared.Registers.{Registers}
-use Rattle.machine.specs.declared.Did.{Did}
-use Rattle.machine.specs.declared.Did.the-variants.{Refused}
-use Rattle.machine.specs.Cut.{cut}
-use Rattle.machine.specs.Operated.{with-operand, push-u32, push-u8, muli, jump-if-false}
-use Rattle.machine.specs.Execute.{kept, plain, operated, is-equality, execute, by-extent, instruct}
-use Rattle.machine.specs.Steps.{is-outer}
+use Rattle.mechanism.specs.Registers.{OnStack, on-stack, on-memory}
+use Rattle.mechanism.specs.Control.{op-jump-if-false}
+use Rattle.mechanism.specs.Equality.{op-eq}
+use Rattle.mechanism.specs.declared.Registers.{Registers}
+use Rattle.mechanism.specs.declared.Did.{Did}
+use Rattle.mechanism.specs.declared.Did.the-variants.{Refused}
+use Rattle.mechanism.specs.Cut.{cut}
+use Rattle.mechanism.specs.Operated.{with-operand, push-u32, push-u8, muli, jump-if-false}
+use Rattle.mechanism.specs.Execute.{kept, plain, operated, is-equality, execute, by-extent, instruct}
+use Rattle.mechanism.specs.Steps.{is-outer}
 use Rattle.stepper.specs.Kinds.{among, plain-opcodes, is-plain, number-opcodes, has-number, pushes-byte, with-number, numbered, stored, cut-stored, stored-by, whole-or-cut}
 
 -- ---- opcodes among some

@@ -6,13 +6,13 @@ use mathlib.Core.Path.{_≡_, refl}
 use native.Mathlib.Omega.{arith}
 use lib.ListN.{length, getD}
 use borrow.Author.Tests.{lt-ltb, le-ltb}
-use Rattle.machine.specs.Execute.{instruct}
-use Rattle.machine.specs.Steps.{is-outer, halted, onward, turn, steps}
+use Rattle.mechanism.specs.Execute.{instruct}
+use Rattle.mechanism.specs.Steps.{is-outer, halted, onward, turn, steps}
 use Rattle.errors.specs.declared.Refusal.{Refusal}
-use Rattle.machine.specs.Registers.{on-memory}
-use Rattle.machine.specs.declared.Did.the-variants.{Next, Refused}
-use Rattle.machine.specs.declared.Registers.{Registers}
-use Rattle.machine.specs.declared.Halt.the-variants as halt
+use Rattle.mechanism.specs.Registers.{on-memory}
+use Rattle.mechanism.specs.declared.Did.the-variants.{Next, Refused}
+use Rattle.mechanism.specs.declared.Registers.{Registers}
+use Rattle.mechanism.specs.declared.Halt.the-variants as halt
 
 module _ (stack memory code : List ℕ) (registers : Registers) (count : ℕ) where
   -- at or past the code's end

@@ -8,16 +8,16 @@ use Rattle.bytecode.specs.Opcodes.{PUSH-U32, S-LEN, DO, LOOP, LOOP-INDEX, DROP,
 use Rattle.bytecode.specs.Operands.{operand, extent}
 use Rattle.bytecode.specs.declared.Extent.{Extent}
 use Rattle.bytecode.specs.declared.Extent.the-variants as extents
-use Rattle.machine.specs.Registers.{OnStack, on-stack, OnMemory, on-memory, moved}
-use Rattle.machine.specs.Stack.{op-push, op-muli}
-use Rattle.machine.specs.Control.{op-jump-if-false}
-use Rattle.machine.specs.Store.{op-m-muta}
-use Rattle.machine.specs.Operated.{with-operand, m-st, m-sti}
-use Rattle.machine.specs.Cut.{cut-m-st}
-use Rattle.machine.specs.Execute.{changed}
-use Rattle.machine.specs.declared.Registers.{Registers}
-use Rattle.machine.specs.declared.Did.{Did}
-use Rattle.machine.specs.declared.Did.the-variants.{Next, Refused}
+use Rattle.mechanism.specs.Registers.{OnStack, on-stack, OnMemory, on-memory, moved}
+use Rattle.mechanism.specs.Stack.{op-push, op-muli}
+use Rattle.mechanism.specs.Control.{op-jump-if-false}
+use Rattle.mechanism.specs.Store.{op-m-muta}
+use Rattle.mechanism.specs.Operated.{with-operand, m-st, m-sti}
+use Rattle.mechanism.specs.Cut.{cut-m-st}
+use Rattle.mechanism.specs.Execute.{changed}
+use Rattle.mechanism.specs.declared.Registers.{Registers}
+use Rattle.mechanism.specs.declared.Did.{Did}
+use Rattle.mechanism.specs.declared.Did.the-variants.{Next, Refused}
 
 -- an opcode that is one of some
 abbrev pub among : ℕ → List ℕ → Bool

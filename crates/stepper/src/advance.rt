@@ -1,15 +1,15 @@
 // The run of the current code, up to an instruction that needs a task, a frame or the pool.
 ghost use mathlib.Core.Path.{_≡_};
-ghost use Rattle.machine.specs.Advance.{halted-at, gone-on, advance};
+ghost use Rattle.mechanism.specs.Advance.{halted-at, gone-on, advance};
 use crate::steps;
-use machine::Gone;
-use machine::Halt;
+use mechanism::Gone;
+use mechanism::Halt;
 use machine::Machine;
 use machine::Outcome;
-use machine::machines::byte_at;
-use machine::machines::code_of;
-use machine::machines::registers_of;
-use machine::machines::settled;
+use mechanism::machines::byte_at;
+use mechanism::machines::code_of;
+use mechanism::machines::registers_of;
+use mechanism::machines::settled;
 
 // Why the steps halted, and what is at hand.
 fn halted_at(machine: Machine, op: u8, left: u64, halt: Halt) -> Gone

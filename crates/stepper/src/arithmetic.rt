@@ -1,13 +1,13 @@
 // Opcodes that multiply numbers: MUL, MULI.
 ghost use mathlib.Core.Path.{_≡_};
-ghost use Rattle.machine.specs.Registers.{on-stack};
-ghost use Rattle.machine.specs.Stack.{op-mul, op-muli};
+ghost use Rattle.mechanism.specs.Registers.{on-stack};
+ghost use Rattle.mechanism.specs.Stack.{op-mul, op-muli};
 use inlinevec::PopResult;
-use machine::Did;
-use machine::PopTwoResult;
-use machine::Registers;
-use machine::stack::finish;
-use machine::stack::pop_two;
+use mechanism::Did;
+use mechanism::PopTwoResult;
+use mechanism::Registers;
+use mechanism::stack::finish;
+use mechanism::stack::pop_two;
 
 // MUL.
 pub(crate) fn op_mul(stack: &mut [u64; 1000], registers: Registers, next: usize) -> Did

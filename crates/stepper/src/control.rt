@@ -3,17 +3,18 @@ ghost use mathlib.Core.Path.{_≡_};
 ghost use Prim.Native.Nat.{_+_, _<_};
 ghost use lib.Dec.{ltb};
 ghost use Rattle.inlinevec.specs.Stacks.{of-loops, to-loops, last-two, pop-two};
-ghost use Rattle.machine.specs.Registers.{on-stack};
-ghost use Rattle.machine.specs.Control.{looping, opened-to, op-do, next-round, op-loop, op-loop-index};
+ghost use Rattle.mechanism.specs.Registers.{on-stack};
+ghost use Rattle.mechanism.specs.Control.{looping, opened-to, op-do, op-loop, op-loop-index};
+ghost use Rattle.machine.specs.Words.{next-round};
 use errors::Refusal;
 use inlinevec::Loop;
 use inlinevec::Loops;
 use inlinevec::LoopsResult;
-use machine::Did;
-use machine::PopTwoResult;
-use machine::Registers;
-use machine::stack::pop_two;
-use machine::stack::push_value;
+use mechanism::Did;
+use mechanism::PopTwoResult;
+use mechanism::Registers;
+use mechanism::stack::pop_two;
+use mechanism::stack::push_value;
 
 // The registers at another place and another height, with other open loops.
 fn looping(registers: Registers, place: usize, height: usize, loops: Loops) -> Registers

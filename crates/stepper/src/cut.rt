@@ -1,16 +1,16 @@
 // An instruction that the code's end cuts: those that pop first still pop, and JUMP_IF_FALSE needs its operand on FALSE only.
 ghost use mathlib.Core.Path.{_≡_};
 ghost use Prim.Native.Nat.{_≤_};
-ghost use Rattle.machine.specs.Cut.{cut-muli, cut-m-st, cut-jump, cut};
+ghost use Rattle.mechanism.specs.Cut.{cut-muli, cut-m-st, cut-jump, cut};
 ghost use Rattle.stepper.specs.Kinds.{cut-stored};
 use bytecode::opcodes::JUMP_IF_FALSE;
 use bytecode::opcodes::M_ST;
 use bytecode::opcodes::MULI;
 use errors::Refusal;
 use inlinevec::PopResult;
-use machine::Did;
-use machine::Registers;
-use machine::stack::moved;
+use mechanism::Did;
+use mechanism::Registers;
+use mechanism::stack::moved;
 
 // MULI.
 fn cut_muli(stack: &[u64; 1000], registers: Registers) -> Did

@@ -1,15 +1,15 @@
 // CALL and END_CALL: a task's frame is entered and left.
 ghost use mathlib.Core.Path.{_≡_};
-ghost use Rattle.machine.specs.Frames.{enter, op-call, op-end-call};
+ghost use Rattle.mechanism.specs.Frames.{enter, op-call, op-end-call};
 use inlinevec::Frame;
 use inlinevec::FramesResult;
 use inlinevec::PopFrameResult;
 use inlinevec::PopResult;
 use machine::Machine;
-use machine::Went;
-use machine::machines::registers_of;
-use machine::machines::settled;
-use machine::stack::moved;
+use mechanism::Went;
+use mechanism::machines::registers_of;
+use mechanism::machines::settled;
+use mechanism::stack::moved;
 use pools::BoundsResult;
 use pools::InstructionsRef;
 use storage::Task;

@@ -1,13 +1,13 @@
 // EQ and NEQ: scalars by their words, vectors by the bytes of memory in use.
 ghost use mathlib.Core.Path.{_≡_};
-ghost use Rattle.machine.specs.Registers.{on-stack};
-ghost use Rattle.machine.specs.Equality.{eq-vectors, eq-tagged, eq-values, turned-if, op-eq};
+ghost use Rattle.mechanism.specs.Registers.{on-stack};
+ghost use Rattle.mechanism.specs.Equality.{eq-vectors, eq-tagged, eq-values, turned-if, op-eq};
 use errors::Refusal;
-use machine::Did;
-use machine::PopTwoResult;
-use machine::Registers;
-use machine::stack::finish;
-use machine::stack::pop_two;
+use mechanism::Did;
+use mechanism::PopTwoResult;
+use mechanism::Registers;
+use mechanism::stack::finish;
+use mechanism::stack::pop_two;
 use values::PointerResult;
 use values::TagResult;
 use values::ValueResult;

@@ -1,10 +1,10 @@
 // The opcode that goes on at another place if FALSE is on top: JUMP_IF_FALSE.
 ghost use mathlib.Core.Path.{_≡_};
-ghost use Rattle.machine.specs.Control.{op-jump-if-false};
+ghost use Rattle.mechanism.specs.Control.{op-jump-if-false};
 use inlinevec::PopResult;
-use machine::Did;
-use machine::Registers;
-use machine::stack::moved;
+use mechanism::Did;
+use mechanism::Registers;
+use mechanism::stack::moved;
 
 // JUMP_IF_FALSE, its operand being there.
 pub(crate) fn op_jump_if_false(stack: &[u64; 1000], registers: Registers, next: usize, target: u32) -> Did

@@ -15,14 +15,14 @@ mod execute;
 mod operated;
 
 ghost use mathlib.Core.Path.{_≡_};
-ghost use Rattle.machine.specs.Steps.{is-outer, stepped, steps};
+ghost use Rattle.mechanism.specs.Steps.{is-outer, stepped, steps};
 use crate::execute::instruct;
 use crate::execute::is_plain;
 use crate::execute::plain;
-use machine::Did;
-use machine::Halt;
-use machine::Registers;
-use machine::Stepped;
+use mechanism::Did;
+use mechanism::Halt;
+use mechanism::Registers;
+use mechanism::Stepped;
 
 // Whether an opcode needs a task, a frame or the pool: PUSH_CALLDATA, T_CREATE to S_SAVE, CALL, END_CALL.
 fn is_outer(op: u8) -> bool

@@ -1,12 +1,12 @@
 // The opcode that changes an element of a vector: M_MUTA.
 ghost use mathlib.Core.Path.{_≡_};
-ghost use Rattle.machine.specs.Store.{changed-in, mut-in-use, changed-to, mutate, op-m-muta};
+ghost use Rattle.mechanism.specs.Store.{changed-in, mut-in-use, changed-to, mutate, op-m-muta};
 use inlinevec::LastResult;
-use machine::Did;
-use machine::PopTwoResult;
-use machine::Registers;
-use machine::stack::moved;
-use machine::stack::pop_two;
+use mechanism::Did;
+use mechanism::PopTwoResult;
+use mechanism::Registers;
+use mechanism::stack::moved;
+use mechanism::stack::pop_two;
 use memory::ChangeResult;
 use memory::ElementIndex;
 use values::FatPointer;

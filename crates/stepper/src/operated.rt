@@ -1,13 +1,13 @@
 // Opcodes with other operands than a number of four bytes: each reads its operands, which stand behind the opcode, and goes on as the function of its name.
 ghost use mathlib.Core.Path.{_≡_};
 ghost use Prim.Native.Nat.{_≤_};
-ghost use Rattle.machine.specs.Registers.{on-stack, on-memory};
-ghost use Rattle.machine.specs.Operated.{push-u8, m-st, m-sti-of, m-sti};
+ghost use Rattle.mechanism.specs.Registers.{on-stack, on-memory};
+ghost use Rattle.mechanism.specs.Operated.{push-u8, m-st, m-sti-of, m-sti};
 use bytecode::OperandResult;
 use bytecode::operands::prepare_u8;
 use bytecode::operands::prepare_u16_from_be_checked;
-use machine::Did;
-use machine::Registers;
+use mechanism::Did;
+use mechanism::Registers;
 use crate::pushes::op_push;
 use crate::store::op_m_st;
 use crate::store::store;

@@ -1,12 +1,12 @@
 // Opcodes that say which of two numbers is less: LT, GT.
 ghost use mathlib.Core.Path.{_≡_};
-ghost use Rattle.machine.specs.Registers.{on-stack};
-ghost use Rattle.machine.specs.Stack.{op-compare};
-use machine::Did;
-use machine::PopTwoResult;
-use machine::Registers;
-use machine::stack::finish;
-use machine::stack::pop_two;
+ghost use Rattle.mechanism.specs.Registers.{on-stack};
+ghost use Rattle.mechanism.specs.Stack.{op-compare};
+use mechanism::Did;
+use mechanism::PopTwoResult;
+use mechanism::Registers;
+use mechanism::stack::finish;
+use mechanism::stack::pop_two;
 
 // LT, and GT where is_lt is false: the right value is on top.
 pub(crate) fn op_compare(stack: &mut [u64; 1000], registers: Registers, next: usize, is_lt: bool) -> Did

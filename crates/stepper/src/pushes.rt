@@ -1,11 +1,11 @@
 // Opcodes that push a number, or the value on top once more: pushes, DUP.
 ghost use mathlib.Core.Path.{_≡_};
-ghost use Rattle.machine.specs.Registers.{on-stack};
-ghost use Rattle.machine.specs.Stack.{op-push, op-dup};
+ghost use Rattle.mechanism.specs.Registers.{on-stack};
+ghost use Rattle.mechanism.specs.Stack.{op-push, op-dup};
 use inlinevec::LastResult;
-use machine::Did;
-use machine::Registers;
-use machine::stack::push_value;
+use mechanism::Did;
+use mechanism::Registers;
+use mechanism::stack::push_value;
 
 // PUSH_U32, PUSH_STATE, PUSH_MAX_STATES, PUSH_TASK_FIELD, S_LEN: a number.
 pub(crate) fn op_push(stack: &mut [u64; 1000], registers: Registers, next: usize, number: u32) -> Did

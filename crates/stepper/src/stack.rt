@@ -1,13 +1,13 @@
 // Opcodes over the stack alone that push nothing: SWAP, DROP.
 ghost use mathlib.Core.Path.{_≡_};
-ghost use Rattle.machine.specs.Registers.{on-stack};
-ghost use Rattle.machine.specs.Stack.{op-swap, op-drop};
+ghost use Rattle.mechanism.specs.Registers.{on-stack};
+ghost use Rattle.mechanism.specs.Stack.{op-swap, op-drop};
 use inlinevec::PopResult;
-use machine::Did;
-use machine::PopTwoResult;
-use machine::Registers;
-use machine::stack::moved;
-use machine::stack::pop_two;
+use mechanism::Did;
+use mechanism::PopTwoResult;
+use mechanism::Registers;
+use mechanism::stack::moved;
+use mechanism::stack::pop_two;
 
 // SWAP.
 pub(crate) fn op_swap(stack: &mut [u64; 1000], registers: Registers, next: usize) -> Did

@@ -1,11 +1,11 @@
 // Opcodes that make a vector: M_STI, M_ST.
 ghost use mathlib.Core.Path.{_≡_};
-ghost use Rattle.machine.specs.Registers.{on-memory};
-ghost use Rattle.machine.specs.Store.{full, store, op-m-st};
+ghost use Rattle.mechanism.specs.Registers.{on-memory};
+ghost use Rattle.mechanism.specs.Store.{full, store, op-m-st};
 use errors::Refusal;
 use inlinevec::PopResult;
-use machine::Did;
-use machine::Registers;
+use mechanism::Did;
+use mechanism::Registers;
 use memory::AllocResult;
 use values::ValueResult;
 

@@ -1,16 +1,16 @@
 // T_CREATE.
 ghost use mathlib.Core.Path.{_≡_};
-ghost use Rattle.machine.specs.Create.{new, titled, op-t-create};
+ghost use Rattle.mechanism.specs.Create.{new, titled, op-t-create};
 use crate::titles::within;
 use inlinevec::PopResult;
-use machine::Did;
-use machine::PopTwoResult;
-use machine::Registers;
-use machine::Tasked;
-use machine::changes::put;
-use machine::changes::refused;
-use machine::stack::moved;
-use machine::stack::pop_two;
+use mechanism::Did;
+use mechanism::PopTwoResult;
+use mechanism::Registers;
+use mechanism::Tasked;
+use mechanism::changes::put;
+use mechanism::changes::refused;
+use mechanism::stack::moved;
+use mechanism::stack::pop_two;
 use memory::ReadResult;
 use pools::InstructionsRef;
 use storage::DefaultResult;

@@ -1,13 +1,13 @@
 // T_DELETE.
 ghost use mathlib.Core.Path.{_≡_};
-ghost use Rattle.machine.specs.Create.{op-t-delete};
+ghost use Rattle.mechanism.specs.Create.{op-t-delete};
 use inlinevec::PopResult;
-use machine::Did;
-use machine::Registers;
-use machine::Tasked;
-use machine::changes::put;
-use machine::changes::refused;
-use machine::stack::moved;
+use mechanism::Did;
+use mechanism::Registers;
+use mechanism::Tasked;
+use mechanism::changes::put;
+use mechanism::changes::refused;
+use mechanism::stack::moved;
 use storage::FindResult;
 use storage::Task;
 use storage::TaskId;

@@ -5,7 +5,7 @@ use machine::Machine;
 use machine::Outcome;
 use machine::Report;
 use machine::Verb;
-use machine::vm_machines::machine_of;
+use machine::new_machines::machine_of;
 use pools::InstructionsRef;
 use storage::Task;
 use storage::TaskId;

@@ -1,6 +1,6 @@
 // Start and continue: what they begin with, the run, and what they make of its end.
 ghost use mathlib.Core.Path.{_≡_};
-ghost use Rattle.machine.specs.Turns.{rewound};
+ghost use Rattle.machine.specs.Machines.{rewound};
 ghost use Rattle.machine.specs.Calls.{may-start, may-continue, fresh, beginning, allowed, phased, ended, spent, report, not-allowed, reported, call};
 ghost use Rattle.machine.specs.World.{world};
 use crate::sound::sound;
@@ -12,9 +12,9 @@ use machine::Phase;
 use machine::Ran;
 use machine::Report;
 use machine::Verb;
-use machine::machines::registers_of;
-use machine::machines::settled;
-use machine::stack::moved;
+use mechanism::machines::registers_of;
+use mechanism::machines::settled;
+use mechanism::stack::moved;
 use storage::Task;
 
 // Whether a run may start: on a new machine, or after one that is done.

@@ -6,7 +6,7 @@ use errors::Refusal;
 use machine::CreateResult;
 use machine::Machine;
 use machine::Prepared;
-use machine::vm_machines::new_machine;
+use machine::new_machines::new_machine;
 use pools::InternResult;
 use storage::Task;
 use table_image::InUse;

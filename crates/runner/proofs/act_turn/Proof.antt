@@ -46,14 +46,14 @@ use Rattle.lent.proofs.Shut.{Shut}
 use Rattle.storage.specs.declared.Task.{Task}
 use Rattle.storage.specs.Tasks.{blank, after}
 use Rattle.storage.proofs.Records.{R, table-ty, val, makes, typed}
-use Rattle.machine.specs.declared.Gone.{Gone}
+use Rattle.mechanism.specs.declared.Gone.{Gone}
 use Rattle.bytecode.specs.Opcodes.{CALL, END-CALL}
-use Rattle.machine.specs.Turns.{turned as turned-of}
-use Rattle.machine.specs.declared.Stated.{Stated}
+use Rattle.mechanism.specs.Turns.{turned as turned-of}
+use Rattle.mechanism.specs.declared.Stated.{Stated}
 use Rattle.runner.specs.Going.{acting, task-turn, slot-at, act-turn, returned as returned-of, entering, call-turn}
 use Rattle.runner.specs.States.{stated as stated-of, restated}
-use Rattle.machine.proofs.Values.{machine-shut, machine-vals, gone-shut, gone-vals, went-shut, went-vals, stated-shut, stated-vals}
-use Rattle.machine.proofs.Fields.{machine-is, left-fits, op-fits, stated-went-is, take-machine, take-left, take-op, take-whole, take-stated-went, is-true, is-false}
+use Rattle.mechanism.proofs.Values.{machine-shut, machine-vals, gone-shut, gone-vals, went-shut, went-vals, stated-shut, stated-vals}
+use Rattle.mechanism.proofs.Fields.{machine-is, left-fits, op-fits, stated-went-is, take-machine, take-left, take-op, take-whole, take-stated-went, is-true, is-false}
 use Rattle.runner.proofs.Turns.{acts-returning, acts-calling, acts-whole, acts-stating}
 use Rattle.runner.proofs.wanted.slot_of.Symbol.{name as #names}
 use Rattle.runner.proofs.gone.returned.Symbol.{name as #leaves}
@@ -67,9 +67,9 @@ use Rattle.runner.proofs.act_turn.Key.{name as #this}
 use Rattle.storage.proofs.Task as task
 use Rattle.storage.proofs.Task.Laws as task-laws
 use Rattle.machine.proofs.Machine as machine
-use Rattle.machine.proofs.Went as went
-use Rattle.machine.proofs.Gone as gone
-use Rattle.machine.proofs.Stated as told
+use Rattle.mechanism.proofs.Went as went
+use Rattle.mechanism.proofs.Gone as gone
+use Rattle.mechanism.proofs.Stated as told
 use Rattle.runner.proofs.wanted.slot_of as names
 use Rattle.runner.proofs.wanted.slot_of.Symbol as names-def
 use Rattle.runner.proofs.wanted.slot_of.Met as names-thm

@@ -43,17 +43,17 @@ use Rattle.storage.specs.Tasks.{after}
 use Rattle.storage.specs.Table.{set-state-at}
 use Rattle.storage.proofs.Records.{R, table-ty, val, makes, typed}
 use Rattle.table_image.specs.Tables.{held}
-use Rattle.machine.specs.Changes.{applied}
-use Rattle.machine.specs.declared.Change.{Change}
-use Rattle.machine.proofs.Values.{change-shut, change-vals}
-use Rattle.machine.proofs.Fields.{state-fits, task-is, take-puts, take-states, take-state, take-task, is-true, is-false}
+use Rattle.mechanism.specs.Changes.{applied}
+use Rattle.mechanism.specs.declared.Change.{Change}
+use Rattle.mechanism.proofs.Values.{change-shut, change-vals}
+use Rattle.mechanism.proofs.Fields.{state-fits, task-is, take-puts, take-states, take-state, take-task, is-true, is-false}
 use Rattle.runner.proofs.Turns.{puts-task, puts-state, puts-none}
 use Rattle.table.proofs.put.Symbol.{name as #put}
 use Rattle.table.proofs.set_state_at.Symbol.{name as #state}
 use Rattle.runner.proofs.apply.Key.{name as #this}
 use Rattle.storage.proofs.StateResult as answer
 use Rattle.storage.proofs.StateResult.Laws as answer-laws
-use Rattle.machine.proofs.Change as change
+use Rattle.mechanism.proofs.Change as change
 use Rattle.table.proofs.put as put
 use Rattle.table.proofs.put.Symbol as put-def
 use Rattle.table.proofs.put.Met as put-thm

@@ -45,9 +45,9 @@ use Rattle.lent.proofs.Shut.{Shut}
 use Rattle.storage.specs.declared.Task.{Task}
 use Rattle.storage.specs.Tasks.{blank, after}
 use Rattle.storage.proofs.Records.{R, table-ty, val, makes, typed}
-use Rattle.machine.specs.declared.Gone.{Gone}
+use Rattle.mechanism.specs.declared.Gone.{Gone}
 use Rattle.runner.specs.Going.{slot-of-call, called as called-of, entering, call-turn}
-use Rattle.machine.proofs.Values.{gone-shut, gone-vals}
+use Rattle.mechanism.proofs.Values.{gone-shut, gone-vals}
 use Rattle.runner.proofs.Leaving.{call-turns}
 use Rattle.runner.proofs.wanted.slot_of_call.Symbol.{name as #names}
 use Rattle.table.proofs.get.Symbol.{name as #gets}
@@ -55,7 +55,7 @@ use Rattle.runner.proofs.gone.called.Symbol.{name as #calls}
 use Rattle.runner.proofs.call_turn.Key.{name as #this}
 use Rattle.storage.proofs.Task as task
 use Rattle.storage.proofs.Task.Laws as task-laws
-use Rattle.machine.proofs.Gone as gone
+use Rattle.mechanism.proofs.Gone as gone
 use Rattle.runner.proofs.wanted.slot_of_call as names
 use Rattle.runner.proofs.wanted.slot_of_call.Symbol as names-def
 use Rattle.runner.proofs.wanted.slot_of_call.Met as names-thm

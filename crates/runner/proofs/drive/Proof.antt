@@ -48,15 +48,15 @@ use Rattle.storage.specs.declared.Task.{Task}
 use Rattle.storage.specs.Tasks.{after}
 use Rattle.storage.proofs.Records.{R, table-ty}
 use Rattle.machine.specs.declared.Machine.{Machine}
-use Rattle.machine.specs.declared.Gone.{Gone}
+use Rattle.mechanism.specs.declared.Gone.{Gone}
 use Rattle.machine.specs.declared.Ran.{Ran}
-use Rattle.machine.specs.Advance.{gone-on, advance as advance-of}
-use Rattle.machine.specs.Turns.{begun as begun-of, ran as ran-of}
+use Rattle.mechanism.specs.Advance.{gone-on, advance as advance-of}
+use Rattle.mechanism.specs.Turns.{begun as begun-of, ran as ran-of}
 use Rattle.machine.specs.World.{world}
 use Rattle.machine.specs.Run.{End, ran-to, run as run-of}
 use Rattle.runner.specs.Going.{Going, going, turn as turn-of}
-use Rattle.machine.proofs.Values.{machine-shut, machine-vals, gone-shut, gone-vals, ran-shut, ran-vals}
-use Rattle.machine.proofs.Fields.{machine-is, left-fits, take-machine, take-left, take-running, is-true, is-false}
+use Rattle.mechanism.proofs.Values.{machine-shut, machine-vals, gone-shut, gone-vals, ran-shut, ran-vals}
+use Rattle.mechanism.proofs.Fields.{machine-is, left-fits, take-machine, take-left, take-running, is-true, is-false}
 use Rattle.runner.proofs.Runs.{comes-to, turns-left}
 use Rattle.runner.proofs.Turns.{begins-same, goes-at, goes-same, goes-fewer, ends-run}
 use Rattle.runner.proofs.gone.begun.Symbol.{name as #begins}
@@ -65,7 +65,7 @@ use Rattle.runner.proofs.turn.Symbol.{name as #turn}
 use Rattle.runner.proofs.gone.ran.Symbol.{name as #ends}
 use Rattle.runner.proofs.drive.Key.{name as #this}
 use Rattle.machine.proofs.Machine as machine
-use Rattle.machine.proofs.Gone as gone
+use Rattle.mechanism.proofs.Gone as gone
 use Rattle.machine.proofs.Ran as ran
 use Rattle.runner.proofs.gone.begun as begins
 use Rattle.runner.proofs.gone.begun.Symbol as begins-def

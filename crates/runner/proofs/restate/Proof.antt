@@ -42,16 +42,16 @@ use Rattle.storage.specs.declared.Task.{Task}
 use Rattle.storage.specs.Tasks.{after}
 use Rattle.storage.specs.Table.{set-state-at}
 use Rattle.storage.proofs.Records.{R, table-ty, val, makes, typed}
-use Rattle.machine.specs.declared.Stated.{Stated}
+use Rattle.mechanism.specs.declared.Stated.{Stated}
 use Rattle.runner.specs.States.{restated}
-use Rattle.machine.proofs.Values.{stated-shut, stated-vals}
-use Rattle.machine.proofs.Fields.{new-state-fits, take-sets, take-new-state, is-true, is-false}
+use Rattle.mechanism.proofs.Values.{stated-shut, stated-vals}
+use Rattle.mechanism.proofs.Fields.{new-state-fits, take-sets, take-new-state, is-true, is-false}
 use Rattle.runner.proofs.Stating.{sets-state, sets-none}
 use Rattle.table.proofs.set_state_at.Symbol.{name as #state}
 use Rattle.runner.proofs.restate.Key.{name as #this}
 use Rattle.storage.proofs.StateResult as answer
 use Rattle.storage.proofs.StateResult.Laws as answer-laws
-use Rattle.machine.proofs.Stated as told
+use Rattle.mechanism.proofs.Stated as told
 use Rattle.table.proofs.set_state_at as state
 use Rattle.table.proofs.set_state_at.Symbol as state-def
 use Rattle.table.proofs.set_state_at.Met as state-thm

@@ -45,11 +45,11 @@ use Rattle.storage.specs.declared.Task.{Task}
 use Rattle.storage.proofs.Records.{R, table-ty, makes, typed}
 use Rattle.image.specs.Table.{saved-table, save-table}
 use Rattle.table_image.specs.Tables.{held}
-use Rattle.machine.specs.declared.Gone.{Gone}
-use Rattle.machine.specs.Turns.{saved as saved-of}
+use Rattle.mechanism.specs.declared.Gone.{Gone}
+use Rattle.mechanism.specs.Turns.{saved as saved-of}
 use Rattle.runner.specs.Going.{saving, save-turn}
-use Rattle.machine.proofs.Values.{machine-shut, gone-shut, gone-vals}
-use Rattle.machine.proofs.Fields.{entries-fit, next-id-fits, machine-is, left-fits, take-machine, take-left, take-entries, take-next-id}
+use Rattle.mechanism.proofs.Values.{machine-shut, gone-shut, gone-vals}
+use Rattle.mechanism.proofs.Fields.{entries-fit, next-id-fits, machine-is, left-fits, take-machine, take-left, take-entries, take-next-id}
 use Rattle.runner.proofs.Turns.{save-turns}
 use Rattle.table_image.proofs.save_table.Symbol.{name as #save}
 use Rattle.runner.proofs.gone.saved.Symbol.{name as #kept}
@@ -57,7 +57,7 @@ use Rattle.runner.proofs.save_turn.Key.{name as #this}
 use Rattle.image.proofs.SaveResult as saved
 use Rattle.image.proofs.SaveResult.Laws as saved-laws
 use Rattle.machine.proofs.Machine as machine
-use Rattle.machine.proofs.Gone as gone
+use Rattle.mechanism.proofs.Gone as gone
 use Rattle.table_image.proofs.save_table as save
 use Rattle.table_image.proofs.save_table.Symbol as save-def
 use Rattle.table_image.proofs.save_table.Met as save-thm

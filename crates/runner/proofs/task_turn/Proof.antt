@@ -45,14 +45,14 @@ use Rattle.lent.proofs.Shut.{Shut}
 use Rattle.storage.specs.declared.Task.{Task}
 use Rattle.storage.specs.Tasks.{blank, after}
 use Rattle.storage.proofs.Records.{R, table-ty, val, makes, typed}
-use Rattle.machine.specs.Changes.{applied}
-use Rattle.machine.specs.declared.Acted.{Acted}
-use Rattle.machine.specs.declared.Gone.{Gone}
-use Rattle.machine.specs.Act.{on-all, act as act-of}
-use Rattle.machine.specs.Turns.{turned as turned-of}
+use Rattle.mechanism.specs.Changes.{applied}
+use Rattle.mechanism.specs.declared.Acted.{Acted}
+use Rattle.mechanism.specs.declared.Gone.{Gone}
+use Rattle.mechanism.specs.Act.{on-all, act as act-of}
+use Rattle.mechanism.specs.Turns.{turned as turned-of}
 use Rattle.runner.specs.Going.{acting, slot-at, task-turn}
-use Rattle.machine.proofs.Values.{machine-shut, change-shut, acted-shut, acted-vals, gone-shut, gone-vals, went-shut}
-use Rattle.machine.proofs.Fields.{went-is, change-is, machine-is, left-fits, take-machine, take-left, take-went, take-change}
+use Rattle.mechanism.proofs.Values.{machine-shut, change-shut, acted-shut, acted-vals, gone-shut, gone-vals, went-shut}
+use Rattle.mechanism.proofs.Fields.{went-is, change-is, machine-is, left-fits, take-machine, take-left, take-went, take-change}
 use Rattle.runner.proofs.Turns.{task-turns}
 use Rattle.runner.proofs.wanted.slot_of.Symbol.{name as #names}
 use Rattle.table.proofs.get.Symbol.{name as #get}
@@ -63,10 +63,10 @@ use Rattle.runner.proofs.task_turn.Key.{name as #this}
 use Rattle.storage.proofs.Task as task
 use Rattle.storage.proofs.Task.Laws as task-laws
 use Rattle.machine.proofs.Machine as machine
-use Rattle.machine.proofs.Change as change
-use Rattle.machine.proofs.Went as went
-use Rattle.machine.proofs.Acted as acted
-use Rattle.machine.proofs.Gone as gone
+use Rattle.mechanism.proofs.Change as change
+use Rattle.mechanism.proofs.Went as went
+use Rattle.mechanism.proofs.Acted as acted
+use Rattle.mechanism.proofs.Gone as gone
 use Rattle.runner.proofs.wanted.slot_of as names
 use Rattle.runner.proofs.wanted.slot_of.Symbol as names-def
 use Rattle.runner.proofs.wanted.slot_of.Met as names-thm

@@ -45,15 +45,15 @@ use Rattle.lent.proofs.Shut.{Shut}
 use Rattle.storage.specs.declared.Task.{Task}
 use Rattle.storage.specs.Tasks.{after}
 use Rattle.storage.proofs.Records.{R, table-ty}
-use Rattle.machine.specs.declared.Gone.{Gone}
+use Rattle.mechanism.specs.declared.Gone.{Gone}
 use Rattle.runner.specs.Going.{going, acting, act-turn, saving, save-turn, turn as turn-of}
-use Rattle.machine.proofs.Values.{gone-shut, gone-vals}
-use Rattle.machine.proofs.Fields.{take-running, take-op, is-true, is-false}
+use Rattle.mechanism.proofs.Values.{gone-shut, gone-vals}
+use Rattle.mechanism.proofs.Fields.{take-running, take-op, is-true, is-false}
 use Rattle.runner.proofs.Turns.{turns-saving, turns-acting, turns-none}
 use Rattle.runner.proofs.save_turn.Symbol.{name as #saves}
 use Rattle.runner.proofs.act_turn.Symbol.{name as #acts}
 use Rattle.runner.proofs.turn.Key.{name as #this}
-use Rattle.machine.proofs.Gone as gone
+use Rattle.mechanism.proofs.Gone as gone
 use Rattle.runner.proofs.save_turn as saves
 use Rattle.runner.proofs.save_turn.Symbol as saves-def
 use Rattle.runner.proofs.save_turn.Met as saves-thm

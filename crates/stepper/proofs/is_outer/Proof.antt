@@ -1,7 +1,7 @@
 -- `stepper::is_outer` meets its contract.
 use borrow.Author.Tests.{ne-eqb}
 use Rattle.stepper.proofs.is_outer.Statement.{statement}
-use Rattle.machine.specs.Steps.{is-outer}
+use Rattle.mechanism.specs.Steps.{is-outer}
 use Rattle.stepper.proofs.is_outer.Tie as tie
 
 returns : tie.Need-returns

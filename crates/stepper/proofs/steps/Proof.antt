@@ -5,11 +5,11 @@ use borrow.Author.Needs.{needs}
 use Rattle.stepper.proofs.Reach.{instruct-plain, instruct-uncounted}
 use Rattle.stepper.proofs.Turns.{ended, exhausted, at-outer, refused, finished}
 use Rattle.stepper.proofs.steps.Statement.{statement}
-use Rattle.machine.specs.Execute.{kept}
-use Rattle.machine.specs.Steps.{stepped, steps}
-use Rattle.machine.specs.declared.Stepped.{Stepped}
-use Rattle.machine.specs.Registers.{OnStack, on-stack, on-memory}
-use Rattle.machine.specs.declared.Did.{Did}
+use Rattle.mechanism.specs.Execute.{kept}
+use Rattle.mechanism.specs.Steps.{stepped, steps}
+use Rattle.mechanism.specs.declared.Stepped.{Stepped}
+use Rattle.mechanism.specs.Registers.{OnStack, on-stack, on-memory}
+use Rattle.mechanism.specs.declared.Did.{Did}
 use Rattle.stepper.proofs.steps.Tie as tie
 
 abbrev Inv-loop : tie.InvT-loop

@@ -48,21 +48,21 @@ use Rattle.storage.proofs.Task as task
 use Rattle.storage.proofs.Task.Laws as task-laws
 use Rattle.storage.proofs.Records.{R, table-ty, val, makes, typed}
 use Rattle.machine.proofs.Machine as machine
-use Rattle.machine.proofs.Values.{machine-shut, machine-vals}
+use Rattle.mechanism.proofs.Values.{machine-shut, machine-vals}
 use Rattle.machine.specs.declared.Verb.the-variants.{Start}
 use Rattle.machine.proofs.Verb as verb
 use Rattle.machine.proofs.Report as report
 use Rattle.machine.proofs.CreateResult as created
-use Rattle.machine.proofs.VmValues.{verb-shut, start-val, start-typed, report-shut, report-vals, created-shut, created-vals, start-is}
+use Rattle.mechanism.proofs.VmValues.{verb-shut, start-val, start-typed, report-shut, report-vals, created-shut, created-vals, start-is}
 use Rattle.unsound.proofs.Silent.{silent}
 use Rattle.vm.proofs.creating.create.Symbol.{name as #creates}
 use Rattle.vm.proofs.creating.create as creates
 use Rattle.vm.proofs.creating.create.Symbol as creates-def
 use Rattle.vm.proofs.creating.create.Met as creates-thm
-use Rattle.machine.proofs.vm_machines.machine_of.Symbol.{name as #begins}
-use Rattle.machine.proofs.vm_machines.machine_of as begins
-use Rattle.machine.proofs.vm_machines.machine_of.Symbol as begins-def
-use Rattle.machine.proofs.vm_machines.machine_of.Met as begins-thm
+use Rattle.machine.proofs.new_machines.machine_of.Symbol.{name as #begins}
+use Rattle.machine.proofs.new_machines.machine_of as begins
+use Rattle.machine.proofs.new_machines.machine_of.Symbol as begins-def
+use Rattle.machine.proofs.new_machines.machine_of.Met as begins-thm
 use Rattle.unsound.proofs.forged_machine.Symbol.{name as #forges}
 use Rattle.unsound.proofs.forged_machine as forges
 use Rattle.unsound.proofs.forged_machine.Symbol as forges-def

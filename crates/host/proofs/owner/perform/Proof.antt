@@ -49,13 +49,13 @@ use Rattle.text.specs.Lines.{lined}
 use Rattle.text.proofs.LineResult as line
 use Rattle.machine.proofs.Machine as machine
 use Rattle.machine.specs.World.{world}
-use Rattle.machine.proofs.Values.{machine-shut, machine-vals}
+use Rattle.mechanism.proofs.Values.{machine-shut, machine-vals}
 use Rattle.machine.specs.declared.Verb.the-variants.{Start}
 use Rattle.machine.proofs.Verb as verb
 use Rattle.machine.proofs.Report as report
 use Rattle.machine.proofs.SaveReport as save-report
 use Rattle.machine.proofs.CreateResult as created
-use Rattle.machine.proofs.VmValues.{verb-shut, start-val, start-typed, report-shut, report-vals, save-report-shut, save-report-vals, created-shut, created-vals, start-is}
+use Rattle.mechanism.proofs.VmValues.{verb-shut, start-val, start-typed, report-shut, report-vals, save-report-shut, save-report-vals, created-shut, created-vals, start-is}
 use Rattle.machine.specs.Calls.{reported, start as start-of}
 use Rattle.machine.specs.Creation.{machine-of, made, create as create-of}
 use Rattle.machine.specs.Reads.{saved-to, host-save}
@@ -70,10 +70,10 @@ use Rattle.vm.proofs.creating.create.Symbol.{name as #creates}
 use Rattle.vm.proofs.creating.create as creates
 use Rattle.vm.proofs.creating.create.Symbol as creates-def
 use Rattle.vm.proofs.creating.create.Met as creates-thm
-use Rattle.machine.proofs.vm_machines.machine_of.Symbol.{name as #begins}
-use Rattle.machine.proofs.vm_machines.machine_of as begins
-use Rattle.machine.proofs.vm_machines.machine_of.Symbol as begins-def
-use Rattle.machine.proofs.vm_machines.machine_of.Met as begins-thm
+use Rattle.machine.proofs.new_machines.machine_of.Symbol.{name as #begins}
+use Rattle.machine.proofs.new_machines.machine_of as begins
+use Rattle.machine.proofs.new_machines.machine_of.Symbol as begins-def
+use Rattle.machine.proofs.new_machines.machine_of.Met as begins-thm
 use Rattle.vm.proofs.calling.call.Symbol.{name as #starts}
 use Rattle.vm.proofs.calling.call as starts
 use Rattle.vm.proofs.calling.call.Symbol as starts-def

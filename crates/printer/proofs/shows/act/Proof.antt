@@ -48,14 +48,14 @@ use Rattle.storage.proofs.Records.{R, table-ty}
 use Rattle.machine.specs.declared.Machine.{Machine}
 use Rattle.machine.proofs.Machine as machine
 use Rattle.machine.specs.World.{world}
-use Rattle.machine.proofs.Fields.{is-true, is-false}
-use Rattle.machine.proofs.Values.{machine-shut, machine-vals}
+use Rattle.mechanism.proofs.Fields.{is-true, is-false}
+use Rattle.mechanism.proofs.Values.{machine-shut, machine-vals}
 use Rattle.machine.specs.Calls.{reported, call as call-of}
 use Rattle.machine.specs.Reads.{saved-to, host-save}
 use Rattle.machine.proofs.Verb as verb-row
 use Rattle.machine.proofs.Report as report
 use Rattle.machine.proofs.SaveReport as save-report
-use Rattle.machine.proofs.VmValues.{verb-shut, verb-vals, report-shut, report-vals, save-report-shut, save-report-vals}
+use Rattle.mechanism.proofs.VmValues.{verb-shut, verb-vals, report-shut, report-vals, save-report-shut, save-report-vals}
 use Rattle.printer.specs.declared.Answered.{Answered}
 use Rattle.printer.proofs.Answered as answered
 use Rattle.printer.proofs.Values.{answered-shut, answered-vals}

@@ -53,10 +53,10 @@ use Rattle.storage.proofs.Task.Laws as task-laws
 use Rattle.storage.proofs.Records.{R, typed}
 use Rattle.machine.proofs.Machine as machine
 use Rattle.machine.specs.World.{world}
-use Rattle.machine.proofs.Values.{machine-shut, machine-vals}
+use Rattle.mechanism.proofs.Values.{machine-shut, machine-vals}
 use Rattle.machine.specs.Creation.{machine-of, made, create as create-of}
 use Rattle.machine.proofs.CreateResult as created
-use Rattle.machine.proofs.VmValues.{created-shut, created-vals}
+use Rattle.mechanism.proofs.VmValues.{created-shut, created-vals}
 use Rattle.printer.specs.Asked.{count-of}
 use Rattle.printer.specs.Shows.{after-calls, lent as lent-of, own as own-of}
 use Rattle.printer.proofs.Performing.{owns-it}
@@ -73,10 +73,10 @@ use Rattle.printer.proofs.show_creation.Symbol.{name as #shows-creation
 use Rattle.printer.proofs.show_creation as shows-creation
 use Rattle.printer.proofs.show_creation.Symbol as shows-creation-def
 use Rattle.printer.proofs.show_creation.Met as shows-creation-thm
-use Rattle.machine.proofs.vm_machines.machine_of.Symbol.{name as #begins}
-use Rattle.machine.proofs.vm_machines.machine_of as begins
-use Rattle.machine.proofs.vm_machines.machine_of.Symbol as begins-def
-use Rattle.machine.proofs.vm_machines.machine_of.Met as begins-thm
+use Rattle.machine.proofs.new_machines.machine_of.Symbol.{name as #begins}
+use Rattle.machine.proofs.new_machines.machine_of as begins
+use Rattle.machine.proofs.new_machines.machine_of.Symbol as begins-def
+use Rattle.machine.proofs.new_machines.machine_of.Met as begins-thm
 use Rattle.printer.proofs.asked.count_of.Symbol.{name as #allows}
 use Rattle.printer.proofs.asked.count_of as allows
 use Rattle.printer.proofs.asked.count_of.Symbol as allows-def

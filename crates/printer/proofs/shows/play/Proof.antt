@@ -53,7 +53,7 @@ use Rattle.storage.proofs.Records.{R, table-ty}
 use Rattle.machine.specs.declared.Machine.{Machine}
 use Rattle.machine.proofs.Machine as machine
 use Rattle.machine.specs.World.{World, world}
-use Rattle.machine.proofs.Values.{machine-shut, machine-vals}
+use Rattle.mechanism.proofs.Values.{machine-shut, machine-vals}
 use Rattle.printer.specs.Shows.{after-call, after-calls}
 use Rattle.printer.proofs.Performing.{none-yet, goes-further, calls-stay, all-called}
 use Rattle.printer.proofs.shows.turn.Symbol.{name as #turns-once}

@@ -50,7 +50,7 @@ use Rattle.storage.proofs.Records.{R, table-ty}
 use Rattle.machine.specs.declared.Machine.{Machine}
 use Rattle.machine.proofs.Machine as machine
 use Rattle.machine.specs.World.{world}
-use Rattle.machine.proofs.Values.{machine-shut, machine-vals}
+use Rattle.mechanism.proofs.Values.{machine-shut, machine-vals}
 use Rattle.printer.proofs.Answered as answered
 use Rattle.printer.proofs.Values.{answered-shut, answered-vals}
 use Rattle.printer.specs.Asked.{verb-at, fuel-at}

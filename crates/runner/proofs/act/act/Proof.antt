@@ -1,17 +1,17 @@
 -- `runner::act::act` meets its contract.
 use borrow.Author.Tests.{le-leb, lt-leb}
-use Rattle.machine.specs.Act.{act, act-at, act-by}
+use Rattle.mechanism.specs.Act.{act, act-at, act-by}
 use borrow.Author.Needs.{needs}
 use Rattle.runner.proofs.act.act.Statement.{statement}
 use Rattle.runner.proofs.act.act.Tie as tie
 use Rattle.runner.proofs.act.act.Reads as reads
 use Rattle.runner.proofs.act.act.Lts as lts
-use Rattle.machine.proofs.machines.byte_at.Reads as byte-at-reads
+use Rattle.mechanism.proofs.machines.byte_at.Reads as byte-at-reads
 use Rattle.runner.proofs.act.cut.Reads as cut-reads
 use Rattle.runner.proofs.act.on_frames.Reads as on-frames-reads
 use Rattle.runner.proofs.act.reach.Reads as reach-reads
-use Rattle.machine.proofs.machines.code_of.Reads as code-of-reads
-use Rattle.machine.proofs.machines.current.Reads as current-reads
+use Rattle.mechanism.proofs.machines.code_of.Reads as code-of-reads
+use Rattle.mechanism.proofs.machines.current.Reads as current-reads
 
 current-requires : tie.Need-current-requires
 current-requires c κs = search needs

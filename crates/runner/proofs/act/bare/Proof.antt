@@ -1,6 +1,6 @@
 -- `runner::act::bare` meets its contract.
 use borrow.Author.Tests.{ne-eqb}
-use Rattle.machine.specs.Act.{bare}
+use Rattle.mechanism.specs.Act.{bare}
 use Rattle.runner.proofs.act.bare.Statement.{statement}
 use Rattle.runner.proofs.act.bare.Tie as tie
 

@@ -1,11 +1,11 @@
 -- `runner::act::created` meets its contract.
-use Rattle.machine.specs.Act.{created}
+use Rattle.mechanism.specs.Act.{created}
 use borrow.Author.Needs.{needs}
 use Rattle.runner.proofs.act.created.Statement.{statement}
 use Rattle.runner.proofs.act.created.Tie as tie
 use Rattle.runner.proofs.act.created.Reads as reads
 use Rattle.runner.proofs.act.created.Lts as lts
-use Rattle.machine.proofs.machines.settled.Reads as settled-reads
+use Rattle.mechanism.proofs.machines.settled.Reads as settled-reads
 use Rattle.std.proofs.num.wrapping_add_u32.Reads as wrapping-add-u32-reads
 use Rattle.storage.proofs.ids.len_after.Reads as len-after-reads
 

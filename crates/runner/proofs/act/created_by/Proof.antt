@@ -1,6 +1,6 @@
 -- `runner::act::created_by` meets its contract.
 use borrow.Author.Needs.{needs}
-use Rattle.machine.specs.Act.{created-by}
+use Rattle.mechanism.specs.Act.{created-by}
 use Rattle.runner.proofs.act.created_by.Statement.{statement}
 use Rattle.runner.proofs.act.created_by.Tie as tie
 use Rattle.runner.proofs.act.created_by.Reads as reads

@@ -4,7 +4,7 @@ use Rattle.runner.proofs.act.cut.Statement.{statement}
 use Rattle.runner.proofs.act.cut.Tie as tie
 use Rattle.runner.proofs.act.cut.Reads as reads
 use Rattle.runner.proofs.act.cut.Lts as lts
-use Rattle.machine.proofs.changes.keep.Reads as keep-reads
+use Rattle.mechanism.proofs.changes.keep.Reads as keep-reads
 
 keep-requires : tie.Need-keep-requires
 keep-requires c κs = search needs

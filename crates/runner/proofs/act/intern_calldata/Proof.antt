@@ -1,5 +1,5 @@
 -- `runner::act::intern_calldata` meets its contract.
-use Rattle.machine.specs.Frames.{intern-calldata, intern-sized}
+use Rattle.mechanism.specs.Frames.{intern-calldata, intern-sized}
 use borrow.Author.Needs.{needs}
 use Rattle.runner.proofs.act.intern_calldata.Statement.{statement}
 use Rattle.runner.proofs.act.intern_calldata.Tie as tie
@@ -7,8 +7,8 @@ use Rattle.runner.proofs.act.intern_calldata.Reads as reads
 use Rattle.runner.proofs.act.intern_calldata.Lts as lts
 use Rattle.bytecode.proofs.operands.prepare_u16_from_be_checked.Reads as prepare-u16-from-be-checked-reads
 use Rattle.runner.proofs.act.start_of.Reads as start-of-reads
-use Rattle.machine.proofs.machines.code_of.Reads as code-of-reads
-use Rattle.machine.proofs.machines.current.Reads as current-reads
+use Rattle.mechanism.proofs.machines.code_of.Reads as code-of-reads
+use Rattle.mechanism.proofs.machines.current.Reads as current-reads
 use Rattle.pools.proofs.interning.intern_part.Reads as intern-part-reads
 
 current-requires : tie.Need-current-requires

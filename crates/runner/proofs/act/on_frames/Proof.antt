@@ -1,6 +1,6 @@
 -- `runner::act::on_frames` meets its contract.
 use borrow.Author.Tests.{eq-eqb, ne-eqb}
-use Rattle.machine.specs.Act.{on-frames}
+use Rattle.mechanism.specs.Act.{on-frames}
 use borrow.Author.Needs.{needs}
 use Rattle.runner.proofs.act.on_frames.Statement.{statement}
 use Rattle.runner.proofs.act.on_frames.Tie as tie
@@ -11,8 +11,8 @@ use Rattle.runner.proofs.act.went_by.Reads as went-by-reads
 use Rattle.stepper.proofs.entering.op_call.Reads as op-call-reads
 use Rattle.stepper.proofs.entering.op_end_call.Reads as op-end-call-reads
 use Rattle.runner.proofs.act.push_calldata.Reads as push-calldata-reads
-use Rattle.machine.proofs.machines.registers_of.Reads as registers-of-reads
-use Rattle.machine.proofs.changes.keep.Reads as keep-reads
+use Rattle.mechanism.proofs.machines.registers_of.Reads as registers-of-reads
+use Rattle.mechanism.proofs.changes.keep.Reads as keep-reads
 use Rattle.task_opcodes.proofs.t_fields.op_t_get_field.Reads as op-t-get-field-reads
 
 push-calldata-requires : tie.Need-push-calldata-requires

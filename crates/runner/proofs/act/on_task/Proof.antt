@@ -1,6 +1,6 @@
 -- `runner::act::on_task` meets its contract.
 use borrow.Author.Tests.{eq-eqb, ne-eqb}
-use Rattle.machine.specs.Act.{on-task}
+use Rattle.mechanism.specs.Act.{on-task}
 use borrow.Author.Needs.{needs}
 use Rattle.runner.proofs.act.on_task.Statement.{statement}
 use Rattle.runner.proofs.act.on_task.Tie as tie
@@ -8,10 +8,10 @@ use Rattle.runner.proofs.act.on_task.Reads as reads
 use Rattle.runner.proofs.act.on_task.Lts as lts
 use Rattle.runner.proofs.act.created_by.Reads as created-by-reads
 use Rattle.runner.proofs.act.tasked_by.Reads as tasked-by-reads
-use Rattle.machine.proofs.machines.registers_of.Reads as registers-of-reads
-use Rattle.machine.proofs.machines.settled.Reads as settled-reads
-use Rattle.machine.proofs.stack.moved.Reads as moved-reads
-use Rattle.machine.proofs.changes.keep.Reads as keep-reads
+use Rattle.mechanism.proofs.machines.registers_of.Reads as registers-of-reads
+use Rattle.mechanism.proofs.machines.settled.Reads as settled-reads
+use Rattle.mechanism.proofs.stack.moved.Reads as moved-reads
+use Rattle.mechanism.proofs.changes.keep.Reads as keep-reads
 use Rattle.task_opcodes.proofs.t_create.op_t_create.Reads as op-t-create-reads
 use Rattle.task_opcodes.proofs.t_delete.op_t_delete.Reads as op-t-delete-reads
 use Rattle.task_opcodes.proofs.t_fields.op_t_set_field.Reads as op-t-set-field-reads

@@ -1,6 +1,6 @@
 -- `runner::act::push_calldata` meets its contract.
 use borrow.Author.Tests.{le-leb, lt-leb}
-use Rattle.machine.specs.Frames.{push-calldata, calldata-pushed}
+use Rattle.mechanism.specs.Frames.{push-calldata, calldata-pushed}
 use borrow.Author.Needs.{needs}
 use Rattle.runner.proofs.act.push_calldata.Statement.{statement}
 use Rattle.runner.proofs.act.push_calldata.Tie as tie

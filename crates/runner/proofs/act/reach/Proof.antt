@@ -1,6 +1,6 @@
 -- `runner::act::reach` meets its contract.
 use mathlib.Core.Path.{sym, ap, _∙_}
-use Rattle.machine.specs.Act.{bare}
+use Rattle.mechanism.specs.Act.{bare}
 use Rattle.runner.proofs.Extents.{bare-extent}
 use borrow.Author.Needs.{needs}
 use Rattle.runner.proofs.act.reach.Statement.{statement}

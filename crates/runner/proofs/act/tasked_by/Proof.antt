@@ -1,6 +1,6 @@
 -- `runner::act::tasked_by` meets its contract.
 use borrow.Author.Needs.{needs}
-use Rattle.machine.specs.Act.{tasked-by}
+use Rattle.mechanism.specs.Act.{tasked-by}
 use Rattle.runner.proofs.act.tasked_by.Statement.{statement}
 use Rattle.runner.proofs.act.tasked_by.Tie as tie
 use Rattle.runner.proofs.act.tasked_by.Reads as reads

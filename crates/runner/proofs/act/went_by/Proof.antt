@@ -1,11 +1,11 @@
 -- `runner::act::went_by` meets its contract.
-use Rattle.machine.specs.Act.{went-by}
+use Rattle.mechanism.specs.Act.{went-by}
 use borrow.Author.Needs.{needs}
 use Rattle.runner.proofs.act.went_by.Statement.{statement}
 use Rattle.runner.proofs.act.went_by.Tie as tie
 use Rattle.runner.proofs.act.went_by.Reads as reads
 use Rattle.runner.proofs.act.went_by.Lts as lts
-use Rattle.machine.proofs.machines.settled.Reads as settled-reads
+use Rattle.mechanism.proofs.machines.settled.Reads as settled-reads
 
 enum-known-did : tie.Need-enum-known-did
 enum-known-did c = search needs

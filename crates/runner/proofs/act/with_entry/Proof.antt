@@ -1,13 +1,13 @@
 -- `runner::act::with_entry` meets its contract.
-use Rattle.machine.specs.Frames.{with-entry}
+use Rattle.mechanism.specs.Frames.{with-entry}
 use borrow.Author.Needs.{needs}
 use Rattle.runner.proofs.act.with_entry.Statement.{statement}
 use Rattle.runner.proofs.act.with_entry.Tie as tie
 use Rattle.runner.proofs.act.with_entry.Reads as reads
 use Rattle.runner.proofs.act.with_entry.Lts as lts
-use Rattle.machine.proofs.machines.registers_of.Reads as registers-of-reads
-use Rattle.machine.proofs.machines.settled.Reads as settled-reads
-use Rattle.machine.proofs.stack.moved.Reads as moved-reads
+use Rattle.mechanism.proofs.machines.registers_of.Reads as registers-of-reads
+use Rattle.mechanism.proofs.machines.settled.Reads as settled-reads
+use Rattle.mechanism.proofs.stack.moved.Reads as moved-reads
 
 registers-of-requires : tie.Need-registers-of-requires
 registers-of-requires c κs = search needs

@@ -5,7 +5,7 @@ use Rattle.runner.proofs.gone.next_of.Statement.{statement}
 use Rattle.runner.proofs.gone.next_of.Tie as tie
 use Rattle.runner.proofs.gone.next_of.Reads as reads
 use Rattle.runner.proofs.gone.next_of.Lts as lts
-use Rattle.machine.proofs.machines.current.Reads as current-reads
+use Rattle.mechanism.proofs.machines.current.Reads as current-reads
 use Rattle.std.proofs.num.wrapping_add_usize.Reads as wrapping-add-usize-reads
 
 current-requires : tie.Need-current-requires

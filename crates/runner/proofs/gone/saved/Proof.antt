@@ -1,14 +1,14 @@
 -- `runner::gone::saved` meets its contract.
-use Rattle.machine.specs.Turns.{saved, save-went}
+use Rattle.mechanism.specs.Turns.{saved, save-went}
 use borrow.Author.Needs.{needs}
 use Rattle.runner.proofs.gone.saved.Statement.{statement}
 use Rattle.runner.proofs.gone.saved.Tie as tie
 use Rattle.runner.proofs.gone.saved.Reads as reads
 use Rattle.runner.proofs.gone.saved.Lts as lts
-use Rattle.machine.proofs.machines.registers_of.Reads as registers-of-reads
-use Rattle.machine.proofs.machines.settled.Reads as settled-reads
+use Rattle.mechanism.proofs.machines.registers_of.Reads as registers-of-reads
+use Rattle.mechanism.proofs.machines.settled.Reads as settled-reads
 use Rattle.runner.proofs.gone.turned.Reads as turned-reads
-use Rattle.machine.proofs.stack.moved.Reads as moved-reads
+use Rattle.mechanism.proofs.stack.moved.Reads as moved-reads
 use Rattle.std.proofs.num.wrapping_add_usize.Reads as wrapping-add-usize-reads
 
 enum-known-result : tie.Need-enum-known-result

@@ -1,5 +1,5 @@
 -- `runner::gone::turned` meets its contract.
-use Rattle.machine.specs.Turns.{turned}
+use Rattle.mechanism.specs.Turns.{turned}
 use borrow.Author.Needs.{needs}
 use Rattle.runner.proofs.gone.turned.Statement.{statement}
 use Rattle.runner.proofs.gone.turned.Tie as tie

@@ -1,5 +1,5 @@
 -- `runner::wanted::named` meets its contract.
-use Rattle.machine.specs.Advance.{named, named-by}
+use Rattle.mechanism.specs.Advance.{named, named-by}
 use borrow.Author.Needs.{needs}
 use Rattle.runner.proofs.wanted.named.Statement.{statement}
 use Rattle.runner.proofs.wanted.named.Tie as tie

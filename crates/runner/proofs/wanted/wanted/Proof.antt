@@ -1,6 +1,6 @@
 -- `runner::wanted::wanted` meets its contract.
 use borrow.Author.Tests.{eq-eqb, ne-eqb}
-use Rattle.machine.specs.Advance.{wanted}
+use Rattle.mechanism.specs.Advance.{wanted}
 use borrow.Author.Needs.{needs}
 use Rattle.runner.proofs.wanted.wanted.Statement.{statement}
 use Rattle.runner.proofs.wanted.wanted.Tie as tie

@@ -3,23 +3,24 @@ use Prim.Native.Nat.{ℕ}
 use mathlib.Core.List.{List}
 use mathlib.Core.Path.{_≡_, _∙_, ap}
 use lib.ListN.{getD}
-use Rattle.machine.specs.declared.Registers.{Registers}
-use Rattle.machine.specs.Steps.{steps, stepped}
+use Rattle.mechanism.specs.declared.Registers.{Registers}
+use Rattle.mechanism.specs.Steps.{steps, stepped}
 use Rattle.machine.specs.declared.Machine.{Machine}
-use Rattle.machine.specs.declared.Stepped.{Stepped}
-use Rattle.machine.specs.Machines.{code-of, registers-of, settled}
-use Rattle.machine.specs.Advance.{halted-at, gone-on, after-steps, advance}
-use Rattle.machine.specs.declared.Gone.{Gone}
+use Rattle.mechanism.specs.declared.Stepped.{Stepped}
+use Rattle.machine.specs.Machines.{code-of}
+use Rattle.mechanism.specs.Registers.{registers-of, settled}
+use Rattle.mechanism.specs.Advance.{halted-at, gone-on, after-steps, advance}
+use Rattle.mechanism.specs.declared.Gone.{Gone}
 use borrow.Author.Needs.{needs}
 use Rattle.stepper.proofs.advance.advance.Statement.{statement}
 use Rattle.stepper.proofs.advance.advance.Tie as tie
 use Rattle.stepper.proofs.advance.advance.Reads as reads
 use Rattle.stepper.proofs.advance.advance.Lts as lts
-use Rattle.machine.proofs.machines.byte_at.Reads as byte-at-reads
+use Rattle.mechanism.proofs.machines.byte_at.Reads as byte-at-reads
 use Rattle.stepper.proofs.advance.halted_at.Reads as halted-at-reads
-use Rattle.machine.proofs.machines.code_of.Reads as code-of-reads
-use Rattle.machine.proofs.machines.registers_of.Reads as registers-of-reads
-use Rattle.machine.proofs.machines.settled.Reads as settled-reads
+use Rattle.mechanism.proofs.machines.code_of.Reads as code-of-reads
+use Rattle.mechanism.proofs.machines.registers_of.Reads as registers-of-reads
+use Rattle.mechanism.proofs.machines.settled.Reads as settled-reads
 use Rattle.stepper.proofs.steps.Reads as steps-reads
 
 -- what the calls answer, put together

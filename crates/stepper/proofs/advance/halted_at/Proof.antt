@@ -1,5 +1,5 @@
 -- `stepper::advance::halted_at` meets its contract.
-use Rattle.machine.specs.Advance.{halted-at}
+use Rattle.mechanism.specs.Advance.{halted-at}
 use borrow.Author.Needs.{needs}
 use Rattle.stepper.proofs.advance.halted_at.Statement.{statement}
 use Rattle.stepper.proofs.advance.halted_at.Tie as tie

@@ -1,7 +1,7 @@
 -- `stepper::arithmetic::op_mul` meets its contract.
 use borrow.Author.Needs.{needs}
 use Rattle.stepper.proofs.arithmetic.op_mul.Statement.{statement}
-use Rattle.machine.specs.Stack.{on-two, op-mul}
+use Rattle.mechanism.specs.Stack.{on-two, op-mul}
 use Rattle.stepper.proofs.arithmetic.op_mul.Tie as tie
 
 pop-two-requires : tie.Need-pop-two-requires

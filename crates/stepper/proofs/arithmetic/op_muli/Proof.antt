@@ -1,7 +1,7 @@
 -- `stepper::arithmetic::op_muli` meets its contract.
 use borrow.Author.Needs.{needs}
 use Rattle.stepper.proofs.arithmetic.op_muli.Statement.{statement}
-use Rattle.machine.specs.Stack.{on-one, op-muli}
+use Rattle.mechanism.specs.Stack.{on-one, op-muli}
 use Rattle.stepper.proofs.arithmetic.op_muli.Tie as tie
 
 pop-requires : tie.Need-pop-requires

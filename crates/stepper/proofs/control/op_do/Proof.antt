@@ -1,7 +1,7 @@
 -- `stepper::control::op_do` meets its contract.
 use borrow.Author.Needs.{needs}
 use Rattle.stepper.proofs.control.op_do.Statement.{statement}
-use Rattle.machine.specs.Control.{do-two, op-do}
+use Rattle.mechanism.specs.Control.{do-two, op-do}
 use Rattle.stepper.proofs.control.op_do.Tie as tie
 
 pop-two-requires : tie.Need-pop-two-requires

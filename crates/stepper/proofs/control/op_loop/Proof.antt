@@ -4,7 +4,7 @@ use mathlib.Core.Path.{sym, _∙_}
 use native.Mathlib.Omega.{arith}
 use borrow.Author.Tests.{ltb-true}
 use Rattle.stepper.proofs.Reopened.{none-open, too-many, inner-closed, inner-again, outer-closed, outer-again}
-use Rattle.machine.specs.Control.{opened-to, looped, op-loop}
+use Rattle.mechanism.specs.Control.{opened-to, looped, op-loop}
 use borrow.Author.Needs.{needs}
 use Rattle.stepper.proofs.control.op_loop.Statement.{statement}
 use Rattle.stepper.proofs.control.op_loop.Tie as tie

@@ -2,7 +2,7 @@
 use Prim.Native.Nat.{_<_, _≤_}
 use native.Mathlib.Omega.{arith}
 use Rattle.stepper.proofs.Reopened.{no-innermost, unsound-innermost, found}
-use Rattle.machine.specs.Control.{index-of, op-loop-index}
+use Rattle.mechanism.specs.Control.{index-of, op-loop-index}
 use borrow.Author.Needs.{needs}
 use Rattle.stepper.proofs.control.op_loop_index.Statement.{statement}
 use Rattle.stepper.proofs.control.op_loop_index.Tie as tie

@@ -1,7 +1,7 @@
 -- `stepper::control::opened_to` meets its contract.
 use borrow.Author.Needs.{needs}
 use Rattle.stepper.proofs.control.opened_to.Statement.{statement}
-use Rattle.machine.specs.Control.{opened-to}
+use Rattle.mechanism.specs.Control.{opened-to}
 use Rattle.stepper.proofs.control.opened_to.Tie as tie
 
 enum-known-result : tie.Need-enum-known-result

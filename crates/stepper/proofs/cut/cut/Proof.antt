@@ -2,7 +2,7 @@
 use borrow.Author.Needs.{needs}
 use borrow.Author.Tests.{eq-eqb, ne-eqb}
 use Rattle.stepper.proofs.cut.cut.Statement.{statement}
-use Rattle.machine.specs.Cut.{cut}
+use Rattle.mechanism.specs.Cut.{cut}
 use Rattle.stepper.proofs.cut.cut.Tie as tie
 
 cut-muli-requires : tie.Need-cut-muli-requires

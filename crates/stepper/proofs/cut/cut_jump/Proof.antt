@@ -2,7 +2,7 @@
 use borrow.Author.Needs.{needs}
 use borrow.Author.Tests.{eq-eqb, ne-eqb}
 use Rattle.stepper.proofs.cut.cut_jump.Statement.{statement}
-use Rattle.machine.specs.Cut.{cut-skip, cut-jump}
+use Rattle.mechanism.specs.Cut.{cut-skip, cut-jump}
 use Rattle.stepper.proofs.cut.cut_jump.Tie as tie
 
 pop-requires : tie.Need-pop-requires

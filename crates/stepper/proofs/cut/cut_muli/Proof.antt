@@ -1,7 +1,7 @@
 -- `stepper::cut::cut_muli` meets its contract.
 use borrow.Author.Needs.{needs}
 use Rattle.stepper.proofs.cut.cut_muli.Statement.{statement}
-use Rattle.machine.specs.Cut.{cut-value, cut-muli}
+use Rattle.mechanism.specs.Cut.{cut-value, cut-muli}
 use Rattle.stepper.proofs.cut.cut_muli.Tie as tie
 
 pop-requires : tie.Need-pop-requires

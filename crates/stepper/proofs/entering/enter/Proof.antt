@@ -1,6 +1,6 @@
 -- `stepper::entering::enter` meets its contract.
 use borrow.Author.Tests.{le-leb, lt-leb}
-use Rattle.machine.specs.Frames.{enter, enter-bounded, framed}
+use Rattle.mechanism.specs.Frames.{enter, enter-bounded, framed}
 use borrow.Author.Needs.{needs}
 use Rattle.stepper.proofs.entering.enter.Statement.{statement}
 use Rattle.stepper.proofs.entering.enter.Tie as tie

@@ -1,15 +1,15 @@
 -- `stepper::entering::op_call` meets its contract.
-use Rattle.machine.specs.Frames.{op-call, call-popped}
+use Rattle.mechanism.specs.Frames.{op-call, call-popped}
 use borrow.Author.Needs.{needs}
 use Rattle.stepper.proofs.entering.op_call.Statement.{statement}
 use Rattle.stepper.proofs.entering.op_call.Tie as tie
 use Rattle.stepper.proofs.entering.op_call.Reads as reads
 use Rattle.stepper.proofs.entering.op_call.Lts as lts
 use Rattle.stepper.proofs.entering.enter.Reads as enter-reads
-use Rattle.machine.proofs.machines.registers_of.Reads as registers-of-reads
-use Rattle.machine.proofs.machines.settled.Reads as settled-reads
+use Rattle.mechanism.proofs.machines.registers_of.Reads as registers-of-reads
+use Rattle.mechanism.proofs.machines.settled.Reads as settled-reads
 use Rattle.inlinevec.proofs.pop.Reads as pop-reads
-use Rattle.machine.proofs.stack.moved.Reads as moved-reads
+use Rattle.mechanism.proofs.stack.moved.Reads as moved-reads
 
 pop-requires : tie.Need-pop-requires
 pop-requires c κs = search needs

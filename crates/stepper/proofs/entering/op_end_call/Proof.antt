@@ -1,15 +1,15 @@
 -- `stepper::entering::op_end_call` meets its contract.
 use borrow.Author.Tests.{le-leb, lt-leb}
-use Rattle.machine.specs.Frames.{op-end-call, left-frame}
+use Rattle.mechanism.specs.Frames.{op-end-call, left-frame}
 use borrow.Author.Needs.{needs}
 use Rattle.stepper.proofs.entering.op_end_call.Statement.{statement}
 use Rattle.stepper.proofs.entering.op_end_call.Tie as tie
 use Rattle.stepper.proofs.entering.op_end_call.Reads as reads
 use Rattle.stepper.proofs.entering.op_end_call.Lts as lts
-use Rattle.machine.proofs.machines.registers_of.Reads as registers-of-reads
-use Rattle.machine.proofs.machines.settled.Reads as settled-reads
+use Rattle.mechanism.proofs.machines.registers_of.Reads as registers-of-reads
+use Rattle.mechanism.proofs.machines.settled.Reads as settled-reads
 use Rattle.inlinevec.proofs.pop_frame.Reads as pop-frame-reads
-use Rattle.machine.proofs.stack.moved.Reads as moved-reads
+use Rattle.mechanism.proofs.stack.moved.Reads as moved-reads
 
 registers-of-requires : tie.Need-registers-of-requires
 registers-of-requires c κs = search needs

@@ -2,7 +2,7 @@
 use borrow.Author.Needs.{needs}
 use borrow.Author.Tests.{eq-eqb, ne-eqb}
 use Rattle.stepper.proofs.equality.eq_tagged.Statement.{statement}
-use Rattle.machine.specs.Equality.{eq-tagged}
+use Rattle.mechanism.specs.Equality.{eq-tagged}
 use Rattle.stepper.proofs.equality.eq_tagged.Tie as tie
 
 is-vec-requires : tie.Need-is-vec-requires

@@ -1,7 +1,7 @@
 -- `stepper::equality::eq_values` meets its contract.
 use borrow.Author.Needs.{needs}
 use Rattle.stepper.proofs.equality.eq_values.Statement.{statement}
-use Rattle.machine.specs.Equality.{eq-right-tag, eq-left-tag, eq-values}
+use Rattle.mechanism.specs.Equality.{eq-right-tag, eq-left-tag, eq-values}
 use Rattle.stepper.proofs.equality.eq_values.Tie as tie
 
 tag-of-requires : tie.Need-tag-of-requires

@@ -1,7 +1,7 @@
 -- `stepper::equality::eq_vectors` meets its contract.
 use borrow.Author.Needs.{needs}
 use Rattle.stepper.proofs.equality.eq_vectors.Statement.{statement}
-use Rattle.machine.specs.Equality.{eq-right, eq-left, eq-vectors}
+use Rattle.mechanism.specs.Equality.{eq-right, eq-left, eq-vectors}
 use Rattle.stepper.proofs.equality.eq_vectors.Tie as tie
 
 to-fat-pointer-requires : tie.Need-to-fat-pointer-requires

@@ -1,8 +1,8 @@
 -- `stepper::equality::op_eq` meets its contract.
 use borrow.Author.Needs.{needs}
 use Rattle.stepper.proofs.equality.op_eq.Statement.{statement}
-use Rattle.machine.specs.Equality.{op-eq}
-use Rattle.machine.specs.Stack.{on-two}
+use Rattle.mechanism.specs.Equality.{op-eq}
+use Rattle.mechanism.specs.Stack.{on-two}
 use Rattle.stepper.proofs.equality.op_eq.Tie as tie
 
 pop-two-requires : tie.Need-pop-two-requires

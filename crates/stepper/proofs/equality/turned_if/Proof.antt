@@ -1,7 +1,7 @@
 -- `stepper::equality::turned_if` meets its contract.
 use borrow.Author.Needs.{needs}
 use Rattle.stepper.proofs.equality.turned_if.Statement.{statement}
-use Rattle.machine.specs.Equality.{turned-if}
+use Rattle.mechanism.specs.Equality.{turned-if}
 use Rattle.values.specs.Values.{turned}
 use Rattle.stepper.proofs.equality.turned_if.Tie as tie
 

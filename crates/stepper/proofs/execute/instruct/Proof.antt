@@ -4,9 +4,9 @@ use mathlib.Core.Path.{sym, ap, _∙_}
 use native.Mathlib.Omega.{arith}
 use lib.ListN.{length}
 use Rattle.stepper.proofs.Reach.{instruct-equality, instruct-byte, instruct-number, instruct-cut, instruct-other}
-use Rattle.machine.specs.Execute.{kept}
-use Rattle.machine.specs.Registers.{OnStack, on-memory}
-use Rattle.machine.specs.declared.Did.{Did}
+use Rattle.mechanism.specs.Execute.{kept}
+use Rattle.mechanism.specs.Registers.{OnStack, on-memory}
+use Rattle.mechanism.specs.declared.Did.{Did}
 use borrow.Author.Needs.{needs}
 use Rattle.stepper.proofs.execute.instruct.Statement.{statement}
 use Rattle.stepper.proofs.execute.instruct.Tie as tie

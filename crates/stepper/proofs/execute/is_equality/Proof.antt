@@ -1,7 +1,7 @@
 -- `stepper::execute::is_equality` meets its contract.
 use borrow.Author.Tests.{eq-eqb, ne-eqb}
 use Rattle.stepper.proofs.execute.is_equality.Statement.{statement}
-use Rattle.machine.specs.Execute.{is-equality}
+use Rattle.mechanism.specs.Execute.{is-equality}
 use Rattle.stepper.proofs.execute.is_equality.Tie as tie
 
 returns : tie.Need-returns

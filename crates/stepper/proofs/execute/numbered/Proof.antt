@@ -1,7 +1,7 @@
 -- `stepper::execute::numbered` meets its contract.
 use borrow.Author.Needs.{needs}
 use Rattle.stepper.proofs.execute.numbered.Statement.{statement}
-use Rattle.machine.specs.Operated.{with-operand}
+use Rattle.mechanism.specs.Operated.{with-operand}
 use Rattle.stepper.specs.Kinds.{numbered}
 use Rattle.stepper.proofs.execute.numbered.Tie as tie
 

@@ -2,7 +2,7 @@
 use borrow.Author.Needs.{needs}
 use borrow.Author.Tests.{eq-eqb, ne-eqb}
 use Rattle.stepper.proofs.execute.plain.Statement.{statement}
-use Rattle.machine.specs.Execute.{plain}
+use Rattle.mechanism.specs.Execute.{plain}
 use Rattle.stepper.proofs.execute.plain.Tie as tie
 
 op-mul-requires : tie.Need-op-mul-requires

@@ -2,7 +2,7 @@
 use borrow.Author.Needs.{needs}
 use borrow.Author.Tests.{eq-eqb, ne-eqb}
 use Rattle.stepper.proofs.jumps.op_jump_if_false.Statement.{statement}
-use Rattle.machine.specs.Control.{jumped, op-jump-if-false}
+use Rattle.mechanism.specs.Control.{jumped, op-jump-if-false}
 use Rattle.stepper.proofs.jumps.op_jump_if_false.Tie as tie
 
 pop-requires : tie.Need-pop-requires

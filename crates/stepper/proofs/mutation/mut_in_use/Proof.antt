@@ -7,7 +7,7 @@ use lib.ListN.{length, take, drop, drop-of-length-le}
 use lib.Seq.{take-all, length-take-le}
 use borrow.Author.Needs.{needs}
 use Rattle.stepper.proofs.mutation.mut_in_use.Statement.{statement}
-use Rattle.machine.specs.Store.{mut-in-use}
+use Rattle.mechanism.specs.Store.{mut-in-use}
 use Rattle.stepper.proofs.mutation.mut_in_use.Tie as tie
 
 mut-vec-requires : tie.Need-mut-vec-requires

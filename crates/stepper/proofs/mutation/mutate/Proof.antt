@@ -1,7 +1,7 @@
 -- `stepper::mutation::mutate` meets its contract.
 use borrow.Author.Needs.{needs}
 use Rattle.stepper.proofs.mutation.mutate.Statement.{statement}
-use Rattle.machine.specs.Store.{mutated, mutate-at, mutate}
+use Rattle.mechanism.specs.Store.{mutated, mutate-at, mutate}
 use Rattle.stepper.proofs.mutation.mutate.Tie as tie
 
 to-fat-pointer-requires : tie.Need-to-fat-pointer-requires

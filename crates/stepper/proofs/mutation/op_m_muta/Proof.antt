@@ -1,7 +1,7 @@
 -- `stepper::mutation::op_m_muta` meets its contract.
 use borrow.Author.Needs.{needs}
 use Rattle.stepper.proofs.mutation.op_m_muta.Statement.{statement}
-use Rattle.machine.specs.Store.{mutate-last, mutate-two, op-m-muta}
+use Rattle.mechanism.specs.Store.{mutate-last, mutate-two, op-m-muta}
 use Rattle.stepper.proofs.mutation.op_m_muta.Tie as tie
 
 pop-two-requires : tie.Need-pop-two-requires

@@ -1,7 +1,7 @@
 -- `stepper::operated::m_st` meets its contract.
 use borrow.Author.Needs.{needs}
 use Rattle.stepper.proofs.operated.m_st.Statement.{statement}
-use Rattle.machine.specs.Operated.{with-operand, m-st}
+use Rattle.mechanism.specs.Operated.{with-operand, m-st}
 use Rattle.stepper.proofs.operated.m_st.Tie as tie
 
 add-prepare-u8 : tie.Need-add-prepare-u8

@@ -1,7 +1,7 @@
 -- `stepper::operated::m_sti` meets its contract.
 use borrow.Author.Needs.{needs}
 use Rattle.stepper.proofs.operated.m_sti.Statement.{statement}
-use Rattle.machine.specs.Operated.{with-operand, m-sti}
+use Rattle.mechanism.specs.Operated.{with-operand, m-sti}
 use Rattle.stepper.proofs.operated.m_sti.Tie as tie
 
 add-prepare-u16-from-be-checked : tie.Need-add-prepare-u16-from-be-checked

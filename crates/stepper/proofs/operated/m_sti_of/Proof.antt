@@ -2,7 +2,7 @@
 use borrow.Author.Needs.{needs}
 use borrow.Author.Tests.{eq-eqb, ne-eqb}
 use Rattle.stepper.proofs.operated.m_sti_of.Statement.{statement}
-use Rattle.machine.specs.Operated.{payload-of, m-sti-of}
+use Rattle.mechanism.specs.Operated.{payload-of, m-sti-of}
 use Rattle.stepper.proofs.operated.m_sti_of.Tie as tie
 
 cast-short : tie.Need-cast-short

@@ -1,7 +1,7 @@
 -- `stepper::operated::push_u8` meets its contract.
 use borrow.Author.Needs.{needs}
 use Rattle.stepper.proofs.operated.push_u8.Statement.{statement}
-use Rattle.machine.specs.Operated.{with-operand, push-u8}
+use Rattle.mechanism.specs.Operated.{with-operand, push-u8}
 use Rattle.stepper.proofs.operated.push_u8.Tie as tie
 
 add-prepare-u8 : tie.Need-add-prepare-u8

@@ -1,7 +1,7 @@
 -- `stepper::ordering::op_compare` meets its contract.
 use borrow.Author.Needs.{needs}
 use Rattle.stepper.proofs.ordering.op_compare.Statement.{statement}
-use Rattle.machine.specs.Stack.{on-two, op-compare}
+use Rattle.mechanism.specs.Stack.{on-two, op-compare}
 use Rattle.stepper.proofs.ordering.op_compare.Tie as tie
 
 pop-two-requires : tie.Need-pop-two-requires

@@ -1,7 +1,7 @@
 -- `stepper::pushes::op_dup` meets its contract.
 use borrow.Author.Needs.{needs}
 use Rattle.stepper.proofs.pushes.op_dup.Statement.{statement}
-use Rattle.machine.specs.Stack.{dup-last, op-dup}
+use Rattle.mechanism.specs.Stack.{dup-last, op-dup}
 use Rattle.stepper.proofs.pushes.op_dup.Tie as tie
 
 last-requires : tie.Need-last-requires

@@ -1,7 +1,7 @@
 -- `stepper::pushes::op_push` meets its contract.
 use borrow.Author.Needs.{needs}
 use Rattle.stepper.proofs.pushes.op_push.Statement.{statement}
-use Rattle.machine.specs.Stack.{op-push}
+use Rattle.mechanism.specs.Stack.{op-push}
 use Rattle.stepper.proofs.pushes.op_push.Tie as tie
 
 to-u32-val-requires : tie.Need-to-u32-val-requires

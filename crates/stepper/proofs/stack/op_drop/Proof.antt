@@ -1,7 +1,7 @@
 -- `stepper::stack::op_drop` meets its contract.
 use borrow.Author.Needs.{needs}
 use Rattle.stepper.proofs.stack.op_drop.Statement.{statement}
-use Rattle.machine.specs.Stack.{dropped, op-drop}
+use Rattle.mechanism.specs.Stack.{dropped, op-drop}
 use Rattle.stepper.proofs.stack.op_drop.Tie as tie
 
 pop-requires : tie.Need-pop-requires

@@ -2,9 +2,9 @@
 use mathlib.Core.Path.{sym, _∙_}
 use native.Mathlib.Omega.{arith}
 use borrow.Author.Needs.{needs}
-use Rattle.machine.proofs.Pops.{TwoBelow, popped-two}
+use Rattle.mechanism.proofs.Pops.{TwoBelow, popped-two}
 use Rattle.stepper.proofs.stack.op_swap.Statement.{statement}
-use Rattle.machine.specs.Stack.{swapped, op-swap}
+use Rattle.mechanism.specs.Stack.{swapped, op-swap}
 use Rattle.stepper.proofs.stack.op_swap.Tie as tie
 
 -- what is known of the height once two values are off

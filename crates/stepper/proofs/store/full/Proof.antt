@@ -1,7 +1,7 @@
 -- `stepper::store::full` meets its contract.
 use borrow.Author.Needs.{needs}
 use Rattle.stepper.proofs.store.full.Statement.{statement}
-use Rattle.machine.specs.Store.{full-by, full}
+use Rattle.mechanism.specs.Store.{full-by, full}
 use Rattle.stepper.proofs.store.full.Tie as tie
 
 vector-requires : tie.Need-vector-requires

@@ -2,7 +2,7 @@
 use borrow.Author.Needs.{needs}
 use borrow.Author.Tests.{le-ltb, lt-ltb}
 use Rattle.stepper.proofs.store.op_m_st.Statement.{statement}
-use Rattle.machine.specs.Store.{sized, op-m-st}
+use Rattle.mechanism.specs.Store.{sized, op-m-st}
 use Rattle.stepper.proofs.store.op_m_st.Tie as tie
 
 pop-requires : tie.Need-pop-requires

@@ -2,7 +2,7 @@
 use borrow.Author.Needs.{needs}
 use borrow.Author.Tests.{le-leb, lt-leb}
 use Rattle.stepper.proofs.store.store.Statement.{statement}
-use Rattle.machine.specs.Store.{placed, store}
+use Rattle.mechanism.specs.Store.{placed, store}
 use Rattle.stepper.proofs.store.store.Tie as tie
 
 full-requires : tie.Need-full-requires

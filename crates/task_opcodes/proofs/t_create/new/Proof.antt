@@ -1,5 +1,5 @@
 -- `task_opcodes::t_create::new` meets its contract.
-use Rattle.machine.specs.Create.{new, if-within, with-room}
+use Rattle.mechanism.specs.Create.{new, if-within, with-room}
 use borrow.Author.Needs.{needs}
 use Rattle.task_opcodes.proofs.t_create.new.Statement.{statement}
 use Rattle.task_opcodes.proofs.t_create.new.Tie as tie
@@ -8,8 +8,8 @@ use Rattle.task_opcodes.proofs.t_create.new.Lts as lts
 use Rattle.memory.proofs.reads.get_slice_bytes.Reads as get-slice-bytes-reads
 use Rattle.storage.proofs.ids.room.Reads as room-reads
 use Rattle.storage.proofs.task_types.new_task.Reads as new-task-reads
-use Rattle.machine.proofs.changes.put.Reads as put-reads
-use Rattle.machine.proofs.changes.refused.Reads as refused-reads
+use Rattle.mechanism.proofs.changes.put.Reads as put-reads
+use Rattle.mechanism.proofs.changes.refused.Reads as refused-reads
 use Rattle.task_opcodes.proofs.titles.within.Reads as within-reads
 
 within-requires : tie.Need-within-requires

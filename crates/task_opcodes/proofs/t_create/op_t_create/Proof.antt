@@ -1,14 +1,14 @@
 -- `task_opcodes::t_create::op_t_create` meets its contract.
-use Rattle.machine.specs.Create.{op-t-create, with-two, with-state}
+use Rattle.mechanism.specs.Create.{op-t-create, with-two, with-state}
 use borrow.Author.Needs.{needs}
 use Rattle.task_opcodes.proofs.t_create.op_t_create.Statement.{statement}
 use Rattle.task_opcodes.proofs.t_create.op_t_create.Tie as tie
 use Rattle.task_opcodes.proofs.t_create.op_t_create.Reads as reads
 use Rattle.task_opcodes.proofs.t_create.op_t_create.Lts as lts
-use Rattle.machine.proofs.stack.moved.Reads as moved-reads
-use Rattle.machine.proofs.stack.pop_two.Reads as pop-two-reads
+use Rattle.mechanism.proofs.stack.moved.Reads as moved-reads
+use Rattle.mechanism.proofs.stack.pop_two.Reads as pop-two-reads
 use Rattle.storage.proofs.states.default_state.Reads as default-state-reads
-use Rattle.machine.proofs.changes.refused.Reads as refused-reads
+use Rattle.mechanism.proofs.changes.refused.Reads as refused-reads
 use Rattle.task_opcodes.proofs.t_create.titled.Reads as titled-reads
 use Rattle.values.proofs.to_u32.Reads as to-u32-reads
 

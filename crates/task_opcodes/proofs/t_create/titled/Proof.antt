@@ -1,14 +1,14 @@
 -- `task_opcodes::t_create::titled` meets its contract.
-use Rattle.machine.specs.Create.{titled, with-title, if-vector}
+use Rattle.mechanism.specs.Create.{titled, with-title, if-vector}
 use borrow.Author.Needs.{needs}
 use Rattle.task_opcodes.proofs.t_create.titled.Statement.{statement}
 use Rattle.task_opcodes.proofs.t_create.titled.Tie as tie
 use Rattle.task_opcodes.proofs.t_create.titled.Reads as reads
 use Rattle.task_opcodes.proofs.t_create.titled.Lts as lts
 use Rattle.inlinevec.proofs.pop.Reads as pop-reads
-use Rattle.machine.proofs.stack.moved.Reads as moved-reads
+use Rattle.mechanism.proofs.stack.moved.Reads as moved-reads
 use Rattle.slices.proofs.part.Reads as part-reads
-use Rattle.machine.proofs.changes.refused.Reads as refused-reads
+use Rattle.mechanism.proofs.changes.refused.Reads as refused-reads
 use Rattle.task_opcodes.proofs.t_create.new.Reads as new-reads
 use Rattle.values.proofs.to_fat_pointer.Reads as to-fat-pointer-reads
 

@@ -1,16 +1,16 @@
 -- `task_opcodes::t_delete::op_t_delete` meets its contract.
-use Rattle.machine.specs.Create.{op-t-delete, delete-popped, delete-found}
+use Rattle.mechanism.specs.Create.{op-t-delete, delete-popped, delete-found}
 use borrow.Author.Needs.{needs}
 use Rattle.task_opcodes.proofs.t_delete.op_t_delete.Statement.{statement}
 use Rattle.task_opcodes.proofs.t_delete.op_t_delete.Tie as tie
 use Rattle.task_opcodes.proofs.t_delete.op_t_delete.Reads as reads
 use Rattle.task_opcodes.proofs.t_delete.op_t_delete.Lts as lts
 use Rattle.inlinevec.proofs.pop.Reads as pop-reads
-use Rattle.machine.proofs.stack.moved.Reads as moved-reads
+use Rattle.mechanism.proofs.stack.moved.Reads as moved-reads
 use Rattle.storage.proofs.ids.find.Reads as find-reads
 use Rattle.storage.proofs.task_types.blank.Reads as blank-reads
-use Rattle.machine.proofs.changes.put.Reads as put-reads
-use Rattle.machine.proofs.changes.refused.Reads as refused-reads
+use Rattle.mechanism.proofs.changes.put.Reads as put-reads
+use Rattle.mechanism.proofs.changes.refused.Reads as refused-reads
 use Rattle.values.proofs.to_u32.Reads as to-u32-reads
 
 pop-requires : tie.Need-pop-requires

@@ -1,6 +1,6 @@
 -- `task_opcodes::t_fields::field_of` meets its contract.
 use borrow.Author.Tests.{le-ltb, lt-ltb}
-use Rattle.machine.specs.Fields.{field-of, field-popped}
+use Rattle.mechanism.specs.Fields.{field-of, field-popped}
 use borrow.Author.Needs.{needs}
 use Rattle.task_opcodes.proofs.t_fields.field_of.Statement.{statement}
 use Rattle.task_opcodes.proofs.t_fields.field_of.Tie as tie

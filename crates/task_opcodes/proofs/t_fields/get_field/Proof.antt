@@ -1,13 +1,13 @@
 -- `task_opcodes::t_fields::get_field` meets its contract.
 use borrow.Author.Tests.{eq-eqb, ne-eqb}
-use Rattle.machine.specs.Fields.{get-field}
+use Rattle.mechanism.specs.Fields.{get-field}
 use Rattle.machine.specs.Titles.{title-bytes}
 use borrow.Author.Needs.{needs}
 use Rattle.task_opcodes.proofs.t_fields.get_field.Statement.{statement}
 use Rattle.task_opcodes.proofs.t_fields.get_field.Tie as tie
 use Rattle.task_opcodes.proofs.t_fields.get_field.Reads as reads
 use Rattle.task_opcodes.proofs.t_fields.get_field.Lts as lts
-use Rattle.machine.proofs.stack.push_value.Reads as push-value-reads
+use Rattle.mechanism.proofs.stack.push_value.Reads as push-value-reads
 use Rattle.stepper.proofs.store.store.Reads as store-reads
 use Rattle.slices.proofs.part.Reads as part-reads
 use Rattle.task_opcodes.proofs.titles.title_length.Reads as title-length-reads

@@ -1,5 +1,5 @@
 -- `task_opcodes::t_fields::op_t_get_field` meets its contract.
-use Rattle.machine.specs.Fields.{op-t-get-field, get-found}
+use Rattle.mechanism.specs.Fields.{op-t-get-field, get-found}
 use borrow.Author.Needs.{needs}
 use Rattle.task_opcodes.proofs.t_fields.op_t_get_field.Statement.{statement}
 use Rattle.task_opcodes.proofs.t_fields.op_t_get_field.Tie as tie

@@ -1,14 +1,14 @@
 -- `task_opcodes::t_fields::op_t_set_field` meets its contract.
-use Rattle.machine.specs.Fields.{op-t-set-field, set-found, set-popped}
+use Rattle.mechanism.specs.Fields.{op-t-set-field, set-found, set-popped}
 use borrow.Author.Needs.{needs}
 use Rattle.task_opcodes.proofs.t_fields.op_t_set_field.Statement.{statement}
 use Rattle.task_opcodes.proofs.t_fields.op_t_set_field.Tie as tie
 use Rattle.task_opcodes.proofs.t_fields.op_t_set_field.Reads as reads
 use Rattle.task_opcodes.proofs.t_fields.op_t_set_field.Lts as lts
 use Rattle.inlinevec.proofs.pop.Reads as pop-reads
-use Rattle.machine.proofs.stack.moved.Reads as moved-reads
+use Rattle.mechanism.proofs.stack.moved.Reads as moved-reads
 use Rattle.slices.proofs.part.Reads as part-reads
-use Rattle.machine.proofs.changes.refused.Reads as refused-reads
+use Rattle.mechanism.proofs.changes.refused.Reads as refused-reads
 use Rattle.task_opcodes.proofs.t_fields.field_of.Reads as field-of-reads
 use Rattle.task_opcodes.proofs.t_fields.set_field.Reads as set-field-reads
 

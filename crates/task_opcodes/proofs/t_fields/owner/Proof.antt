@@ -1,5 +1,5 @@
 -- `task_opcodes::t_fields::owner` meets its contract.
-use Rattle.machine.specs.Fields.{owner, owner-popped, if-found}
+use Rattle.mechanism.specs.Fields.{owner, owner-popped, if-found}
 use borrow.Author.Needs.{needs}
 use Rattle.task_opcodes.proofs.t_fields.owner.Statement.{statement}
 use Rattle.task_opcodes.proofs.t_fields.owner.Tie as tie

@@ -1,12 +1,12 @@
 -- `task_opcodes::t_fields::set_field` meets its contract.
 use borrow.Author.Tests.{eq-eqb, ne-eqb}
-use Rattle.machine.specs.Fields.{set-field, title-vector}
+use Rattle.mechanism.specs.Fields.{set-field, title-vector}
 use borrow.Author.Needs.{needs}
 use Rattle.task_opcodes.proofs.t_fields.set_field.Statement.{statement}
 use Rattle.task_opcodes.proofs.t_fields.set_field.Tie as tie
 use Rattle.task_opcodes.proofs.t_fields.set_field.Reads as reads
 use Rattle.task_opcodes.proofs.t_fields.set_field.Lts as lts
-use Rattle.machine.proofs.changes.refused.Reads as refused-reads
+use Rattle.mechanism.proofs.changes.refused.Reads as refused-reads
 use Rattle.task_opcodes.proofs.t_fields.set_instructions.Reads as set-instructions-reads
 use Rattle.task_opcodes.proofs.t_fields.set_state.Reads as set-state-reads
 use Rattle.task_opcodes.proofs.t_fields.set_title.Reads as set-title-reads

@@ -1,11 +1,11 @@
 -- `task_opcodes::t_fields::set_instructions` meets its contract.
-use Rattle.machine.specs.Fields.{set-instructions}
+use Rattle.mechanism.specs.Fields.{set-instructions}
 use borrow.Author.Needs.{needs}
 use Rattle.task_opcodes.proofs.t_fields.set_instructions.Statement.{statement}
 use Rattle.task_opcodes.proofs.t_fields.set_instructions.Tie as tie
 use Rattle.task_opcodes.proofs.t_fields.set_instructions.Reads as reads
 use Rattle.task_opcodes.proofs.t_fields.set_instructions.Lts as lts
-use Rattle.machine.proofs.changes.put.Reads as put-reads
+use Rattle.mechanism.proofs.changes.put.Reads as put-reads
 
 put-requires : tie.Need-put-requires
 put-requires c κs = search needs

@@ -1,13 +1,13 @@
 -- `task_opcodes::t_fields::set_state` meets its contract.
-use Rattle.machine.specs.Fields.{set-state, state-answered}
+use Rattle.mechanism.specs.Fields.{set-state, state-answered}
 use borrow.Author.Needs.{needs}
 use Rattle.task_opcodes.proofs.t_fields.set_state.Statement.{statement}
 use Rattle.task_opcodes.proofs.t_fields.set_state.Tie as tie
 use Rattle.task_opcodes.proofs.t_fields.set_state.Reads as reads
 use Rattle.task_opcodes.proofs.t_fields.set_state.Lts as lts
 use Rattle.storage.proofs.states.with_state.Reads as with-state-reads
-use Rattle.machine.proofs.changes.refused.Reads as refused-reads
-use Rattle.machine.proofs.changes.restate.Reads as restate-reads
+use Rattle.mechanism.proofs.changes.refused.Reads as refused-reads
+use Rattle.mechanism.proofs.changes.restate.Reads as restate-reads
 
 with-state-requires : tie.Need-with-state-requires
 with-state-requires c κs = search needs

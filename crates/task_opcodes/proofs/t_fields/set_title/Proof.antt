@@ -1,6 +1,6 @@
 -- `task_opcodes::t_fields::set_title` meets its contract.
 use borrow.Author.Tests.{le-ltb, lt-ltb}
-use Rattle.machine.specs.Fields.{set-title, title-within}
+use Rattle.mechanism.specs.Fields.{set-title, title-within}
 use borrow.Author.Needs.{needs}
 use Rattle.task_opcodes.proofs.t_fields.set_title.Statement.{statement}
 use Rattle.task_opcodes.proofs.t_fields.set_title.Tie as tie
@@ -8,8 +8,8 @@ use Rattle.task_opcodes.proofs.t_fields.set_title.Reads as reads
 use Rattle.task_opcodes.proofs.t_fields.set_title.Lts as lts
 use Rattle.memory.proofs.reads.get_slice_bytes.Reads as get-slice-bytes-reads
 use Rattle.storage.proofs.task_types.new_task.Reads as new-task-reads
-use Rattle.machine.proofs.changes.put.Reads as put-reads
-use Rattle.machine.proofs.changes.refused.Reads as refused-reads
+use Rattle.mechanism.proofs.changes.put.Reads as put-reads
+use Rattle.mechanism.proofs.changes.refused.Reads as refused-reads
 use Rattle.task_opcodes.proofs.titles.within.Reads as within-reads
 
 within-requires : tie.Need-within-requires

@@ -51,19 +51,19 @@ use Rattle.machine.proofs.Machine as machine
 use Rattle.machine.proofs.Ran as ran
 use Rattle.machine.specs.World.{world}
 use Rattle.machine.specs.Run.{ran-to, run as run-of}
-use Rattle.machine.proofs.Values.{machine-shut, machine-vals, ran-shut, ran-vals}
-use Rattle.machine.proofs.Fields.{is-true, is-false}
+use Rattle.mechanism.proofs.Values.{machine-shut, machine-vals, ran-shut, ran-vals}
+use Rattle.mechanism.proofs.Fields.{is-true, is-false}
 use Rattle.machine.specs.declared.Verb.{Verb}
 use Rattle.machine.specs.declared.Report.{Report}
 use Rattle.machine.specs.declared.Allowed.{Allowed}
 use Rattle.machine.proofs.Verb as verb-row
 use Rattle.machine.proofs.Report as report
 use Rattle.machine.proofs.Allowed as allowed
-use Rattle.machine.proofs.VmValues.{report-shut, report-vals, allowed-shut, allowed-vals, verb-shut, verb-vals}
+use Rattle.mechanism.proofs.VmValues.{report-shut, report-vals, allowed-shut, allowed-vals, verb-shut, verb-vals}
 use Rattle.machine.specs.Sound.{tested, sound-world}
 use Rattle.machine.specs.Calls.{allowed as allowed-of, report as report-of, not-allowed, reported, call as call-of}
-use Rattle.machine.proofs.VmFields.{begun-is, take-allowed, take-begun}
-use Rattle.machine.proofs.Answers.{calls-run, calls-none}
+use Rattle.mechanism.proofs.VmFields.{begun-is, take-allowed, take-begun}
+use Rattle.mechanism.proofs.Answers.{calls-run, calls-none}
 use Rattle.vm.proofs.sound.sound.Symbol.{name as #tests}
 use Rattle.vm.proofs.calling.allowed.Symbol.{name as #allows}
 use Rattle.runner.proofs.drive.Symbol.{name as #drives}

@@ -50,17 +50,17 @@ use Rattle.machine.proofs.Machine as machine
 use Rattle.image.specs.Table.{load-records}
 use Rattle.table_image.proofs.InUse as used
 use Rattle.table_image.specs.Tables.{in-use, loading}
-use Rattle.machine.proofs.Values.{machine-shut}
-use Rattle.machine.proofs.Fields.{entries-fit, is-true, is-false}
+use Rattle.mechanism.proofs.Values.{machine-shut}
+use Rattle.mechanism.proofs.Fields.{entries-fit, is-true, is-false}
 use Rattle.machine.specs.declared.Prepared.{Prepared}
 use Rattle.machine.specs.declared.CreateResult.{CreateResult}
 use Rattle.machine.proofs.Prepared as prepared
 use Rattle.machine.proofs.CreateResult as created
-use Rattle.machine.proofs.VmValues.{prepared-shut, prepared-vals, created-shut, created-vals, used-shut, used-vals}
+use Rattle.mechanism.proofs.VmValues.{prepared-shut, prepared-vals, created-shut, created-vals, used-shut, used-vals}
 use Rattle.machine.specs.declared.CreateResult.the-variants.{NotCreated}
 use Rattle.machine.specs.Creation.{prepared as prepared-in, prepare as prepare-of, created as created-of, made, create as create-of}
-use Rattle.machine.proofs.VmFields.{pool-fits, new-is, tasks-fit, take-fits, take-new, take-tasks, take-new-pool, take-new-entries}
-use Rattle.machine.proofs.Answers.{creates, creates-none}
+use Rattle.mechanism.proofs.VmFields.{pool-fits, new-is, tasks-fit, take-fits, take-new, take-tasks, take-new-pool, take-new-entries}
+use Rattle.mechanism.proofs.Answers.{creates, creates-none}
 use Rattle.vm.proofs.creating.prepare.Symbol.{name as #prepare}
 use Rattle.table_image.proofs.loading.load_table.Symbol.{name as #load}
 use Rattle.vm.proofs.creating.created.Symbol.{name as #makes-it}

@@ -7,7 +7,7 @@ use Rattle.vm.proofs.creating.prepare.Reads as reads
 use Rattle.vm.proofs.creating.prepare.Lts as lts
 use Rattle.table_image.proofs.creation.creation_tests.Reads as creation-tests-reads
 use Rattle.pools.proofs.interning.intern_instructions.Reads as intern-instructions-reads
-use Rattle.machine.proofs.vm_machines.new_machine.Reads as new-machine-reads
+use Rattle.machine.proofs.new_machines.new_machine.Reads as new-machine-reads
 use Rattle.vm.proofs.creating.unfit.Reads as unfit-reads
 
 creation-tests-requires : tie.Need-creation-tests-requires

@@ -5,7 +5,7 @@ use Rattle.vm.proofs.creating.unfit.Statement.{statement}
 use Rattle.vm.proofs.creating.unfit.Tie as tie
 use Rattle.vm.proofs.creating.unfit.Reads as reads
 use Rattle.vm.proofs.creating.unfit.Lts as lts
-use Rattle.machine.proofs.vm_machines.new_machine.Reads as new-machine-reads
+use Rattle.machine.proofs.new_machines.new_machine.Reads as new-machine-reads
 
 new-machine-requires : tie.Need-new-machine-requires
 new-machine-requires c κs = search needs

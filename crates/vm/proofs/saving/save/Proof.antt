@@ -51,15 +51,15 @@ use Rattle.image.proofs.SaveResult as saved
 use Rattle.image.specs.Table.{saved-table, save-table}
 use Rattle.table_image.specs.Tables.{held}
 use Rattle.machine.specs.World.{world}
-use Rattle.machine.proofs.Values.{machine-shut, machine-vals}
-use Rattle.machine.proofs.Fields.{entries-fit, next-id-fits, is-true, is-false}
+use Rattle.mechanism.proofs.Values.{machine-shut, machine-vals}
+use Rattle.mechanism.proofs.Fields.{entries-fit, next-id-fits, is-true, is-false}
 use Rattle.machine.specs.declared.SaveReport.{SaveReport}
 use Rattle.machine.proofs.SaveReport as save-report
-use Rattle.machine.proofs.VmValues.{save-report-shut, save-report-vals, saved-shut, saved-vals}
+use Rattle.mechanism.proofs.VmValues.{save-report-shut, save-report-vals, saved-shut, saved-vals}
 use Rattle.machine.specs.Sound.{tested, sound-world}
 use Rattle.machine.specs.Reads.{host-saved, not-saved, saved-to, host-save}
-use Rattle.machine.proofs.VmFields.{take-entries, take-next-id}
-use Rattle.machine.proofs.Answers.{hosts-save, hosts-none}
+use Rattle.mechanism.proofs.VmFields.{take-entries, take-next-id}
+use Rattle.mechanism.proofs.Answers.{hosts-save, hosts-none}
 use Rattle.vm.proofs.sound.sound.Symbol.{name as #tests}
 use Rattle.table_image.proofs.save_table.Symbol.{name as #saves}
 use Rattle.vm.proofs.saving.host_saved.Symbol.{name as #keeps}

@@ -48,12 +48,12 @@ use Rattle.storage.specs.Tasks.{after}
 use Rattle.storage.proofs.Records.{R, table-ty}
 use Rattle.machine.specs.declared.Machine.{Machine}
 use Rattle.machine.proofs.Machine as machine
-use Rattle.machine.proofs.Values.{machine-shut, machine-vals}
-use Rattle.machine.proofs.Fields.{next-id-fits}
+use Rattle.mechanism.proofs.Values.{machine-shut, machine-vals}
+use Rattle.mechanism.proofs.Fields.{next-id-fits}
 use Rattle.storage.specs.Table.{sound-table}
 use Rattle.machine.specs.Sound.{tested, beside, sound-record, sound-world}
-use Rattle.machine.proofs.VmFields.{count-fits, take-next-id, take-count}
-use Rattle.machine.proofs.Answers.{tests}
+use Rattle.mechanism.proofs.VmFields.{count-fits, take-next-id, take-count}
+use Rattle.mechanism.proofs.Answers.{tests}
 use Rattle.table.proofs.slots.sound.Symbol.{name as #slots}
 use Rattle.vm.proofs.sound.sound_record.Symbol.{name as #others}
 use Rattle.vm.proofs.sound.sound.Key.{name as #this}

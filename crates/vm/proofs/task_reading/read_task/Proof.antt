@@ -54,13 +54,13 @@ use Rattle.machine.specs.declared.Machine.{Machine}
 use Rattle.machine.proofs.Machine as machine
 use Rattle.image.specs.Table.{stepped}
 use Rattle.machine.specs.World.{world}
-use Rattle.machine.proofs.Values.{machine-shut, machine-vals}
+use Rattle.mechanism.proofs.Values.{machine-shut, machine-vals}
 use Rattle.machine.specs.declared.TaskRead.{TaskRead}
 use Rattle.machine.proofs.TaskRead as task-read
-use Rattle.machine.proofs.VmValues.{task-read-shut, task-read-vals, id-shut, id-vals}
+use Rattle.mechanism.proofs.VmValues.{task-read-shut, task-read-vals, id-shut, id-vals}
 use Rattle.machine.specs.Sound.{tested, sound-world}
 use Rattle.machine.specs.Reads.{read-to, task-at, task-read as task-read-of}
-use Rattle.machine.proofs.Answers.{reads-task}
+use Rattle.mechanism.proofs.Answers.{reads-task}
 use Rattle.vm.proofs.sound.sound.Symbol.{name as #tests}
 use Rattle.storage.proofs.ids.slot_of.Symbol.{name as #slot}
 use Rattle.table.proofs.get.Symbol.{name as #get}

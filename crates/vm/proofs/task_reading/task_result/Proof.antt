@@ -1,7 +1,7 @@
 -- `vm::task_reading::task_result` meets its contract.
 use Rattle.machine.specs.Reads.{task-result, if-found, if-measured}
 use mathlib.Core.Path.{sym, ap, _∙_}
-use Rattle.machine.proofs.Measured.{found}
+use Rattle.mechanism.proofs.Measured.{found}
 use borrow.Author.Needs.{needs}
 use Rattle.vm.proofs.task_reading.task_result.Statement.{statement}
 use Rattle.vm.proofs.task_reading.task_result.Tie as tie

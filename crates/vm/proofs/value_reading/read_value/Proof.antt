@@ -50,11 +50,11 @@ use Rattle.machine.proofs.Machine as machine
 use Rattle.memory.specs.declared.unbox.Return.{Return}
 use Rattle.memory.proofs.unbox.Return as return
 use Rattle.machine.specs.World.{world}
-use Rattle.machine.proofs.Values.{machine-shut, machine-vals}
-use Rattle.machine.proofs.VmValues.{return-shut, return-vals}
+use Rattle.mechanism.proofs.Values.{machine-shut, machine-vals}
+use Rattle.mechanism.proofs.VmValues.{return-shut, return-vals}
 use Rattle.machine.specs.Sound.{tested, sound-world}
 use Rattle.machine.specs.Reads.{beside, read-to, value-at, value-read}
-use Rattle.machine.proofs.Answers.{reads-value}
+use Rattle.mechanism.proofs.Answers.{reads-value}
 use Rattle.vm.proofs.sound.sound.Symbol.{name as #tests}
 use Rattle.vm.proofs.value_reading.value_at.Symbol.{name as #reads}
 use Rattle.vm.proofs.value_reading.read_value.Key.{name as #this}

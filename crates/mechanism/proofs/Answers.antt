@@ -1,0 +1,131 @@
+-- What the callees of each call of a host answer, put together: a test of the record, a run, a read, a save, a creation.
+use Prim.Native.Nat.{ℕ}
+use mathlib.Core.Path.{_≡_, sym, _∙_, ap}
+use mathlib.Core.Bool.{Bool, true, false, cond}
+use mathlib.Core.List.{List}
+use lib.ListN.{length, replicate, getD}
+use Rattle.storage.specs.declared.Task.{Task}
+use Rattle.storage.specs.declared.TaskId.{TaskId}
+use Rattle.storage.specs.Storage.{slot-of}
+use Rattle.storage.specs.Tasks.{blank, After, after}
+use Rattle.storage.specs.Table.{sound-table}
+use Rattle.image.specs.declared.SaveResult.{SaveResult}
+use Rattle.image.specs.Table.{Stepped, stepped, SavedTable, saved-table, save-table, Loading, load-records}
+use Rattle.table_image.specs.Tables.{Held, held, in-use, loading}
+use Rattle.table_image.specs.declared.InUse.{InUse}
+use Rattle.memory.specs.declared.unbox.Return.{Return}
+use Rattle.machine.specs.declared.Machine.{Machine}
+use Rattle.machine.specs.declared.Ran.{Ran}
+use Rattle.machine.specs.World.{world}
+use Rattle.machine.specs.Run.{ran-to, run}
+use Rattle.machine.specs.Sound.{Tested, tested, Beside, beside, sound-record, sound-world}
+use Rattle.machine.specs.Calls.{reported, allowed, report, not-allowed, at-end, call-with, call}
+use Rattle.machine.specs.Reads.{read-to, value-at, value-read, task-at, task-read, saved-to, host-saved, not-saved, host-save-as, host-save}
+use Rattle.machine.specs.Reads as reads
+use Rattle.machine.specs.Creation.{prepared, prepare, made, created, loaded, create-as, create}
+use Rattle.machine.specs.declared.Allowed.{Allowed}
+use Rattle.machine.specs.declared.Verb.{Verb}
+use Rattle.machine.specs.declared.Report.{Report}
+use Rattle.machine.specs.declared.Prepared.{Prepared}
+use Rattle.machine.specs.declared.CreateResult.{CreateResult}
+use Rattle.machine.specs.declared.CreateResult.the-variants.{NotCreated}
+use Rattle.machine.specs.declared.TaskRead.{TaskRead}
+use Rattle.machine.specs.declared.SaveReport.{SaveReport}
+
+-- ---- the test of the record
+
+-- the table's slots, then the record beside it
+pub tests : (table : List Task) (memory pool ends save : List ℕ) (machine : Machine) {good answer : Bool} {table′ : List Task} {memory′ pool′ ends′ save′ : List ℕ}
+    → after good table′ ≡ after (sound-table table (machine .«next_id») (machine .count)) table
+    → beside answer memory′ pool′ ends′ save′ ≡ beside (sound-record (length memory) (length pool) ends (length save) machine good) memory pool ends save
+    → tested answer table′ memory′ pool′ ends′ save′ ≡ tested (sound-world table memory pool ends save machine) table memory pool ends save
+unfolding sound-world
+tests table memory pool ends save machine {good} {answer} {table′} e f =
+    ap (λ (b : Beside). tested (b .answer) table′ (b .memory) (b .pool) (b .ends) (b .save)) f
+    ∙ ap (λ (a : After Bool (List Task)). tested (sound-record (length memory) (length pool) ends (length save) machine (a .answer)) (a .lent) memory pool ends save) e
+
+-- ---- creation
+
+module _ (table : List Task) (pool ends image program : List ℕ) {ready : Prepared} {pool′ ends′ image′ program′ : List ℕ}
+    (e : prepared ready pool′ ends′ image′ program′ ≡ prepare pool ends image program (length table)) where
+  -- it goes on to the image's tasks
+  pub creates : {used : InUse} {r : CreateResult} {table″ : List Task} {pool″ ends″ image″ : List ℕ} → ready .fits ≡ true
+      → after (loading table″ pool″ ends″ used) image″ ≡ after (load-records (ready .count) image′ 14 (loading (replicate (length table) blank) pool′ ends′ (in-use (ready .machine .pool) (ready .machine .entries)))) image′
+      → r ≡ created (ready .machine) used → made r table″ pool″ ends″ image″ program′ ≡ create table pool ends image program
+  unfolding create create-as
+  creates {used} {r} {table″} {pool″} {ends″} {image″} fits f g =
+      ap (λ (a : CreateResult). made a table″ pool″ ends″ image″ program′) g
+      ∙ ap (λ (a : After Loading (List ℕ)). loaded (ready .machine) (a .lent) program′ (a .answer)) f
+      ∙ sym (simp (fits)) ∙ ap (create-as table) e
+
+  -- it is refused
+  pub creates-none : {r : CreateResult} → ready .fits ≡ false → r ≡ NotCreated (ready .refusal) → made r table pool′ ends′ image′ program′ ≡ create table pool ends image program
+  unfolding create create-as
+  creates-none fits g = ap (λ (a : CreateResult). made a table pool′ ends′ image′ program′) g ∙ sym (simp (fits)) ∙ ap (create-as table) e
+
+-- ---- what follows a test
+
+module _ (machine : Machine) (table : List Task) (stack memory pool ends save : List ℕ) {good : Bool} {table′ : List Task} {memory′ pool′ ends′ save′ : List ℕ}
+    (e : tested good table′ memory′ pool′ ends′ save′ ≡ tested (sound-world table memory pool ends save machine) table memory pool ends save) where
+  -- a call
+  calls : (verb : Verb) (fuel : ℕ) → call-with fuel (world machine table′ stack memory′ pool′ ends′ save′) (allowed machine good verb) ≡ call verb fuel (world machine table stack memory pool ends save)
+  unfolding call
+  calls verb fuel = ap (λ (t : Tested). call-with fuel (world machine (t .table) stack (t .memory) (t .pool) (t .ends) (t .save)) (allowed machine (t .answer) verb)) e
+
+  -- one that is allowed
+  pub calls-run : (verb : Verb) (fuel : ℕ) {a : Allowed} {ran : Ran} {r : Report} {table″ : List Task} {stack″ memory″ pool″ ends″ save″ : List ℕ} → a ≡ allowed machine good verb → a .allowed ≡ true
+      → ran-to ran table″ stack″ memory″ pool″ ends″ save″ ≡ run fuel (world (a .machine) table′ stack memory′ pool′ ends′ save′) → r ≡ report fuel ran
+      → reported r table″ stack″ memory″ pool″ ends″ save″ ≡ call verb fuel (world machine table stack memory pool ends save)
+  unfolding call-with
+  calls-run verb fuel {a} {ran} {r} {table″} {stack″} {memory″} {pool″} {ends″} {save″} begun may went reports =
+      ap (λ (x : Report). reported x table″ stack″ memory″ pool″ ends″ save″) reports ∙ ap (at-end fuel) went
+      ∙ sym (simp (may)) ∙ ap (call-with fuel (world machine table′ stack memory′ pool′ ends′ save′)) begun ∙ calls verb fuel
+
+  -- one that is not
+  pub calls-none : (verb : Verb) (fuel : ℕ) {a : Allowed} {r : Report} → a ≡ allowed machine good verb → a .allowed ≡ false → r ≡ not-allowed machine
+      → reported r table′ stack memory′ pool′ ends′ save′ ≡ call verb fuel (world machine table stack memory pool ends save)
+  unfolding call-with
+  calls-none verb fuel begun may reports =
+      ap (λ (x : Report). reported x table′ stack memory′ pool′ ends′ save′) reports
+      ∙ sym (simp (may)) ∙ ap (call-with fuel (world machine table′ stack memory′ pool′ ends′ save′)) begun ∙ calls verb fuel
+
+  -- the read of a value
+  pub reads-value : (position : ℕ) {r : Return} {stack″ memory″ ends″ : List ℕ} → reads.beside r stack″ memory″ ends″ ≡ reads.beside (value-at stack memory′ ends′ machine good position) stack memory′ ends′
+      → read-to r (world machine table′ stack″ memory″ pool′ ends″ save′) ≡ value-read position (world machine table stack memory pool ends save)
+  unfolding value-read
+  reads-value position f =
+      ap (λ (b : reads.Beside). read-to (b .answer) (world machine table′ (b .stack) (b .memory) pool′ (b .ends) save′)) f
+      ∙ ap (λ (t : Tested). read-to (value-at stack (t .memory) (t .ends) machine (t .answer) position) (world machine (t .table) stack (t .memory) (t .pool) (t .ends) (t .save))) e
+
+  -- the read of a task
+  pub reads-task : (id : TaskId) {slot : ℕ} {task : Task} {r : TaskRead} {table″ : List Task} {pool″ ends″ : List ℕ} → slot ≡ slot-of id → after task table″ ≡ after (getD table′ slot blank) table′
+      → stepped r pool″ ends″ ≡ stepped (task-at pool′ ends′ machine good id task) pool′ ends′
+      → read-to r (world machine table″ stack memory′ pool″ ends″ save′) ≡ task-read id (world machine table stack memory pool ends save)
+  unfolding task-read
+  reads-task id {slot} {task} {r} {table″} at found f =
+      ap (λ (b : Stepped TaskRead). read-to (b .answer) (world machine table″ stack memory′ (b .pool) (b .ends) save′)) f
+      ∙ ap (λ (a : After Task (List Task)). read-to (task-at pool′ ends′ machine good id (a .answer)) (world machine (a .lent) stack memory′ pool′ ends′ save′)) found
+      ∙ ap (λ (n : ℕ). read-to (task-at pool′ ends′ machine good id (getD table′ n blank)) (world machine table′ stack memory′ pool′ ends′ save′)) at
+      ∙ ap (λ (t : Tested). read-to (task-at (t .pool) (t .ends) machine (t .answer) id (getD (t .table) (slot-of id) blank)) (world machine (t .table) stack (t .memory) (t .pool) (t .ends) (t .save))) e
+
+  -- a save
+  hosts : cond good (host-save-as (world machine table′ stack memory′ pool′ ends′ save′) (save-table (machine .«next_id») table′ pool′ ends′ (machine .entries) save′)) (saved-to (not-saved machine) table′ stack memory′ pool′ ends′ save′)
+      ≡ host-save (world machine table stack memory pool ends save)
+  unfolding host-save
+  hosts =
+      ap (λ (t : Tested). cond (t .answer)
+      (host-save-as (world machine (t .table) stack (t .memory) (t .pool) (t .ends) (t .save)) (save-table (machine .«next_id») (t .table) (t .pool) (t .ends) (machine .entries) (t .save)))
+      (saved-to (not-saved machine) (t .table) stack (t .memory) (t .pool) (t .ends) (t .save))) e
+
+  -- one of a sound record
+  pub hosts-save : {result : SaveResult} {r : SaveReport} {table″ : List Task} {pool″ ends″ save″ : List ℕ} → good ≡ true
+      → held (saved-table result save″) table″ pool″ ends″ ≡ held (save-table (machine .«next_id») table′ pool′ ends′ (machine .entries) save′) table′ pool′ ends′ → r ≡ host-saved machine result
+      → saved-to r table″ stack memory′ pool″ ends″ save″ ≡ host-save (world machine table stack memory pool ends save)
+  hosts-save {result} {r} {table″} {pool″} {ends″} {save″} sound f g =
+      ap (λ (x : SaveReport). saved-to x table″ stack memory′ pool″ ends″ save″) g
+      ∙ ap (λ (h : Held SavedTable). saved-to (host-saved machine (h .answer .answer)) (h .table) stack memory′ (h .pool) (h .ends) (h .answer .save)) f
+      ∙ sym (simp (sound)) ∙ hosts
+
+  -- one of an unsound record
+  pub hosts-none : {r : SaveReport} → good ≡ false → r ≡ not-saved machine → saved-to r table′ stack memory′ pool′ ends′ save′ ≡ host-save (world machine table stack memory pool ends save)
+  hosts-none sound g = ap (λ (x : SaveReport). saved-to x table′ stack memory′ pool′ ends′ save′) g ∙ sym (simp (sound)) ∙ hosts

@@ -1,0 +1,17 @@
+pub mod Registers
+pub mod Stack
+pub mod Control
+pub mod Equality
+pub mod Store
+pub mod Changes
+pub mod Create
+pub mod Fields
+pub mod Cut
+pub mod Operated
+pub mod Execute
+pub mod Steps
+pub mod Frames
+pub mod Act
+pub mod Advance
+pub mod Turns
+pub mod Step
