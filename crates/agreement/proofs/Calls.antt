@@ -19,7 +19,7 @@ use Rattle.machine.specs.declared.Phase.{Phase}
 use Rattle.machine.specs.declared.Phase.the-variants.{Paused, Done, Stopped}
 use Rattle.machine.specs.Machines.{current}
 use Rattle.mechanism.specs.Registers.{registers-of, settled}
-use Rattle.machine.specs.Machines.{rewound}
+use Rattle.machine.specs.Machines.{rewound, placed}
 use Rattle.machine.specs.declared.Outcome.{Outcome}
 use Rattle.machine.specs.declared.Outcome.the-variants as outcome
 use Rattle.machine.specs.World.{World, place}

@@ -39,7 +39,8 @@ use Rattle.mechanism.specs.Execute.{kept, operated, is-equality, execute, by-ex
 use Rattle.machine.specs.Machines.{current}
 use Rattle.mechanism.specs.Registers.{registers-of}
 use Rattle.machine.specs.World.{World, code, place}
-use Rattle.mechanism.specs.Step.{Stepped, refused, inner-did}
+use Rattle.machine.specs.Words.{StepResult, refused}
+use Rattle.mechanism.specs.Step.{inner-did}
 use Rattle.rust.specs.Errors.{StackUnderflow, StackOverflow, Out, ok, panic}
 use Rattle.rust.specs.InlineVec as inlinevec
 use Rattle.rust.specs.Helpers.{byte, prepare-u32-from-be-checked}
@@ -74,7 +75,7 @@ module _ (w : World) (stale : ℕ) (h : Facts w) (bytes : Bytes (w .pool)) where
   p = place w
 
   -- an instruction by its extent
-  abbrev by : ℕ → Extent → Stepped
+  abbrev by : ℕ → Extent → StepResult
   by op reach = stepped w (by-extent (w .stack) (w .memory) c r op (w .machine .count) reach)
 
   pub push-u32-agrees : Agree w (by PUSH-U32 (up-to c (p + 1 + 4))) (rust.push-u32 c (p + 1) (view stale w))
@@ -171,7 +172,7 @@ module _ (w : World) (stale : ℕ) (h : Facts w) (bytes : Bytes (w .pool)) where
       (λ i e. loop-pushed next i (w .machine .loops) _ (h .loops))
 
   -- one loop off, or none there
-  one-loop-off : (loops : Loops) → loops .count ≤ 2 → (f : PopLoopResult → Stepped) (k : Loop → List Loop → Out VM)
+  one-loop-off : (loops : Loops) → loops .count ≤ 2 → (f : PopLoopResult → StepResult) (k : Loop → List Loop → Out VM)
       → f (NotPoppedLoop refusal.StackUnderflow) ≡ refused refusal.StackUnderflow
       → (0 < loops .count → Agree w (f (PoppedLoop (last-two (of-loops loops)) (to-loops (pop-two (of-loops loops))))) (k (last-two (of-loops loops)) (two-of (pop-two (of-loops loops)))))
       → Agree w (f (pop-loop loops)) (inlinevec.pop (loops-of loops) k)
@@ -199,7 +200,7 @@ module _ (w : World) (stale : ℕ) (h : Facts w) (bytes : Bytes (w .pool)) where
           (λ t. loops-go next (w .machine .height) loops (loops-of loops) refl)
 
   -- a look at the innermost loop
-  one-loop-seen : (loops : Loops) → loops .count ≤ 2 → (f : LastLoopResult → Stepped) (k : Loop → Out VM)
+  one-loop-seen : (loops : Loops) → loops .count ≤ 2 → (f : LastLoopResult → StepResult) (k : Loop → Out VM)
       → f (NoLastLoop refusal.StackUnderflow) ≡ refused refusal.StackUnderflow
       → Agree w (f (LastLoop (last-two (of-loops loops)))) (k (last-two (of-loops loops)))
       → Agree w (f (last-loop loops)) (inlinevec.last (loops-of loops) k)

@@ -25,7 +25,8 @@ use Rattle.mechanism.specs.declared.PopTwoResult.{PopTwoResult}
 use Rattle.mechanism.specs.Execute.{kept}
 use Rattle.mechanism.specs.Registers.{registers-of}
 use Rattle.machine.specs.World.{World}
-use Rattle.mechanism.specs.Step.{Stepped, inner-did}
+use Rattle.machine.specs.Words.{StepResult}
+use Rattle.mechanism.specs.Step.{inner-did}
 use Rattle.laws.specs.Sound.{Inside}
 use Rattle.rust.specs.Errors.{VMError, InvalidType, TypeMismatch, Out, err}
 use Rattle.rust.specs.Values as values
@@ -42,7 +43,7 @@ use Rattle.agreement.proofs.Values.{eq-agrees, neq-agrees, tag-agrees, 
 use Rattle.agreement.proofs.Stack.{finished, missed}
 
 -- a slice of a vector that lies in memory
-pub sliced : {w : World} {a : Stepped} (l : List ℕ) (pointer : FatPointer) (k : List ℕ → Out VM) → pointer .offset + pointer .size ≤ length l
+pub sliced : {w : World} {a : StepResult} (l : List ℕ) (pointer : FatPointer) (k : List ℕ → Out VM) → pointer .offset + pointer .size ≤ length l
     → Agree w a (k (get-slice-bytes l pointer)) → Agree w a (memory.get-slice-bytes l pointer k)
 unfolding memory.get-slice-bytes slice
 sliced l pointer k inside agrees = rw (le-leb (pointer .offset + pointer .size) (length l) inside) agrees
@@ -53,7 +54,7 @@ unfolding inside
 is-inside l pointer lies = le-leb (pointer .offset + pointer .size) (length l) lies
 
 -- two vectors
-slices-agree : {w : World} (f : ValueResult → Stepped) (k : ℕ → Out VM) → ((value : ℕ) → Agree w (f (Value value)) (k value))
+slices-agree : {w : World} (f : ValueResult → StepResult) (k : ℕ → Out VM) → ((value : ℕ) → Agree w (f (Value value)) (k value))
     → (l : List ℕ) (left right : FatPointer) → left .offset + left .size ≤ length l → right .offset + right .size ≤ length l
     → Agree w (f (is-m-slice-eq l left right)) (memory.is-m-slice-eq l left right k)
 unfolding is-m-slice-eq memory.is-m-slice-eq
@@ -64,7 +65,7 @@ slices-agree {w} f k given l left right a b =
     (λ t. given _)
 
 -- two values, over memory in use; g is EQ's own answer or NEQ's, which turns it round
-module _ {w : World} (g : ℕ → ℕ) (f : ValueResult → Stepped) (k : ℕ → Out VM) (given : (value : ℕ) → Agree w (f (Value value)) (k (g value)))
+module _ {w : World} (g : ℕ → ℕ) (f : ValueResult → StepResult) (k : ℕ → Out VM) (given : (value : ℕ) → Agree w (f (Value value)) (k (g value)))
     (missed : (error : VMError) → Agree w (f (NoValue (refusal-of error))) (err error)) (l : List ℕ) where
   eq-agree : (left right : ℕ) → Inside (length l) left → Inside (length l) right → (scalar : (ℕ → Out VM) → Out VM) → Agree w (f (value-eq left right)) (scalar k)
       → Agree w (f (eq-values l left right))

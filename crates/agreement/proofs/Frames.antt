@@ -41,7 +41,8 @@ use Rattle.mechanism.specs.Advance.{named-by, wanted}
 use Rattle.mechanism.specs.declared.Went.{Went}
 use Rattle.mechanism.specs.declared.Went.the-variants.{Onto}
 use Rattle.machine.specs.World.{World, world, code, place}
-use Rattle.mechanism.specs.Step.{Stepped, next, acts-went}
+use Rattle.machine.specs.Words.{StepResult, next}
+use Rattle.mechanism.specs.Step.{acts-went}
 use Rattle.rust.specs.Errors.{StackOverflow, InvalidInstructionsIndex, ok, err, panic}
 use Rattle.rust.specs.InlineVec as inlinevec
 use Rattle.rust.specs.Helpers.{slice, prepare-u16-from-be-checked}
@@ -137,7 +138,7 @@ module _ (w : World) (stale : ℕ) (h : Facts w) (bytes : Bytes (w .pool)) where
   interned-is whole = rw (operand-there 2 c (p + 1) (le-leb (p + 1 + 2) (length c) (omega arith)), part-is whole)
 
   -- what is pushed by what was interned
-  abbrev pushing : ℕ → ℕ → Task → Pooled → Stepped
+  abbrev pushing : ℕ → ℕ → Task → Pooled → StepResult
   pushing to slot task after = acted-as w slot (after-pool (calldata-pushed (w .stack) m to after (after .answer)) (w .memory) task)
 
   abbrev value : ℕ
@@ -192,7 +193,7 @@ module _ (w : World) (stale : ℕ) (h : Facts w) (bytes : Bytes (w .pool)) where
       by false e = rw (e, length-values (w .stack) (m .height), lt-ltb (m .height) 1000 (leb-false _ _ e), interned-is whole) (interned-agrees to slot task (leb-false _ _ e))
 
   -- an instruction by its extent
-  abbrev by-op : ℕ → Task → ℕ → Extent → Stepped
+  abbrev by-op : ℕ → Task → ℕ → Extent → StepResult
   by-op slot task op reach = acted-as w slot (act-by (w .stack) (w .memory) (w .pool) (w .ends) m task op p reach)
 
   pub push-calldata-agrees : (slot : ℕ) (task : Task) → Agree w (by-op slot task PUSH-CALLDATA (up-to c (p + 1 + 2 + size))) (rust.push-calldata c (p + 1) (view stale w))
@@ -209,7 +210,7 @@ module _ (w : World) (stale : ℕ) (h : Facts w) (bytes : Bytes (w .pool)) where
 
   -- ---- CALL
 
-  abbrev went-as : ℕ → Task → Went → Stepped
+  abbrev went-as : ℕ → Task → Went → StepResult
   went-as slot task went = acted-as w slot (on-all (acted went (keep task)) (w .stack) (w .memory) (w .pool) (w .ends))
 
   -- the caller with its place noted

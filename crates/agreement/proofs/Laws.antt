@@ -18,7 +18,7 @@ use Rattle.mechanism.specs.Stack.{pop-two, pop-first, pop-second}
 use Rattle.mechanism.specs.declared.PopTwoResult.{PopTwoResult}
 use Rattle.mechanism.specs.declared.PopTwoResult.the-variants.{PoppedTwo, NotPoppedTwo}
 use Rattle.machine.specs.World.{World}
-use Rattle.mechanism.specs.Step.{Stepped, next, refused}
+use Rattle.machine.specs.Words.{StepResult, next, refused}
 use Rattle.rust.specs.Errors.{StackUnderflow, Out, ok}
 use Rattle.rust.specs.InlineVec as rust
 use Rattle.rust.specs.Vm.{VM}
@@ -52,31 +52,31 @@ module _ {w : World} where
   goes-by stale {v} {vm} bytes e = subst (λ (s : VM). Agree w (next v) (ok s)) e (goes-on stale bytes)
 
   -- one test on both sides
-  pub same : {A : Type 0} (f : A → Stepped) (b : Bool) {x y : A} {o p : Out VM} → (b ≡ true → Agree w (f x) o) → (b ≡ false → Agree w (f y) p)
+  pub same : {A : Type 0} (f : A → StepResult) (b : Bool) {x y : A} {o p : Out VM} → (b ≡ true → Agree w (f x) o) → (b ≡ false → Agree w (f y) p)
       → Agree w (f (cond b x y)) (cond b o p)
   same f true t e = t refl
   same f false t e = e refl
 
   -- two tests that come to the same
-  pub like : {A : Type 0} (f : A → Stepped) (b d : Bool) → d ≡ b → {x y : A} {o p : Out VM} → (b ≡ true → Agree w (f x) o) → (b ≡ false → Agree w (f y) p)
+  pub like : {A : Type 0} (f : A → StepResult) (b d : Bool) → d ≡ b → {x y : A} {o p : Out VM} → (b ≡ true → Agree w (f x) o) → (b ≡ false → Agree w (f y) p)
       → Agree w (f (cond b x y)) (cond d o p)
   like f b d e {x} {y} {o} {p} t f₀ = subst (λ (q : Bool). Agree w (f (cond b x y)) (cond q o p)) (sym e) (same f b t f₀)
 
   -- a test of the Rust alone, known
-  pub holds : {a : Stepped} (d : Bool) → d ≡ true → {o : Out VM} (p : Out VM) → Agree w a o → Agree w a (cond d o p)
+  pub holds : {a : StepResult} (d : Bool) → d ≡ true → {o : Out VM} (p : Out VM) → Agree w a o → Agree w a (cond d o p)
   holds {a} d e {o} p agrees = subst (λ (t : Bool). Agree w a (cond t o p)) (sym e) agrees
 
-  pub fails : {a : Stepped} (d : Bool) → d ≡ false → (o : Out VM) {p : Out VM} → Agree w a p → Agree w a (cond d o p)
+  pub fails : {a : StepResult} (d : Bool) → d ≡ false → (o : Out VM) {p : Out VM} → Agree w a p → Agree w a (cond d o p)
   fails {a} d e o {p} agrees = subst (λ (t : Bool). Agree w a (cond t o p)) (sym e) agrees
 
   -- a test of ours alone, which meets an added capacity
-  pub room : {A : Type 0} (f : A → Stepped) (b : Bool) {x y : A} {vm : VM} {r : Refusal} → f x ≡ refused r → (b ≡ true → Over w r vm) → (b ≡ false → Agree w (f y) (ok vm))
+  pub room : {A : Type 0} (f : A → StepResult) (b : Bool) {x y : A} {vm : VM} {r : Refusal} → f x ≡ refused r → (b ≡ true → Over w r vm) → (b ≡ false → Agree w (f y) (ok vm))
       → Agree w (f (cond b x y)) (ok vm)
-  room f true {x} {y} {vm} e over fits = subst (λ (a : Stepped). Agree w a (ok vm)) (sym e) (lacks (over refl))
+  room f true {x} {y} {vm} e over fits = subst (λ (a : StepResult). Agree w a (ok vm)) (sym e) (lacks (over refl))
   room f false e over fits = fits refl
 
   -- one value off
-  pub one-off : (stack : List ℕ) (height : ℕ) → height ≤ 1000 → (f : PopResult → Stepped) (k : ℕ → List ℕ → Out VM)
+  pub one-off : (stack : List ℕ) (height : ℕ) → height ≤ 1000 → (f : PopResult → StepResult) (k : ℕ → List ℕ → Out VM)
       → f (NotPopped refusal.StackUnderflow) ≡ refused refusal.StackUnderflow
       → ((h : ℕ) → height ≡ suc h → Agree w (f (Popped (getD stack h 0) h)) (k (getD stack h 0) (values-of h stack)))
       → Agree w (f (pop stack height)) (rust.pop (values-of height stack) k)
@@ -85,7 +85,7 @@ module _ {w : World} where
   one-off stack (suc h) most f k under onto = rw (popped stack h most) (onto h refl)
 
   -- two values off
-  pub two-off : (stack : List ℕ) (height : ℕ) → height ≤ 1000 → (f : PopTwoResult → Stepped) (k : ℕ → ℕ → List ℕ → Out VM)
+  pub two-off : (stack : List ℕ) (height : ℕ) → height ≤ 1000 → (f : PopTwoResult → StepResult) (k : ℕ → ℕ → List ℕ → Out VM)
       → f (NotPoppedTwo refusal.StackUnderflow) ≡ refused refusal.StackUnderflow
       → ((h : ℕ) → height ≡ suc (suc h) → Agree w (f (PoppedTwo (getD stack (suc h) 0) (getD stack h 0) h)) (k (getD stack (suc h) 0) (getD stack h 0) (values-of h stack)))
       → Agree w (f (pop-two stack height)) (rust.pop (values-of height stack) λ a above. rust.pop above λ b below. k a b below)
@@ -95,7 +95,7 @@ module _ {w : World} where
   two-off stack (suc (suc h)) most f k under onto = rw (popped-both stack h most) (onto h refl)
 
   -- a look at the last one
-  pub one-seen : (stack : List ℕ) (height : ℕ) → height ≤ 1000 → (f : LastResult → Stepped) (k : ℕ → Out VM)
+  pub one-seen : (stack : List ℕ) (height : ℕ) → height ≤ 1000 → (f : LastResult → StepResult) (k : ℕ → Out VM)
       → f (NoLast refusal.StackUnderflow) ≡ refused refusal.StackUnderflow
       → ((h : ℕ) → height ≡ suc h → Agree w (f (Last (getD stack h 0))) (k (getD stack h 0)))
       → Agree w (f (last stack height)) (rust.last (values-of height stack) k)

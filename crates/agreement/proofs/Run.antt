@@ -12,7 +12,8 @@ use Rattle.pools.proofs.Laws.{getD-entries}
 use Rattle.machine.specs.Machines.{current, code-of}
 use Rattle.machine.specs.declared.Outcome.the-variants as outcome
 use Rattle.machine.specs.World.{World, code, place, at-end}
-use Rattle.mechanism.specs.Step.{Stepped, step}
+use Rattle.machine.specs.Words.{StepResult}
+use Rattle.machine.specs.Step.{step}
 use Rattle.machine.specs.Run.{End, end-at, follow, run}
 use Rattle.laws.specs.Sound.{Sound}
 use Rattle.laws.proofs.Step.{step-sound}
@@ -49,7 +50,7 @@ module _ (w : World) (stale : ℕ) (s : Sound w) where
 
 -- on from an instruction
 module _ (others : World → End) (turn : VM → Ran) (alike : (v : World) (stale : ℕ) → Sound v → Bytes (v .pool) → Same (others v) (turn (view stale v))) where
-  follows : (w : World) (stale left : ℕ) (a : Stepped) (o : Out VM) → Sound w → step w ≡ a → rust.step (view stale w) ≡ o → Agree w a o → Same (follow others w left a) (onward turn o)
+  follows : (w : World) (stale left : ℕ) (a : StepResult) (o : Out VM) → Sound w → step w ≡ a → rust.step (view stale w) ≡ o → Agree w a o → Same (follow others w left a) (onward turn o)
   unfolding follow onward
   follows w stale left _ _ s e o (goes-on later bytes) = alike _ later (step-sound w _ s e) bytes
   follows w stale left _ _ s e o (lacks {r} {vm} over) = meets stale w left r vm _ o over

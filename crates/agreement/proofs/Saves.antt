@@ -32,7 +32,8 @@ use Rattle.mechanism.specs.Registers.{registers-of, settled}
 use Rattle.mechanism.specs.Registers.{machine-at}
 use Rattle.mechanism.specs.Turns.{save-went}
 use Rattle.machine.specs.World.{World, world, code, place}
-use Rattle.mechanism.specs.Step.{Stepped, next, saves-went, saves}
+use Rattle.machine.specs.Words.{StepResult, next}
+use Rattle.mechanism.specs.Step.{saves-went, saves}
 use Rattle.rust.specs.Errors.{VMError, InvalidInstructionsIndex, BytesToStringConversionError, Out, ok, err}
 use Rattle.rust.specs.Instructions as instructions
 use Rattle.rust.specs.TaskTypes.{TaskVM, to-task}
@@ -76,7 +77,7 @@ module _ (w : World) (stale : ℕ) (h : Facts w) (bytes : Bytes (w .pool)) where
   unfolding image-tasks
   dead-length i rest e = rw (no-task (slot i) e)
 
-  module _ (f : Measured → Stepped) (o : Out VM) (missed : (error : VMError) → Agree w (f (refused (refusal-of error))) (err error)) where
+  module _ (f : Measured → StepResult) (o : Out VM) (missed : (error : VMError) → Agree w (f (refused (refusal-of error))) (err error)) where
     -- a living slot: 12, then 15
     one-saved : (limit size : ℕ) (task : Task) (others : ℕ → Measured) (rest : List (Option TaskVM))
         → (task .«instructions_ref» .0 < m .entries → (more : ℕ) → more ≤ size + length (framed 2 (body (task-in (w .pool) (w .ends) task))) → Agree w (f (others more)) (rust-storage.to-tasks entries rest λ ts. o))
@@ -151,7 +152,7 @@ module _ (w : World) (stale : ℕ) (h : Facts w) (bytes : Bytes (w .pool)) where
   abbrev saving : Measured → SavedTable
   saving x = saved-as (m .«next_id») (w .table) (w .pool) (w .ends) (w .save) x
 
-  abbrev by-measure : Measured → Stepped
+  abbrev by-measure : Measured → StepResult
   by-measure x = saves-went w (saving x .save) (save-went m (saving x .answer))
 
   not-measured : (error : VMError) → Agree w (by-measure (refused (refusal-of error))) (err error)
@@ -166,13 +167,9 @@ module _ (w : World) (stale : ℕ) (h : Facts w) (bytes : Bytes (w .pool)) where
   unfolding view settled registers-of
   saved-view save size = rw (current-is (m .frames) (record { entry = current (m .frames) .entry; place = p + 1 }), callers-are (m .frames) (record { entry = current (m .frames) .entry; place = p + 1 }))
 
-  saved-goes : (save : List ℕ) (size : ℕ) → p < length (code w)
-      → Agree w (next (world (with-saved (machine-at m ((p + 1) % 2 ^ 64) (m .height)) size) (w .table) (w .stack) (w .memory) (w .pool) (w .ends) save)) (ok (at (view stale w) (p + 1) (values-of (m .height) (w .stack))))
-  saved-goes save size inside =
-      let long = code-length w stale h bytes in
-      let most : end-of (w .ends) (current (m .frames) .entry .0) ≤ m .pool = found-within (w .ends) (m .pool) (m .entries) (h .ends) (current (m .frames) .entry .0) (h .frame) .in-bytes in
-      let z : (p + 1) % 2 ^ 64 ≡ p + 1 = omega (arith, h .small) in
-      rw z (goes-by stale bytes (saved-view save size))
+  saved-goes : (save : List ℕ) (size : ℕ)
+      → Agree w (next (world (with-saved (machine-at m (p + 1) (m .height)) size) (w .table) (w .stack) (w .memory) (w .pool) (w .ends) save)) (ok (at (view stale w) (p + 1) (values-of (m .height) (w .stack))))
+  saved-goes save size = goes-by stale bytes (saved-view save size)
 
   measured-agrees : p < length (code w) → (count size : ℕ) → size ≤ 14 + length (records (image-tasks entries tasks))
       → Agree w (by-measure (measured size count)) (ok (at (view stale w) (p + 1) (values-of (m .height) (w .stack))))
@@ -180,7 +177,7 @@ module _ (w : World) (stale : ℕ) (h : Facts w) (bytes : Bytes (w .pool)) where
   measured-agrees inside count size fits = by (leb size (length (w .save))) refl
     where
       by : (b : Bool) → leb size (length (w .save)) ≡ b → Agree w (by-measure (measured size count)) (ok (at (view stale w) (p + 1) (values-of (m .height) (w .stack))))
-      by true e = rw e (saved-goes _ size inside)
+      by true e = rw e (saved-goes _ size)
       by false e =
           let long : length (header (m .«next_id») (length (image-tasks entries tasks)) ++ records (image-tasks entries tasks)) ≡ 14 + length (records (image-tasks entries tasks)) = length-append (header (m .«next_id») (length (image-tasks entries tasks))) (records (image-tasks entries tasks)) ∙ ap (λ (n : ℕ). n + length (records (image-tasks entries tasks))) (header-length (m .«next_id») (length (image-tasks entries tasks))) in
           let over : length (w .save) < length (header (m .«next_id») (length (image-tasks entries tasks)) ++ records (image-tasks entries tasks)) = let z : length (w .save) < size = leb-false _ _ e in omega arith in

@@ -22,7 +22,8 @@ use Rattle.mechanism.specs.declared.PopTwoResult.{PopTwoResult}
 use Rattle.mechanism.specs.Execute.{kept}
 use Rattle.mechanism.specs.Registers.{registers-of}
 use Rattle.machine.specs.World.{World}
-use Rattle.mechanism.specs.Step.{Stepped, inner-did}
+use Rattle.machine.specs.Words.{StepResult}
+use Rattle.mechanism.specs.Step.{inner-did}
 use Rattle.rust.specs.Errors.{VMError, Out, err}
 use Rattle.rust.specs.InlineVec as inlinevec
 use Rattle.rust.specs.Vm as rust
@@ -72,7 +73,7 @@ module _ (w : World) (stale : ℕ) (h : Facts w) (bytes : Bytes (w .pool)) (next
       (λ i e. moves w stale bytes next i (w .stack) (values-of i (w .stack)) refl)
 
   -- a push that has room
-  pub free : {a : Stepped} (height value : ℕ) (k : List ℕ → Out VM) (stack : List ℕ) → height < 1000 → Agree w a (k (value ∷ values-of height stack)) → Agree w a (inlinevec.push 1000 (values-of height stack) value k)
+  pub free : {a : StepResult} (height value : ℕ) (k : List ℕ → Out VM) (stack : List ℕ) → height < 1000 → Agree w a (k (value ∷ values-of height stack)) → Agree w a (inlinevec.push 1000 (values-of height stack) value k)
   unfolding inlinevec.push
   free height value k stack less agrees = rw (length-values stack height, lt-ltb height 1000 less) agrees
 

@@ -1,7 +1,7 @@
 -- Demand 2 for one instruction: the machine's step beside the Rust's, whatever the opcode.
 use Prim.Native.Nat.{ℕ, _+_, _<_}
 use mathlib.Core.Bool.{Bool, true, false, cond, _||_, true≢false}
-use mathlib.Core.Path.{_≡_, refl, sym, _∙_}
+use mathlib.Core.Path.{_≡_, refl, sym, _∙_, subst}
 use mathlib.Core.List.{List}
 use lib.Dec.{eqb}
 use lib.ListN.{length, getD}
@@ -26,7 +26,10 @@ use Rattle.mechanism.specs.Act.{on-task, on-frames, act-by, act-at, act}
 use Rattle.machine.specs.Machines.{op-at}
 use Rattle.mechanism.specs.Advance.{wanted}
 use Rattle.machine.specs.World.{World, code, place, at-end}
-use Rattle.mechanism.specs.Step.{inner, acts, outer, step}
+use Rattle.machine.specs.Step.{step}
+use Rattle.mechanism.specs.Step.{inner, acts, outer, step-by-parts}
+use Rattle.mechanism.proofs.Whole.{step-is}
+use Rattle.machine.specs.Words.{StepResult}
 use Rattle.laws.specs.Sound.{Sound}
 use Rattle.rust.specs.Errors.{Out, ok}
 use Rattle.rust.specs.Storage as storage
@@ -79,53 +82,53 @@ module _ (w : World) (stale : ℕ) (h : Facts w) (bytes : Bytes (w .pool)) (insi
 
   -- an opcode that needs no task, frame or pool
   inner-step : (n : ℕ) → getD c p 0 ≡ n → is-outer n ≡ false → (reach : Extent) → extent c p ≡ reach → {o : Out VM}
-      → Agree w (stepped w (by-extent (w .stack) (w .memory) c r n (m .count) reach)) o → Agree w (step w) o
-  unfolding step op-at inner instruct registers-of
+      → Agree w (stepped w (by-extent (w .stack) (w .memory) c r n (m .count) reach)) o → Agree w (step-by-parts w) o
+  unfolding step-by-parts op-at inner instruct registers-of
   inner-step n e out reach is agrees = rw (e, out, is) agrees
 
   -- one that does, and does not save
   acts-step : (n : ℕ) → getD c p 0 ≡ n → is-outer n ≡ true → eqb n S-SAVE ≡ false → (reach : Extent) → extent c p ≡ reach → {o : Out VM}
-      → Agree w (acted-as w (wanted (w .stack) m n) (act-by (w .stack) (w .memory) (w .pool) (w .ends) m (getD (w .table) (wanted (w .stack) m n) blank) n p reach)) o → Agree w (step w) o
-  unfolding step op-at outer acts act act-at
+      → Agree w (acted-as w (wanted (w .stack) m n) (act-by (w .stack) (w .memory) (w .pool) (w .ends) m (getD (w .table) (wanted (w .stack) m n) blank) n p reach)) o → Agree w (step-by-parts w) o
+  unfolding step-by-parts op-at outer acts act act-at
   acts-step n e out saves-not reach is agrees = rw (e, out, saves-not, is, lt-leb (length c) p inside) agrees
 
   -- the next place
   abbrev reach-next : (n : ℕ) → getD c p 0 ≡ n → operand-size n ≡ 0 → eqb n PUSH-CALLDATA ≡ false → eqb n M-STI ≡ false → extent c p ≡ extents.Next (p + 1)
   reach-next n = reaches-next c p n inside
 
-  mul : getD c p 0 ≡ MUL → Agree w (step w) (rust.mul (p + 1) vm)
+  mul : getD c p 0 ≡ MUL → Agree w (step-by-parts w) (rust.mul (p + 1) vm)
   unfolding is-outer operand-size by-extent execute is-equality operated plain
   mul e = inner-step MUL e refl _ (reach-next MUL e refl refl refl) (stack.mul w stale h bytes (p + 1))
 
-  lt : getD c p 0 ≡ LT → Agree w (step w) (rust.compare true (p + 1) vm)
+  lt : getD c p 0 ≡ LT → Agree w (step-by-parts w) (rust.compare true (p + 1) vm)
   unfolding is-outer operand-size by-extent execute is-equality operated plain
   lt e = inner-step LT e refl _ (reach-next LT e refl refl refl) (stack.compare w stale h bytes (p + 1) true)
 
-  gt : getD c p 0 ≡ GT → Agree w (step w) (rust.compare false (p + 1) vm)
+  gt : getD c p 0 ≡ GT → Agree w (step-by-parts w) (rust.compare false (p + 1) vm)
   unfolding is-outer operand-size by-extent execute is-equality operated plain
   gt e = inner-step GT e refl _ (reach-next GT e refl refl refl) (stack.compare w stale h bytes (p + 1) false)
 
-  dup : getD c p 0 ≡ DUP → Agree w (step w) (rust.dup (p + 1) vm)
+  dup : getD c p 0 ≡ DUP → Agree w (step-by-parts w) (rust.dup (p + 1) vm)
   unfolding is-outer operand-size by-extent execute is-equality operated plain
   dup e = inner-step DUP e refl _ (reach-next DUP e refl refl refl) (stack.dup w stale h bytes (p + 1))
 
-  swap : getD c p 0 ≡ SWAP → Agree w (step w) (rust.swap (p + 1) vm)
+  swap : getD c p 0 ≡ SWAP → Agree w (step-by-parts w) (rust.swap (p + 1) vm)
   unfolding is-outer operand-size by-extent execute is-equality operated plain
   swap e = inner-step SWAP e refl _ (reach-next SWAP e refl refl refl) (stack.swap w stale h bytes (p + 1))
 
-  drop : getD c p 0 ≡ DROP → Agree w (step w) (rust.drop (p + 1) vm)
+  drop : getD c p 0 ≡ DROP → Agree w (step-by-parts w) (rust.drop (p + 1) vm)
   unfolding is-outer operand-size by-extent execute is-equality operated plain
   drop e = inner-step DROP e refl _ (reach-next DROP e refl refl refl) (stack.drop w stale h bytes (p + 1))
 
-  do-op : getD c p 0 ≡ DO → Agree w (step w) (rust.«do» (p + 1) vm)
+  do-op : getD c p 0 ≡ DO → Agree w (step-by-parts w) (rust.«do» (p + 1) vm)
   unfolding is-outer operand-size by-extent execute is-equality operated plain
   do-op e = inner-step DO e refl _ (reach-next DO e refl refl refl) (control.do-agrees w stale h bytes (p + 1))
 
-  loop : getD c p 0 ≡ LOOP → Agree w (step w) (rust.loop (p + 1) vm)
+  loop : getD c p 0 ≡ LOOP → Agree w (step-by-parts w) (rust.loop (p + 1) vm)
   unfolding is-outer operand-size by-extent execute is-equality operated plain
   loop e = inner-step LOOP e refl _ (reach-next LOOP e refl refl refl) (control.loop-agrees w stale h bytes (p + 1))
 
-  loop-index : getD c p 0 ≡ LOOP-INDEX → Agree w (step w) (rust.loop-index (p + 1) vm)
+  loop-index : getD c p 0 ≡ LOOP-INDEX → Agree w (step-by-parts w) (rust.loop-index (p + 1) vm)
   unfolding is-outer operand-size by-extent execute is-equality operated plain
   loop-index e = inner-step LOOP-INDEX e refl _ (reach-next LOOP-INDEX e refl refl refl) (control.loop-index-agrees w stale h bytes (p + 1))
 
@@ -133,95 +136,95 @@ module _ (w : World) (stale : ℕ) (h : Facts w) (bytes : Bytes (w .pool)) (insi
   unfolding op-push registers-of rust.s-len storage.len view storage-of
   s-len-pushed = rw (count-length w h) (pushed w stale bytes h (p + 1) (m .height) (to-u32-val (m .count)))
 
-  s-len : getD c p 0 ≡ S-LEN → Agree w (step w) (rust.s-len (p + 1) vm)
+  s-len : getD c p 0 ≡ S-LEN → Agree w (step-by-parts w) (rust.s-len (p + 1) vm)
   unfolding is-outer operand-size by-extent execute is-equality operated plain
   s-len e = inner-step S-LEN e refl _ (reach-next S-LEN e refl refl refl) s-len-pushed
 
-  eq : getD c p 0 ≡ EQ → Agree w (step w) (rust.eq (p + 1) vm)
+  eq : getD c p 0 ≡ EQ → Agree w (step-by-parts w) (rust.eq (p + 1) vm)
   unfolding is-outer operand-size by-extent execute is-equality
   eq e = inner-step EQ e refl _ (reach-next EQ e refl refl refl) (equality.eq w stale h bytes (p + 1))
 
-  neq : getD c p 0 ≡ NEQ → Agree w (step w) (rust.neq (p + 1) vm)
+  neq : getD c p 0 ≡ NEQ → Agree w (step-by-parts w) (rust.neq (p + 1) vm)
   unfolding is-outer operand-size by-extent execute is-equality
   neq e = inner-step NEQ e refl _ (reach-next NEQ e refl refl refl) (equality.neq w stale h bytes (p + 1))
 
-  m-muta : getD c p 0 ≡ M-MUTA → Agree w (step w) (rust.m-muta (p + 1) vm)
+  m-muta : getD c p 0 ≡ M-MUTA → Agree w (step-by-parts w) (rust.m-muta (p + 1) vm)
   unfolding is-outer operand-size by-extent execute is-equality
   m-muta e = inner-step M-MUTA e refl _ (reach-next M-MUTA e refl refl refl) (store.m-muta w stale h bytes (p + 1))
 
   -- those with operands
-  push-u32 : getD c p 0 ≡ PUSH-U32 → Agree w (step w) (rust.push-u32 c (p + 1) vm)
+  push-u32 : getD c p 0 ≡ PUSH-U32 → Agree w (step-by-parts w) (rust.push-u32 c (p + 1) vm)
   unfolding is-outer operand-size
   push-u32 e = inner-step PUSH-U32 e refl _ (reaches c p PUSH-U32 4 e refl refl refl) (control.push-u32-agrees w stale h bytes)
 
-  push-state : getD c p 0 ≡ PUSH-STATE → Agree w (step w) (rust.push-state c (p + 1) vm)
+  push-state : getD c p 0 ≡ PUSH-STATE → Agree w (step-by-parts w) (rust.push-state c (p + 1) vm)
   unfolding is-outer operand-size
   push-state e = inner-step PUSH-STATE e refl _ (reaches c p PUSH-STATE 1 e refl refl refl) (control.push-state-agrees w stale h bytes)
 
-  push-task-field : getD c p 0 ≡ PUSH-TASK-FIELD → Agree w (step w) (rust.push-state c (p + 1) vm)
+  push-task-field : getD c p 0 ≡ PUSH-TASK-FIELD → Agree w (step-by-parts w) (rust.push-state c (p + 1) vm)
   unfolding is-outer operand-size
   push-task-field e = inner-step PUSH-TASK-FIELD e refl _ (reaches c p PUSH-TASK-FIELD 1 e refl refl refl) (control.push-task-field-agrees w stale h bytes)
 
-  push-max-states : getD c p 0 ≡ PUSH-MAX-STATES → Agree w (step w) (rust.push-state c (p + 1) vm)
+  push-max-states : getD c p 0 ≡ PUSH-MAX-STATES → Agree w (step-by-parts w) (rust.push-state c (p + 1) vm)
   unfolding is-outer operand-size
   push-max-states e = inner-step PUSH-MAX-STATES e refl _ (reaches c p PUSH-MAX-STATES 1 e refl refl refl) (control.push-max-states-agrees w stale h bytes)
 
-  muli : getD c p 0 ≡ MULI → Agree w (step w) (rust.muli c (p + 1) vm)
+  muli : getD c p 0 ≡ MULI → Agree w (step-by-parts w) (rust.muli c (p + 1) vm)
   unfolding is-outer operand-size
   muli e = inner-step MULI e refl _ (reaches c p MULI 4 e refl refl refl) (control.muli-op-agrees w stale h bytes)
 
-  jump-if-false : getD c p 0 ≡ JUMP-IF-FALSE → Agree w (step w) (rust.jump-if-false c (p + 1) vm)
+  jump-if-false : getD c p 0 ≡ JUMP-IF-FALSE → Agree w (step-by-parts w) (rust.jump-if-false c (p + 1) vm)
   unfolding is-outer operand-size
   jump-if-false e = inner-step JUMP-IF-FALSE e refl _ (reaches c p JUMP-IF-FALSE 4 e refl refl refl) (control.jump-if-false-agrees w stale h bytes)
 
-  m-st : getD c p 0 ≡ M-ST → Agree w (step w) (rust.m-st c (p + 1) vm)
+  m-st : getD c p 0 ≡ M-ST → Agree w (step-by-parts w) (rust.m-st c (p + 1) vm)
   unfolding is-outer operand-size
   m-st e = inner-step M-ST e refl _ (reaches c p M-ST 1 e refl refl refl) (store.m-st-agrees w stale h bytes)
 
-  m-sti : getD c p 0 ≡ M-STI → Agree w (step w) (rust.m-sti c (p + 1) vm)
+  m-sti : getD c p 0 ≡ M-STI → Agree w (step-by-parts w) (rust.m-sti c (p + 1) vm)
   unfolding is-outer
   m-sti e = inner-step M-STI e refl _ (reaches-sti c p e) (store.m-sti-agrees w stale h bytes)
 
   -- those that need a task, a frame or the pool
-  push-calldata : getD c p 0 ≡ PUSH-CALLDATA → Agree w (step w) (rust.push-calldata c (p + 1) vm)
+  push-calldata : getD c p 0 ≡ PUSH-CALLDATA → Agree w (step-by-parts w) (rust.push-calldata c (p + 1) vm)
   unfolding is-outer
   push-calldata e = acts-step PUSH-CALLDATA e refl refl _ (reaches-calldata c p e) (frames.push-calldata-agrees w stale h bytes _ _)
 
-  t-create : getD c p 0 ≡ T-CREATE → Agree w (step w) (rust.t-create (p + 1) vm)
+  t-create : getD c p 0 ≡ T-CREATE → Agree w (step-by-parts w) (rust.t-create (p + 1) vm)
   unfolding is-outer operand-size act-by on-frames on-task wanted
   t-create e = acts-step T-CREATE e refl refl _ (reach-next T-CREATE e refl refl refl) (tasks.t-create w stale h bytes (p + 1))
 
-  t-get-field : getD c p 0 ≡ T-GET-FIELD → Agree w (step w) (rust.t-get-field (p + 1) vm)
+  t-get-field : getD c p 0 ≡ T-GET-FIELD → Agree w (step-by-parts w) (rust.t-get-field (p + 1) vm)
   unfolding is-outer operand-size act-by on-frames
   t-get-field e = acts-step T-GET-FIELD e refl refl _ (reach-next T-GET-FIELD e refl refl refl) (tasks.t-get-field w stale h bytes (p + 1) _ _ refl refl)
 
-  t-set-field : getD c p 0 ≡ T-SET-FIELD → Agree w (step w) (rust.t-set-field (p + 1) vm)
+  t-set-field : getD c p 0 ≡ T-SET-FIELD → Agree w (step-by-parts w) (rust.t-set-field (p + 1) vm)
   unfolding is-outer operand-size act-by on-frames on-task
   t-set-field e = acts-step T-SET-FIELD e refl refl _ (reach-next T-SET-FIELD e refl refl refl) (tasks.t-set-field w stale h bytes (p + 1))
 
-  t-delete : getD c p 0 ≡ T-DELETE → Agree w (step w) (rust.t-delete (p + 1) vm)
+  t-delete : getD c p 0 ≡ T-DELETE → Agree w (step-by-parts w) (rust.t-delete (p + 1) vm)
   unfolding is-outer operand-size act-by on-frames on-task
   t-delete e = acts-step T-DELETE e refl refl _ (reach-next T-DELETE e refl refl refl) (tasks.t-delete w stale h bytes (p + 1))
 
-  call : getD c p 0 ≡ CALL → Agree w (step w) (rust.call (p + 1) vm)
+  call : getD c p 0 ≡ CALL → Agree w (step-by-parts w) (rust.call (p + 1) vm)
   unfolding is-outer operand-size act-by on-frames
   call e = acts-step CALL e refl refl _ (reach-next CALL e refl refl refl) (frames.call w stale h bytes (p + 1) _ _ refl refl)
 
-  end-call : getD c p 0 ≡ END-CALL → Agree w (step w) (rust.end-call (p + 1) vm)
+  end-call : getD c p 0 ≡ END-CALL → Agree w (step-by-parts w) (rust.end-call (p + 1) vm)
   unfolding is-outer operand-size act-by on-frames
   end-call e = acts-step END-CALL e refl refl _ (reach-next END-CALL e refl refl refl) (frames.end-call w stale h bytes (p + 1) _ _)
 
-  s-save : getD c p 0 ≡ S-SAVE → Agree w (step w) (rust.s-save (p + 1) vm)
-  unfolding step op-at outer is-outer
+  s-save : getD c p 0 ≡ S-SAVE → Agree w (step-by-parts w) (rust.s-save (p + 1) vm)
+  unfolding step-by-parts op-at outer is-outer
   s-save e = rw e (saving.s-save w stale h bytes inside)
 
   -- a test of the Rust alone
-  either : (b : Bool) {o q : Out VM} → (b ≡ true → Agree w (step w) o) → (b ≡ false → Agree w (step w) q) → Agree w (step w) (cond b o q)
+  either : (b : Bool) {o q : Out VM} → (b ≡ true → Agree w (step-by-parts w) o) → (b ≡ false → Agree w (step-by-parts w) q) → Agree w (step-by-parts w) (cond b o q)
   either true f g = f refl
   either false f g = g refl
 
   -- the arm of three opcodes
-  push-byte : (n : ℕ) → getD c p 0 ≡ n → (a b d : Bool) → eqb n PUSH-STATE ≡ a → eqb n PUSH-MAX-STATES ≡ b → eqb n PUSH-TASK-FIELD ≡ d → (a || b || d) ≡ true → Agree w (step w) (rust.push-state c (p + 1) vm)
+  push-byte : (n : ℕ) → getD c p 0 ≡ n → (a b d : Bool) → eqb n PUSH-STATE ≡ a → eqb n PUSH-MAX-STATES ≡ b → eqb n PUSH-TASK-FIELD ≡ d → (a || b || d) ≡ true → Agree w (step-by-parts w) (rust.push-state c (p + 1) vm)
   push-byte n e true b d x y z t = push-state (e ∙ eqb-true _ _ x)
   push-byte n e false true d x y z t = push-max-states (e ∙ eqb-true _ _ y)
   push-byte n e false false true x y z t = push-task-field (e ∙ eqb-true _ _ z)
@@ -267,14 +270,14 @@ module _ (w : World) (stale : ℕ) (h : Facts w) (bytes : Bytes (w .pool)) (insi
   unfolding operand-size
   unused-size n u = simp (u .not-PUSH-U32, u .not-JUMP-IF-FALSE, u .not-MULI, u .not-PUSH-STATE, u .not-PUSH-TASK-FIELD, u .not-PUSH-MAX-STATES, u .not-M-ST, u .not-PUSH-CALLDATA, u .not-M-STI)
 
-  unused : (n : ℕ) → getD c p 0 ≡ n → Unused n → Agree w (step w) (ok (at vm (p + 1) (values-of (m .height) (w .stack))))
+  unused : (n : ℕ) → getD c p 0 ≡ n → Unused n → Agree w (step-by-parts w) (ok (at vm (p + 1) (values-of (m .height) (w .stack))))
   unfolding by-extent execute is-equality operated plain registers-of
   unused n e u =
       inner-step n e (unused-outer n u) _ (reach-next n e (unused-size n u) (u .not-PUSH-CALLDATA) (u .not-M-STI))
       (simp (u .not-PUSH-U32, u .not-PUSH-STATE, u .not-PUSH-MAX-STATES, u .not-PUSH-TASK-FIELD, u .not-MUL, u .not-MULI, u .not-S-LEN, u .not-DO, u .not-LOOP, u .not-LOOP-INDEX, u .not-JUMP-IF-FALSE, u .not-DUP, u .not-SWAP, u .not-EQ, u .not-NEQ, u .not-LT, u .not-GT, u .not-M-STI, u .not-M-ST, u .not-M-MUTA, u .not-DROP) (moves w stale bytes (p + 1) (m .height) (w .stack) (values-of (m .height) (w .stack)) refl))
 
   -- whatever the opcode
-  all : (n : ℕ) → getD c p 0 ≡ n → Agree w (step w) (exec n c (p + 1) vm)
+  all : (n : ℕ) → getD c p 0 ≡ n → Agree w (step-by-parts w) (exec n c (p + 1) vm)
   unfolding exec view
   all n e =
       either (eqb n PUSH-U32) (λ t. push-u32 (e ∙ eqb-true _ _ t)) (λ f1.
@@ -310,5 +313,6 @@ module _ (w : World) (stale : ℕ) (h : Facts w) (bytes : Bytes (w .pool)) (insi
 pub agrees : (w : World) (stale : ℕ) → Sound w → Bytes (w .pool) → at-end w ≡ false → Agree w (step w) (rust.step (view stale w))
 unfolding at-end rust.step view code-of
 agrees w stale s bytes before =
-    rw (getD-entries (w .pool) (w .ends) (w .machine .entries) (current (w .machine .frames) .entry .0) (facts s .frame))
-    (all w stale (facts s) bytes (leb-false _ _ before) _ refl)
+    subst (λ (a : StepResult). Agree w a (rust.step (view stale w))) (step-is w)
+    (rw (getD-entries (w .pool) (w .ends) (w .machine .entries) (current (w .machine .frames) .entry .0) (facts s .frame))
+    (all w stale (facts s) bytes (leb-false _ _ before) _ refl))

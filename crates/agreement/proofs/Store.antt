@@ -43,7 +43,8 @@ use Rattle.mechanism.specs.Execute.{is-equality, execute, by-extent, changed}
 use Rattle.machine.specs.Machines.{current, code-of}
 use Rattle.mechanism.specs.Registers.{registers-of}
 use Rattle.machine.specs.World.{World, code, place}
-use Rattle.mechanism.specs.Step.{Stepped, inner-did}
+use Rattle.machine.specs.Words.{StepResult}
+use Rattle.mechanism.specs.Step.{inner-did}
 use Rattle.rust.specs.Errors.{VMError, InvalidType, MSliceParamOverflow, MSliceOutOfBounds, StackOverflow, ok, err, panic}
 use Rattle.rust.specs.InlineVec as inlinevec
 use Rattle.rust.specs.Helpers.{byte, slice, prepare-u16-from-be-checked}
@@ -119,7 +120,7 @@ module _ (w : World) (stale : ℕ) (h : Facts w) (bytes : Bytes (w .pool)) where
     offset = offset-aligned used tag
 
     -- an allocation by the box of its vector
-    abbrev boxing : ValueResult → Stepped
+    abbrev boxing : ValueResult → StepResult
     boxing value =
         stepped w
         (cond (leb 1000 height) (on-memory (Refused (full-by value)) (w .stack) (w .memory))
@@ -176,7 +177,7 @@ module _ (w : World) (stale : ℕ) (h : Facts w) (bytes : Bytes (w .pool)) where
     changing width = change.changed (take used (w .memory)) pointer index payload width
 
     -- a change by the width of an element
-    abbrev sizing : SizeResult → Stepped
+    abbrev sizing : SizeResult → StepResult
     sizing width = stepped w (changed (w .stack) (changed-to (mutated r next height (changing width .answer)) (changing width .memory ++ drop used (w .memory))))
 
     change-goes : (start : ℕ) (new : List ℕ)
@@ -229,7 +230,7 @@ module _ (w : World) (stale : ℕ) (h : Facts w) (bytes : Bytes (w .pool)) where
   abbrev p : ℕ
   p = place w
 
-  abbrev by-op : ℕ → Extent → Stepped
+  abbrev by-op : ℕ → Extent → StepResult
   by-op op reach = stepped w (by-extent (w .stack) (w .memory) c r op (w .machine .count) reach)
 
   -- M_ST pops and tests the size before its operand is looked at

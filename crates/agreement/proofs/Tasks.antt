@@ -51,7 +51,8 @@ use Rattle.mechanism.specs.Registers.{registers-of, settled}
 use Rattle.mechanism.specs.Act.{OnAll, on-all, went-by, created, tasked-by, created-by, after-memory}
 use Rattle.mechanism.specs.Advance.{named-by, named, wanted}
 use Rattle.machine.specs.World.{World, world}
-use Rattle.mechanism.specs.Step.{Stepped, next, inner-did, acts-went}
+use Rattle.machine.specs.Words.{StepResult, next}
+use Rattle.mechanism.specs.Step.{inner-did, acts-went}
 use Rattle.rust.specs.Errors.{StackUnderflow, InvalidType, TaskNotFound, InvalidTaskField, InvalidStatus, MaxStatesError, Out, ok, err}
 use Rattle.rust.specs.InlineVec as inlinevec
 use Rattle.rust.specs.TaskTypes.{TaskVM, TaskField, Title, State, Instructions, default, try-from}
@@ -71,14 +72,14 @@ use Rattle.agreement.proofs.Store.{stores, whole}
 use Rattle.agreement.proofs.Slots.{a-task, no-task, blank-none, get-is, put-is, more-is, found-new, no-room, count-length, new-held, new-living}
 
 -- an instruction on a task, a frame or the pool, as a step
-abbrev pub acted-as : World → ℕ → OnAll → Stepped
+abbrev pub acted-as : World → ℕ → OnAll → StepResult
 acted-as w slot after = acts-went w slot after (after .acted .went)
 
 -- one that changes a slot alone
-abbrev tasked-as : World → ℕ → Tasked → Stepped
+abbrev tasked-as : World → ℕ → Tasked → StepResult
 tasked-as w slot after = acted-as w slot (on-all (tasked-by (w .machine) after) (w .stack) (w .memory) (w .pool) (w .ends))
 
-abbrev created-as : World → ℕ → Tasked → Stepped
+abbrev created-as : World → ℕ → Tasked → StepResult
 created-as w slot after = acted-as w slot (on-all (created-by (w .machine) after) (w .stack) (w .memory) (w .pool) (w .ends))
 
 -- ---- the slot that an instruction names
@@ -123,7 +124,7 @@ wanted-set stack machine most = below-by stack (machine .height) most
 -- ---- a task that is there, and a field
 
 module _ {w : World} where
-  found : (task : Task) (id : ℕ) (f : FindResult → Stepped) (k : TaskVM → Out VM) → (task .living ≡ true → Agree w (f Found) (k (held task)))
+  found : (task : Task) (id : ℕ) (f : FindResult → StepResult) (k : TaskVM → Out VM) → (task .living ≡ true → Agree w (f Found) (k (held task)))
       → Agree w (f (NotFound (refusal.TaskNotFound id))) (err (TaskNotFound id))
       → Agree w (f (find task (record { 0 = id }))) (rust-storage.if-some (task-of task) k (err (TaskNotFound id)))
   unfolding find
@@ -134,7 +135,7 @@ module _ {w : World} where
       by false e = rw (no-task task e, e) missing
 
   -- 0, 1 and 2 are fields
-  field-is : (v : ℕ) (f : FieldResult → Stepped) (onward : ℕ → FieldResult) (k : TaskField → Out VM)
+  field-is : (v : ℕ) (f : FieldResult → StepResult) (onward : ℕ → FieldResult) (k : TaskField → Out VM)
       → Agree w (f (onward 0)) (k Title) → Agree w (f (onward 1)) (k State) → Agree w (f (onward 2)) (k Instructions)
       → Agree w (f (NoField (refusal.InvalidTaskField v))) (err (InvalidTaskField v))
       → Agree w (f (cond (ltb 2 v) (NoField (refusal.InvalidTaskField v)) (onward v))) (try-from v k)
@@ -202,7 +203,7 @@ module _ (w : World) (stale : ℕ) (h : Facts w) (bytes : Bytes (w .pool)) where
       rw (a, long, b) (stores w stale h bytes place height (slot i .«title_len») 4 (take (slot i .«title_len») (slot i .title)) (whole long))
 
   -- the field of a task that is named below it
-  abbrev get-by : ℕ → Task → FieldResult → Stepped
+  abbrev get-by : ℕ → Task → FieldResult → StepResult
   get-by place task o = stepped w (get-found (w .stack) (w .memory) r place task o)
 
   get-owner : (place height field : ℕ) (k : TaskVM → List ℕ → Out VM) → height ≤ 1000

@@ -13,14 +13,14 @@ use Rattle.values.specs.declared.PointerResult.{PointerResult}
 use Rattle.values.specs.declared.PointerResult.the-variants.{Pointer, NoPointer}
 use Rattle.errors.specs.declared.Refusal.the-variants as refusal
 use Rattle.machine.specs.World.{World}
-use Rattle.mechanism.specs.Step.{Stepped}
+use Rattle.machine.specs.Words.{StepResult}
 use Rattle.rust.specs.Errors.{VMError, InvalidType, TypeMismatch, MultiplicationOverflowed, Out, err}
 use Rattle.rust.specs.Values as rust
 use Rattle.rust.specs.Vm.{VM}
 use Rattle.agreement.specs.Agreement.{Agree, refusal-of}
 use Rattle.agreement.proofs.Laws.{same}
 
-module _ {w : World} (f : ValueResult → Stepped) (k : ℕ → Out VM) (given : (value : ℕ) → Agree w (f (Value value)) (k value))
+module _ {w : World} (f : ValueResult → StepResult) (k : ℕ → Out VM) (given : (value : ℕ) → Agree w (f (Value value)) (k value))
     (missed : (error : VMError) → Agree w (f (NoValue (refusal-of error))) (err error)) where
   product-agrees : (left right : ℕ) → Agree w (f (product left right)) (rust.product left right k)
   unfolding product rust.product
@@ -78,7 +78,7 @@ module _ {w : World} (f : ValueResult → Stepped) (k : ℕ → Out VM) (given :
       (λ t. missed InvalidType)
 
 -- NEQ: the answer turned round on both sides
-module _ {w : World} (f : ValueResult → Stepped) (k : ℕ → Out VM) (given : (value : ℕ) → Agree w (f (Value value)) (k value))
+module _ {w : World} (f : ValueResult → StepResult) (k : ℕ → Out VM) (given : (value : ℕ) → Agree w (f (Value value)) (k value))
     (missed : (error : VMError) → Agree w (f (NoValue (refusal-of error))) (err error)) where
   turned-missed : (error : VMError) → Agree w (f (turned (NoValue (refusal-of error)))) (err error)
   unfolding turned
@@ -93,13 +93,13 @@ module _ {w : World} (f : ValueResult → Stepped) (k : ℕ → Out VM) (given :
   neq-agrees left right = eq-agrees (λ r. f (turned r)) (λ v. k (bool-not v)) turned-given turned-missed left right
 
 -- the tag of a boxed value
-pub tag-agrees : {w : World} (f : TagResult → Stepped) (k : ℕ → Out VM) (v : ℕ) → (is-qnan v ≡ true → Agree w (f (Tag (raw-tag v))) (k (raw-tag v)))
+pub tag-agrees : {w : World} (f : TagResult → StepResult) (k : ℕ → Out VM) (v : ℕ) → (is-qnan v ≡ true → Agree w (f (Tag (raw-tag v))) (k (raw-tag v)))
     → Agree w (f (NoTag refusal.InvalidType)) (err InvalidType) → Agree w (f (tag-of v)) (rust.tag v k)
 unfolding tag-of rust.tag
 tag-agrees f k v given missed = same f (is-qnan v) given (λ t. missed)
 
 -- the place of a vector
-pub pointer-agrees : {w : World} (f : PointerResult → Stepped) (k : FatPointer → Out VM) (v : ℕ) → (is-vec v ≡ true → Agree w (f (Pointer (fat-pointer v))) (k (fat-pointer v)))
+pub pointer-agrees : {w : World} (f : PointerResult → StepResult) (k : FatPointer → Out VM) (v : ℕ) → (is-vec v ≡ true → Agree w (f (Pointer (fat-pointer v))) (k (fat-pointer v)))
     → Agree w (f (NoPointer refusal.InvalidType)) (err InvalidType) → Agree w (f (to-fat-pointer v)) (rust.to-fat-pointer v k)
 unfolding to-fat-pointer rust.to-fat-pointer
 pointer-agrees f k v given missed = same f (is-vec v) given (λ t. missed)

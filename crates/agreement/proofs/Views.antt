@@ -23,7 +23,8 @@ use Rattle.machine.specs.declared.Machine.{Machine}
 use Rattle.machine.specs.Machines.{current, with-current, with-ids}
 use Rattle.mechanism.specs.Registers.{registers-of, settled}
 use Rattle.machine.specs.World.{World, world}
-use Rattle.mechanism.specs.Step.{Stepped, inner-did}
+use Rattle.machine.specs.Words.{StepResult}
+use Rattle.mechanism.specs.Step.{inner-did}
 use Rattle.rust.specs.Errors.{StackOverflow, ok}
 use Rattle.rust.specs.InlineVec as rust
 use Rattle.rust.specs.Vm.{VM, at, pushes}
@@ -69,7 +70,7 @@ module _ (stale : ℕ) (m : Machine) (registers : Registers) (table : List Task)
   view-with-ids next-id count = rw (current-is (m .frames) (record { entry = current (m .frames) .entry; place = registers .place }), callers-are (m .frames) (record { entry = current (m .frames) .entry; place = registers .place }))
 
 -- an instruction that needs no task, frame or pool, as a step
-abbrev pub stepped : World → OnMemory → Stepped
+abbrev pub stepped : World → OnMemory → StepResult
 stepped w after = inner-did w (after .stack) (after .memory) (after .did)
 
 module _ (w : World) (stale : ℕ) (bytes : Bytes (w .pool)) where

@@ -9,7 +9,7 @@ use Rattle.errors.specs.declared.Refusal.the-variants as refusal
 use Rattle.image.specs.Image.{ImageTask, Image, written}
 use Rattle.image.specs.Numbers.{Bytes}
 use Rattle.machine.specs.World.{World}
-use Rattle.mechanism.specs.Step.{Stepped, next, refused}
+use Rattle.machine.specs.Words.{StepResult, next, refused}
 use Rattle.rust.specs.Errors.{VMError, TaskNotFound, InvalidInstructionsIndex, StackUnderflow, StackOverflow, MSliceParamOverflow, MSliceOutOfBounds, TypeMismatch, InvalidType, EmptyInstructions, MaxStatesError, InvalidStatus, InvalidTaskField, BytesToStringConversionError, AlignmentMismatch, MultiplicationOverflowed, SliceSizeMismatch, Out, ok, err, panic}
 use Rattle.rust.specs.TaskTypes.{TaskVM}
 use Rattle.rust.specs.Storage.{get}
@@ -69,7 +69,7 @@ pub data Over (w : World) : Refusal → VM → Type 0 where
   long-image : {vm : VM} → length (w .save) < length (written (image-of vm)) → Over w refusal.SaveBufferTooShort vm
 
 -- from w: on to what the Rust goes on to, or an added capacity is met; where the Rust errs its error's refusal; where it panics 2
-pub data Agree (w : World) : Stepped → Out VM → Type 0 where
+pub data Agree (w : World) : StepResult → Out VM → Type 0 where
   goes-on : (stale : ℕ) {v : World} → Bytes (v .pool) → Agree w (next v) (ok (view stale v))
   lacks : {r : Refusal} {vm : VM} → Over w r vm → Agree w (refused r) (ok vm)
   errs : (error : VMError) → Agree w (refused (refusal-of error)) (err error)

@@ -7,7 +7,7 @@ use Rattle.machine.specs.declared.Machine.{Machine}
 use Rattle.machine.specs.declared.Phase.{Phase}
 use Rattle.machine.specs.declared.Phase.the-variants as phase
 use Rattle.mechanism.specs.Registers.{registers-of, settled}
-use Rattle.machine.specs.Machines.{rewound}
+use Rattle.machine.specs.Machines.{rewound, placed}
 use Rattle.machine.specs.declared.Outcome.{Outcome}
 use Rattle.machine.specs.declared.Outcome.the-variants.{Done, Paused, Refused}
 use Rattle.machine.specs.World.{World, world}

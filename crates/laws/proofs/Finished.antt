@@ -7,7 +7,8 @@ use Rattle.errors.specs.declared.Refusal.{Refusal}
 use Rattle.machine.specs.declared.Outcome.{Outcome}
 use Rattle.machine.specs.declared.Outcome.the-variants.{Done, Paused, Refused}
 use Rattle.machine.specs.World.{World, at-end}
-use Rattle.mechanism.specs.Step.{Stepped, next, refused, step}
+use Rattle.machine.specs.Words.{StepResult, next, refused}
+use Rattle.machine.specs.Step.{step}
 use Rattle.machine.specs.Run.{End, end-at, follow, run}
 
 -- so many finished instructions lead from one world to another
@@ -34,7 +35,7 @@ after-one fuel w v _ inside s (is-done n left u sum way over) = is-done (suc n) 
 after-one fuel w v _ inside s (is-paused u way over) = is-paused u (onto fuel w v u inside s way) over
 after-one fuel w v _ inside s (is-refused n left u refusal sum way over refuses) = is-refused (suc n) left u refusal (omega (arith, sum)) (onto n w v u inside s way) over refuses
 
-followed : (fuel : ℕ) (w : World) → ((v : World) → Ends fuel v (run fuel v)) → at-end w ≡ false → (s : Stepped) → step w ≡ s → Ends (suc fuel) w (follow (λ v. run fuel v) w (suc fuel) s)
+followed : (fuel : ℕ) (w : World) → ((v : World) → Ends fuel v (run fuel v)) → at-end w ≡ false → (s : StepResult) → step w ≡ s → Ends (suc fuel) w (follow (λ v. run fuel v) w (suc fuel) s)
 unfolding follow
 followed fuel w others inside (next v) s = after-one fuel w v _ inside s (others v)
 followed fuel w others inside (refused refusal) s = is-refused 0 (suc fuel) w refusal (omega arith) (here w) inside s

@@ -6,7 +6,8 @@ use native.Mathlib.Omega.{arith}
 use Rattle.machine.specs.declared.Outcome.{Outcome}
 use Rattle.machine.specs.declared.Outcome.the-variants.{Done, Paused, Refused}
 use Rattle.machine.specs.World.{World, at-end}
-use Rattle.mechanism.specs.Step.{next, step}
+use Rattle.machine.specs.Words.{next}
+use Rattle.machine.specs.Step.{step}
 use Rattle.machine.specs.Run.{End, end-at, follow, run}
 use Rattle.laws.proofs.Finished.{Reaches, here, onto, Ends, is-done, is-paused, is-refused, steps-to, finished}
 

@@ -2,7 +2,7 @@
 use Prim.Native.Nat.{ℕ, zero, suc}
 use mathlib.Core.Bool.{Bool, true, false, cond}
 use mathlib.Core.List.{List}
-use mathlib.Core.Path.{_≡_, refl, ap, _∙_}
+use mathlib.Core.Path.{_≡_, refl, sym, ap, _∙_}
 use lib.Dec.{eqb, leb}
 use lib.ListN.{length, getD}
 use Rattle.bytecode.specs.Opcodes.{PUSH-CALLDATA, T-CREATE, T-GET-FIELD, T-SET-FIELD, T-DELETE, S-SAVE, CALL, END-CALL}
@@ -48,9 +48,12 @@ use Rattle.mechanism.specs.Turns.{save-went}
 use Rattle.mechanism.specs.declared.Went.{Went}
 use Rattle.mechanism.specs.declared.Went.the-variants.{Onto, Refused}
 use Rattle.mechanism.specs.declared.Acted.{Acted}
-use Rattle.machine.specs.World.{World, world, at-end}
-use Rattle.mechanism.specs.Step as steps
-use Rattle.mechanism.specs.Step.{Stepped, inner-did, inner, acts-went, acted-at, acts, saves-went, saves, outer, step}
+use Rattle.machine.specs.World.{World, world, op, at-end}
+use Rattle.machine.specs.Words as steps
+use Rattle.mechanism.proofs.Whole.{step-is}
+use Rattle.machine.specs.Words.{StepResult}
+use Rattle.machine.specs.Step.{step}
+use Rattle.mechanism.specs.Step.{inner-did, inner, acts-went, acted-at, acts, saves-went, saves, outer, step-by-parts}
 use Rattle.machine.specs.Run.{End, end-at, follow, run}
 use Rattle.machine.specs.Calls.{phased}
 use Rattle.machine.specs.World.{with-machine}
@@ -79,7 +82,7 @@ module _ (phase : Phase) where
   abbrev all-as : OnAll → OnAll
   all-as a = on-all (acted-as (a .acted)) (a .stack) (a .memory) (a .pool) (a .ends)
 
-  unfoldable pub step-as : Stepped → Stepped
+  unfoldable pub step-as : StepResult → StepResult
   step-as (steps.next v) = steps.next (rephased phase v)
   step-as (steps.refused refusal) = steps.refused refusal
 
@@ -227,14 +230,17 @@ module _ (phase : Phase) where
   saves-as w = saves-went-as w _ _
 
   -- an instruction does in any phase what it does in any other
+  parts-phase : (w : World) → step-by-parts (rephased phase w) ≡ step-as (step-by-parts w)
+  unfolding step-by-parts outer op-at code-of wanted
+  parts-phase w =
+      alike step-as (is-outer (op w)) _ _ _ _ (alike step-as (eqb (op w) S-SAVE) _ _ _ _ (saves-as w) (acts-as w _)) (inner-as w)
+
   pub step-phase : (w : World) → step (rephased phase w) ≡ step-as (step w)
-  unfolding step outer op-at code-of wanted
-  step-phase w =
-      alike step-as (is-outer (steps.op w)) _ _ _ _ (alike step-as (eqb (steps.op w) S-SAVE) _ _ _ _ (saves-as w) (acts-as w _)) (inner-as w)
+  step-phase w = sym (step-is (rephased phase w)) ∙ parts-phase w ∙ ap step-as (step-is w)
 
   -- ---- a run
 
-  followed : (others : World → End) (w : World) (left : ℕ) (s : Stepped) → ((v : World) → others (rephased phase v) ≡ end-as (others v))
+  followed : (others : World → End) (w : World) (left : ℕ) (s : StepResult) → ((v : World) → others (rephased phase v) ≡ end-as (others v))
       → follow others (rephased phase w) left (step-as s) ≡ end-as (follow others w left s)
   unfolding follow step-as
   followed others w left (steps.next v) same = same v

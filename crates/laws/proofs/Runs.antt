@@ -3,7 +3,8 @@ use Prim.Native.Nat.{ℕ, zero, suc}
 use mathlib.Core.Path.{_≡_, refl, _∙_}
 use native.Mathlib.Omega.{arith}
 use Rattle.machine.specs.World.{World, at-end}
-use Rattle.mechanism.specs.Step.{Stepped, next, refused, step}
+use Rattle.machine.specs.Words.{StepResult, next, refused}
+use Rattle.machine.specs.Step.{step}
 use Rattle.machine.specs.Run.{End, follow, run}
 use Rattle.laws.specs.Sound.{Sound}
 use Rattle.laws.proofs.Either.{either}
@@ -12,7 +13,7 @@ use Rattle.laws.proofs.Step.{Pools, step-sound, entries-stay, entries-g
 
 -- what holds of each world and is passed on by each finished instruction holds where a run ends
 module _ (P : World → World → Type 0) (here : (w : World) → P w w) (onto : (w v u : World) → Sound w → step w ≡ next v → P v u → P w u) where
-  followed : (others : World → End) (w : World) (left : ℕ) (s : Stepped) → Sound w → step w ≡ s → ((v : World) → Sound v → P v (others v .world)) → P w (follow others w left s .world)
+  followed : (others : World → End) (w : World) (left : ℕ) (s : StepResult) → Sound w → step w ≡ s → ((v : World) → Sound v → P v (others v .world)) → P w (follow others w left s .world)
   unfolding follow
   followed others w left (next v) sound e all = onto w v _ sound e (all v (step-sound w v sound e))
   followed others w left (refused refusal) sound e all = here w

@@ -10,7 +10,8 @@ use Rattle.machine.specs.declared.Phase.{Phase}
 use Rattle.machine.specs.declared.Phase.the-variants.{Done, Paused, Stopped}
 use Rattle.machine.specs.Machines.{with-saved}
 use Rattle.mechanism.specs.Registers.{settled}
-use Rattle.machine.specs.Machines.{rewound}
+use Rattle.machine.specs.Machines.{rewound, placed}
+use Rattle.mechanism.specs.Registers.{registers-of}
 use Rattle.machine.specs.declared.Outcome.{Outcome}
 use Rattle.machine.specs.declared.Outcome.the-variants as outcome
 use Rattle.image.specs.Table.{SavedTable}
@@ -50,7 +51,7 @@ phased-sound phase m = record { values = m .values; entries = m .entries; frames
 
 -- the machine at the end of a run
 pub ended-sound : (w : World) (outcome : Outcome) → Sound w → Sound (with-machine w (ended (w .machine) outcome))
-unfolding ended rewound placed settled
+unfolding ended rewound placed settled registers-of
 ended-sound w outcome.Done s = sound (with-machine w (ended (w .machine) outcome.Done)) (phased-sound Done (placed-sound 0 (w .machine .height) (machined w s) (omega arith))) (tabled w s)
 ended-sound w outcome.Paused s = sound (with-machine w (ended (w .machine) outcome.Paused)) (phased-sound Paused (machined w s)) (tabled w s)
 ended-sound w (outcome.Refused refusal) s = sound (with-machine w (ended (w .machine) (outcome.Refused refusal))) (phased-sound Stopped (machined w s)) (tabled w s)

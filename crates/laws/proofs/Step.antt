@@ -24,9 +24,12 @@ use Rattle.mechanism.specs.Act.{OnAll}
 use Rattle.mechanism.specs.Advance.{wanted}
 use Rattle.mechanism.specs.Turns.{save-went}
 use Rattle.machine.specs.World.{World, world, code}
-use Rattle.mechanism.specs.Step.{Stepped, next, inner-did, inner, acts-went, acts, saves-went, saves, outer, step}
+use Rattle.machine.specs.Words.{StepResult, next}
+use Rattle.machine.specs.Step.{step}
+use Rattle.mechanism.specs.Step.{inner-did, inner, acts-went, acts, saves-went, saves, outer, step-by-parts}
 use Rattle.machine.specs.World.{op}
-use Rattle.mechanism.specs.Step as runs
+use Rattle.machine.specs.Words as runs
+use Rattle.mechanism.proofs.Whole.{step-is}
 use Rattle.laws.specs.Sound.{Sound}
 use Rattle.laws.specs.Counted.{creates, deletes}
 use Rattle.laws.proofs.Either.{either}
@@ -46,7 +49,7 @@ abbrev pub Pools : World → World → Type 0
 Pools w v = Grows (w .pool) (w .ends) (w .machine .entries) (v .pool) (v .ends) (v .machine .entries)
 
 -- finished soundly, or refused
-data Steps (w : World) : Stepped → Type 0 where
+data Steps (w : World) : StepResult → Type 0 where
   steps : (v : World) → Sound v → Pools w v → Lived (w .table) (v .table) (creates (op w)) (deletes (op w)) → Steps w (next v)
   refused : (refusal : Refusal) → Steps w (runs.refused refusal)
 
@@ -115,7 +118,7 @@ module _ (w : World) (s : Sound w) where
 
   -- the place behind it
   abbrev behind : ℕ
-  behind = (registers-of (w .machine) .place + 1) % 2 ^ 64
+  behind = registers-of (w .machine) .place + 1
 
   abbrev saved-world : ℕ → List ℕ → World
   saved-world size save = world (with-saved (machine-at (w .machine) behind (w .machine .height)) size) (w .table) (w .stack) (w .memory) (w .pool) (w .ends) save
@@ -135,18 +138,21 @@ module _ (w : World) (s : Sound w) where
 
   -- ---- each
 
-  step-steps : Steps w (step w)
-  unfolding step outer
-  step-steps =
+  parts-steps : Steps w (step-by-parts w)
+  unfolding step-by-parts outer
+  parts-steps =
       either (Steps w) (is-outer (op w)) _ _ (λ _. either (Steps w) (eqb (op w) S-SAVE) _ _ (λ is. saves-steps is) (λ _. acts-steps)) (λ none. inner-steps none)
+
+  step-steps : Steps w (step w)
+  step-steps = subst (Steps w) (step-is w) parts-steps
 
 -- ---- what is said of the world after
 
-is-next : Stepped → ℕ
+is-next : StepResult → ℕ
 is-next (next v) = 1
 is-next (runs.refused refusal) = 0
 
-world-of : World → Stepped → World
+world-of : World → StepResult → World
 world-of w (next v) = v
 world-of w (runs.refused refusal) = w
 
@@ -155,7 +161,7 @@ record Stepping (w v : World) : Type 0 where
   pools : Pools w v
   lived : Lived (w .table) (v .table) (creates (op w)) (deletes (op w))
 
-stepping-by : (w v : World) (a : Stepped) → Steps w a → a ≡ next v → Stepping w v
+stepping-by : (w v : World) (a : StepResult) → Steps w a → a ≡ next v → Stepping w v
 unfolding is-next world-of
 stepping-by w v _ (steps u is-sound pools lived) e =
     subst (Stepping w) (ap (world-of w) e) (record { is-sound = is-sound; pools = pools; lived = lived })

@@ -32,9 +32,6 @@ save-went machine (Saved length) =
     Onto (with-saved (machine-at machine (registers-of machine .place + 1) (machine .height)) length)
 save-went machine (NotSaved refusal) = Refused refusal
 
-unfoldable pub saved : Machine → ℕ → SaveResult → Gone
-saved machine left result = turned machine left (save-went machine result)
-
 -- the end of a run
 abbrev pub ran : Gone → Ran
 ran gone = record { machine = gone .machine; left = gone .left; outcome = gone .outcome }

@@ -6,7 +6,7 @@ use mathlib.Core.Path.{_≡_, refl, sym, ap, _∙_, subst}
 use native.Mathlib.Omega.{arith}
 use lib.Dec.{eqb, ltb, leb}
 use lib.ListN.{length, getD}
-use borrow.Author.Tests.{ltb-true, ltb-false, le-leb, lt-leb}
+use borrow.Author.Tests.{eqb-true, ltb-true, ltb-false, le-leb, lt-leb}
 use Rattle.errors.specs.declared.Refusal.{Refusal}
 use Rattle.bytecode.specs.Opcodes.{S-SAVE}
 use Rattle.storage.specs.declared.Task.{Task}
@@ -26,7 +26,10 @@ use Rattle.mechanism.specs.declared.Halt.the-variants as halt
 use Rattle.machine.specs.Machines.{current, code-of}
 use Rattle.mechanism.specs.Registers.{registers-of, settled}
 use Rattle.mechanism.specs.Advance.{GoneOn, ended as outcome-at, at-hand, wanted, halted-at, after-steps, advance}
-use Rattle.mechanism.specs.Turns.{turned, save-went, saved}
+use Rattle.mechanism.specs.Turns.{turned, save-went}
+use Rattle.runner.specs.Behind.{next-of, save-answered, saved}
+use Rattle.runner.proofs.Leaving.{inside, next-is}
+use Rattle.mechanism.proofs.Whole.{step-is}
 use Rattle.mechanism.specs.Act.{OnAll}
 use Rattle.machine.specs.Machines.{op-at}
 use Rattle.machine.specs.declared.Outcome.the-variants as outcomes
@@ -36,7 +39,9 @@ use Rattle.mechanism.proofs.Acts.{act-leaves}
 use Rattle.mechanism.proofs.Memory.{Leaves, finished, kept}
 use Rattle.mechanism.proofs.Instruction.{instruct-leaves}
 use Rattle.machine.specs.World.{World, world, at-end}
-use Rattle.mechanism.specs.Step.{Stepped, next, refused, outer, inner, inner-did, acts-went, acts, saves-went, saves, step}
+use Rattle.machine.specs.Words.{StepResult, next, refused}
+use Rattle.machine.specs.Step.{step}
+use Rattle.mechanism.specs.Step.{outer, inner, inner-did, acts-went, acts, saves-went, saves, step-by-parts}
 use Rattle.machine.specs.Run.{End, end-at, follow, run}
 use Rattle.runner.specs.Going.{Going, going, beside, Acting, after-act, task-turn, slot-at, act-turn, after-save, save-turn, from-acting, from-saving, turn, begins, goes-on}
 use Rattle.runner.proofs.Stating.{acts-on-record}
@@ -97,15 +102,15 @@ module _ (machine : Machine) (table : List Task) (pool ends save : List ℕ) whe
   no-fuel registers stack memory t = simp (code-settled, place-settled, t, past (registers .place) (length code) t)
 
   at-outer : (fuel : ℕ) (registers : Registers) (stack memory : List ℕ) → ltb (registers .place) (length code) ≡ true → is-outer (getD code (registers .place) 0) ≡ true → Claim (suc fuel) registers stack memory
-  unfolding finishes after-steps halted-at steps core-turn run at-end step
-  at-outer fuel registers stack memory t o = simp (code-settled, place-settled, op-settled, t, past (registers .place) (length code) t, o, one-less)
+  unfolding finishes after-steps halted-at steps core-turn run at-end step-by-parts
+  at-outer fuel registers stack memory t o = simp (← step-is (at registers stack memory), code-settled, place-settled, op-settled, t, past (registers .place) (length code) t, o, one-less)
 
   -- an instruction that is finished
   runs-on : (fuel : ℕ) (registers reached : Registers) (stack memory s m : List ℕ) → ltb (registers .place) (length code) ≡ true → is-outer (getD code (registers .place) 0) ≡ false
       → on-memory (Next reached) s m ≡ instruct stack memory code registers (machine .count) → run (suc fuel) (at registers stack memory) ≡ run fuel (at reached s m)
-  unfolding run at-end step inner inner-did follow
+  unfolding run at-end step-by-parts inner inner-did follow
   runs-on fuel registers reached stack memory s m t o e =
-      simp (code-settled, place-settled, registers-settled, op-settled, count-settled, settled-twice, past (registers .place) (length code) t, o, ← e)
+      simp (← step-is (at registers stack memory), code-settled, place-settled, registers-settled, op-settled, count-settled, settled-twice, past (registers .place) (length code) t, o, ← e)
 
   steps-on : (fuel : ℕ) (registers reached : Registers) (stack memory s m : List ℕ) → ltb (registers .place) (length code) ≡ true → is-outer (getD code (registers .place) 0) ≡ false
       → on-memory (Next reached) s m ≡ instruct stack memory code registers (machine .count) → steps (suc fuel) stack memory code registers (machine .count) ≡ steps fuel s m code reached (machine .count)
@@ -115,9 +120,9 @@ module _ (machine : Machine) (table : List Task) (pool ends save : List ℕ) whe
   -- one that is refused
   runs-not : (fuel : ℕ) (registers : Registers) (stack memory : List ℕ) (refusal : Refusal) → ltb (registers .place) (length code) ≡ true → is-outer (getD code (registers .place) 0) ≡ false
       → on-memory (Refused refusal) stack memory ≡ instruct stack memory code registers (machine .count) → Claim (suc fuel) registers stack memory
-  unfolding finishes after-steps halted-at steps core-turn onward run at-end step inner inner-did follow
+  unfolding finishes after-steps halted-at steps core-turn onward run at-end step-by-parts inner inner-did follow
   runs-not fuel registers stack memory refusal t o e =
-      simp (code-settled, place-settled, registers-settled, op-settled, count-settled, t, past (registers .place) (length code) t, o, ← e)
+      simp (← step-is (at registers stack memory), code-settled, place-settled, registers-settled, op-settled, count-settled, t, past (registers .place) (length code) t, o, ← e)
 
   at-inner : (fuel : ℕ) (registers : Registers) (stack memory : List ℕ) → ((r : Registers) (s m : List ℕ) → Claim fuel r s m)
       → ltb (registers .place) (length code) ≡ true → is-outer (getD code (registers .place) 0) ≡ false
@@ -229,7 +234,7 @@ begins-seen fuel w fits running = record { at-place = shows-op (w .pool) (w .end
 -- ---- a turn
 
 -- where the machine goes on after an instruction that was finished, or stays after one that was refused
-data Turns (g : Going) : Going → Stepped → Type 0 where
+data Turns (g : Going) : Going → StepResult → Type 0 where
   on : (machine : Machine) (table : List Task) (s m p e save : List ℕ) → Turns g (going (at-hand machine (g .gone .left - 1) 0) table s m p e save) (next (world machine table s m p e save))
   stays : (refusal : Refusal) → Turns g (going (outcome-at (g .gone .machine) (g .gone .left) (outcomes.Refused refusal)) (g .table) (g .stack) (g .memory) (g .pool) (g .ends) (g .save)) (refused refusal)
 
@@ -253,10 +258,11 @@ unfolding save-table
 save-leaves next-id table pool e entries save = saved-leaves next-id table pool e save _
 
 saves-turns : (g : Going) (a : SavedTable) → Saves (g .save) a
+    → next-of (g .gone .machine) ≡ registers-of (g .gone .machine) .place + 1
     → Turns g (from-saving (after-save (g .gone) (g .table) (g .pool) (g .ends) a) (g .stack) (g .memory)) (saves-went (world-of g) (a .save) (save-went (g .gone .machine) (a .answer)))
-unfolding saved turned save-went saves-went
-saves-turns g _ (has-saved length after) = on _ (g .table) (g .stack) (g .memory) (g .pool) (g .ends) after
-saves-turns g _ (not-saved refusal) = stays refusal
+unfolding saved save-answered turned save-went saves-went
+saves-turns g _ (has-saved length after) behind = rw behind (on _ (g .table) (g .stack) (g .memory) (g .pool) (g .ends) after)
+saves-turns g _ (not-saved refusal) behind = stays refusal
 
 -- an instruction that saves, or works on the record of the slot that it names
 abbrev record-turn : Going → Going
@@ -265,10 +271,16 @@ record-turn g = from-acting (task-turn (g .table) (g .stack) (g .memory) (g .poo
 abbrev saving-turn : Going → Going
 saving-turn g = from-saving (save-turn (g .table) (g .pool) (g .ends) (g .save) (g .gone)) (g .stack) (g .memory)
 
-turns-by : (g : Going) (b : Bool) → Turns g (cond b (saving-turn g) (record-turn g)) (outer (world-of g) b (slot-at (g .stack) (g .gone)))
+-- the place behind a save
+behind-save : (g : Going) → Seen g → eqb (g .gone .op) S-SAVE ≡ true → next-of (g .gone .machine) ≡ registers-of (g .gone .machine) .place + 1
+unfolding registers-of
+behind-save g seen is =
+    next-is (g .pool) (g .ends) (g .gone .machine) (seen .fits) (inside (g .pool) (g .ends) (g .gone .machine) S-SAVE (seen .at-place ∙ eqb-true _ _ is) (λ none. omega arith))
+
+turns-by : (g : Going) (b : Bool) → (b ≡ true → next-of (g .gone .machine) ≡ registers-of (g .gone .machine) .place + 1) → Turns g (cond b (saving-turn g) (record-turn g)) (outer (world-of g) b (slot-at (g .stack) (g .gone)))
 unfolding outer saves acts save-turn task-turn
-turns-by g true = saves-turns g _ (save-leaves _ (g .table) (g .pool) (g .ends) _ (g .save))
-turns-by g false = acts-turns g (slot-at (g .stack) (g .gone)) _ (act-leaves (g .stack) (g .memory) (g .pool) (g .ends) (g .gone .machine) _)
+turns-by g true behind = saves-turns g _ (save-leaves _ (g .table) (g .pool) (g .ends) _ (g .save)) (behind refl)
+turns-by g false behind = acts-turns g (slot-at (g .stack) (g .gone)) _ (act-leaves (g .stack) (g .memory) (g .pool) (g .ends) (g .gone .machine) _)
 
 -- a machine on its way turns
 at-work : (g : Going) → g .gone .running ≡ true → Seen g → turn g ≡ cond (eqb (g .gone .op) S-SAVE) (saving-turn g) (record-turn g)
@@ -280,7 +292,7 @@ at-work g running seen =
 turns : (g : Going) → g .gone .running ≡ true → Seen g → Turns g (turn g) (outer (world-of g) (eqb (g .gone .op) S-SAVE) (slot-at (g .stack) (g .gone)))
 turns g running seen =
     subst (λ (h : Going). Turns g h (outer (world-of g) (eqb (g .gone .op) S-SAVE) (slot-at (g .stack) (g .gone)))) (sym (at-work g running seen))
-    (turns-by g (eqb (g .gone .op) S-SAVE))
+    (turns-by g (eqb (g .gone .op) S-SAVE) (behind-save g seen))
 
 -- one at its outcome stays
 stays-put : (g : Going) → g .gone .running ≡ false → eqb (g .gone .op) S-SAVE ≡ false → turn g ≡ g
@@ -308,7 +320,7 @@ unfolding comes-to
 ended g stopped = simp (stopped)
 
 -- after the instruction at hand
-comes-after : (g h : Going) (stepped : Stepped) → Turns g h stepped → comes-to h ≡ follow (λ v. run (g .gone .left - 1) v) (world-of g) (g .gone .left) stepped
+comes-after : (g h : Going) (stepped : StepResult) → Turns g h stepped → comes-to h ≡ follow (λ v. run (g .gone .left - 1) v) (world-of g) (g .gone .left) stepped
 unfolding comes-to follow
 comes-after g _ _ (on machine table s m p e save) = refl
 comes-after g _ _ (stays refusal) = refl
@@ -326,7 +338,7 @@ went-on g fits running =
 
 -- ---- with fewer turns to come
 
-fewer-after : (fuel : ℕ) (g h : Going) (stepped : Stepped) → Turns g h stepped → g .gone .left ≤ fuel → 0 < g .gone .left → turns-left h < fuel * 2 + 1
+fewer-after : (fuel : ℕ) (g h : Going) (stepped : StepResult) → Turns g h stepped → g .gone .left ≤ fuel → 0 < g .gone .left → turns-left h < fuel * 2 + 1
 fewer-after fuel g _ _ (on machine table s m p e save) less some = omega (arith, less, some)
 fewer-after fuel g _ _ (stays refusal) less some = omega (arith, less)
 

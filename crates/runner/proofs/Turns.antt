@@ -18,7 +18,8 @@ use Rattle.mechanism.specs.declared.Change.{Change}
 use Rattle.machine.specs.declared.Machine.{Machine}
 use Rattle.mechanism.specs.Act.{OnAll, on-all, act}
 use Rattle.mechanism.specs.Advance.{GoneOn, gone-on, advance}
-use Rattle.mechanism.specs.Turns.{begun, turned, saved, ran}
+use Rattle.mechanism.specs.Turns.{begun, turned, ran}
+use Rattle.runner.specs.Behind.{saved}
 use Rattle.mechanism.specs.declared.Acted.{Acted}
 use Rattle.mechanism.specs.declared.Gone.{Gone}
 use Rattle.machine.specs.declared.Ran.{Ran}

@@ -12,7 +12,8 @@ use Rattle.image.specs.Table.{SavedTable, save-table}
 use Rattle.mechanism.specs.Frames.{op-call, op-end-call}
 use Rattle.mechanism.specs.Act.{OnAll, act}
 use Rattle.mechanism.specs.Advance.{GoneOn, named, wanted, advance}
-use Rattle.mechanism.specs.Turns.{turned, saved}
+use Rattle.mechanism.specs.Turns.{turned}
+use Rattle.runner.specs.Behind.{saved}
 use Rattle.mechanism.specs.declared.Gone.{Gone}
 use Rattle.mechanism.specs.declared.Stated.{Stated}
 use Rattle.machine.specs.World.{World, world}

@@ -1,7 +1,8 @@
 // What an instruction that needs a task, a frame or the pool makes of a machine on its way: one unit of fuel less, or a refusal.
 ghost use mathlib.Core.Path.{_≡_};
 ghost use Rattle.storage.specs.Tasks.{after};
-ghost use Rattle.mechanism.specs.Turns.{begun, spent, turned, saved, ran};
+ghost use Rattle.mechanism.specs.Turns.{begun, spent, turned, ran};
+ghost use Rattle.runner.specs.Behind.{saved};
 ghost use Rattle.runner.specs.Behind.{next-of};
 ghost use Rattle.runner.specs.Going.{returned, called};
 use image::SaveResult;
@@ -98,7 +99,7 @@ pub(crate) fn saved(machine: Machine, left: u64, result: SaveResult) -> Gone
         SaveResult::NotSaved(refusal) => turned(machine, left, Went::Refused(refusal)),
         SaveResult::Saved(length) => {
             let registers = registers_of(machine);
-            let next = std::num::wrapping_add_usize(registers.place, 1);
+            let next = next_of(machine);
             let mut after = settled(machine, moved(registers, next, machine.height));
             after.saved = length;
             turned(machine, left, Went::Onto(after))

@@ -175,21 +175,21 @@ module _ (w : World) (labels : ℕ → Label) (lent : length (w .stack) ≡ 1000
     lone-set-acts e = without-rule T-SET-FIELD e refl refl
 
     -- S_SAVE
-    saved-steps : {answer : SaveResult} {left : List Kind} (save : List ℕ) → (here + 1) % 2 ^ 64 ≡ next → Shape Unchanged kinds left → At code labels next left opens → SavesAs answer
+    saved-steps : {answer : SaveResult} {left : List Kind} (save : List ℕ) → here + 1 ≡ next → Shape Unchanged kinds left → At code labels next left opens → SavesAs answer
         → Steps code labels (saves-went w save (save-went (w .machine) answer))
     unfolding saves-went save-went registers-of
     saved-steps {left = left} save n s a is-saved =
-        let b : At code labels ((here + 1) % 2 ^ 64) left opens = subst (λ (i : ℕ). At code labels i left opens) (sym n) a in
-        let t = settles (w .machine) (moved (registers-of (w .machine)) ((here + 1) % 2 ^ 64) (w .machine .height)) (w .table) (w .stack) (w .memory) (w .pool) (w .ends) save lent main (starts b (unchanged s kinded) looping) in
+        let b : At code labels (here + 1) left opens = subst (λ (i : ℕ). At code labels i left opens) (sym n) a in
+        let t = settles (w .machine) (moved (registers-of (w .machine)) (here + 1) (w .machine .height)) (w .table) (w .stack) (w .memory) (w .pool) (w .ends) save lent main (starts b (unchanged s kinded) looping) in
         steps-to (record { lent = t .lent; main = t .main; holds = t .holds })
     saved-steps save n s a (not-saved may) = may-stop may
 
-    behind-save : getD code here 0 ≡ S-SAVE → length code ≤ 65535 → (here + 1) % 2 ^ 64 ≡ next
+    behind-save : getD code here 0 ≡ S-SAVE → here + 1 ≡ next
     unfolding behind operand-size data-size
-    behind-save e short = rw e (omega arith)
+    behind-save e = rw e (omega arith)
 
-    pub save-acts : length code ≤ 65535 → getD code here 0 ≡ S-SAVE → Steps code labels (saves w)
+    pub save-acts : getD code here 0 ≡ S-SAVE → Steps code labels (saves w)
     unfolding saves whole-element plain-element moving-element
-    save-acts short e =
-        by-kinds S-SAVE Unchanged e refl refl (λ left s a. saved-steps (saving w .save) (behind-save e short) s a
+    save-acts e =
+        by-kinds S-SAVE Unchanged e refl refl (λ left s a. saved-steps (saving w .save) (behind-save e) s a
         (table-saves (w .machine .«next_id») (w .table) (w .pool) (w .ends) (w .machine .entries) (w .save)))

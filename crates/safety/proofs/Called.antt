@@ -14,7 +14,7 @@ use Rattle.inlinevec.specs.declared.Loops.{Loops}
 use Rattle.machine.specs.declared.Machine.{Machine}
 use Rattle.machine.specs.Machines.{current}
 use Rattle.mechanism.specs.Registers.{registers-of, settled}
-use Rattle.machine.specs.Machines.{rewound}
+use Rattle.machine.specs.Machines.{rewound, placed}
 use Rattle.machine.specs.declared.Outcome.the-variants.{Done, Paused, Refused}
 use Rattle.machine.specs.World.{World, place, at-end}
 use Rattle.image.specs.declared.SaveResult.{SaveResult}

@@ -13,7 +13,7 @@ use Rattle.inlinevec.specs.declared.Loops.{Loops}
 use Rattle.machine.specs.declared.Outcome.the-variants.{Done, Paused, Refused}
 use Rattle.machine.specs.World.{World, place, at-end}
 use Rattle.machine.specs.World as worlds
-use Rattle.mechanism.specs.Step.{Stepped, next, refused}
+use Rattle.machine.specs.Words.{StepResult, next, refused}
 use Rattle.machine.specs.Run.{End, end-at, run}
 use Rattle.laws.proofs.Finished.{Reaches, here, onto, Ends, is-done, is-paused, is-refused, finished}
 use Rattle.labels.specs.declared.Kind.{Kind}
@@ -57,11 +57,11 @@ module _ (program : List ℕ) (kinds : List Kind) (labelled : Labelled program k
   abbrev lab : Labelling program labels
   lab = labelled .labelling
 
-  steps-on : {s : Stepped} (v : World) → Steps program labels s → s ≡ next v → Stands program labels v
+  steps-on : {s : StepResult} (v : World) → Steps program labels s → s ≡ next v → Stands program labels v
   steps-on v (steps-to {v = u} stands) e = let same : u ≡ v = cc in subst (Stands program labels) same stands
   steps-on v (may-stop may) e = absurd (let z : _≡_ {A = ℕ} 0 1 = cc in omega arith)
 
-  may-refuse : {s : Stepped} (refusal : Refusal) → Steps program labels s → s ≡ refused refusal → May refusal
+  may-refuse : {s : StepResult} (refusal : Refusal) → Steps program labels s → s ≡ refused refusal → May refusal
   may-refuse refusal (steps-to stands) e = absurd (let z : _≡_ {A = ℕ} 0 1 = cc in omega arith)
   may-refuse refusal (may-stop {refusal = r} may) e = let same : r ≡ refusal = cc in subst May same may
 

@@ -18,7 +18,8 @@ use Rattle.machine.specs.Machines.{current, with-current, code-of}
 use Rattle.mechanism.specs.Registers.{settled}
 use Rattle.machine.specs.World.{World, world, place}
 use Rattle.machine.specs.World as worlds
-use Rattle.mechanism.specs.Step.{Stepped, next, refused, inner-did}
+use Rattle.machine.specs.Words.{StepResult, next, refused}
+use Rattle.mechanism.specs.Step.{inner-did}
 use Rattle.mechanism.proofs.Settled.{current-changed}
 use Rattle.labels.specs.Labels.{Label}
 use Rattle.safety.proofs.Rules.{on-bool}
@@ -39,7 +40,7 @@ pub record Stands (code : List ℕ) (labels : ℕ → Label) (w : World) : Type 
   pub holds : Holds code labels (place w) (w .machine .height) (w .machine .loops) (w .stack)
 
 -- an instruction leaves such a machine, or is refused with what admission leaves possible
-pub data Steps (code : List ℕ) (labels : ℕ → Label) : Stepped → Type 0 where
+pub data Steps (code : List ℕ) (labels : ℕ → Label) : StepResult → Type 0 where
   steps-to : {v : World} → Stands code labels v → Steps code labels (next v)
   may-stop : {refusal : Refusal} → May refusal → Steps code labels (refused refusal)
 

@@ -12,7 +12,10 @@ use Rattle.mechanism.specs.Registers.{registers-of}
 use Rattle.machine.specs.Machines.{op-at}
 use Rattle.machine.specs.World.{World, place, at-end}
 use Rattle.machine.specs.World as worlds
-use Rattle.mechanism.specs.Step.{inner, outer, step}
+use Rattle.machine.specs.Step.{step}
+use Rattle.mechanism.specs.Step.{inner, outer, step-by-parts}
+use Rattle.mechanism.proofs.Whole.{step-is}
+use Rattle.machine.specs.Words.{StepResult}
 use Rattle.labels.specs.declared.Kind.{Kind}
 use Rattle.labels.specs.Labels.{Open, Label, Labelling}
 use Rattle.safety.proofs.Kinded.{Kinded}
@@ -46,7 +49,7 @@ module _ (w : World) (labels : ℕ → Label) (lent : length (w .stack) ≡ 1000
     outer-start byte at-t-get-field t e slot = lone-get-acts w labels lent main lab at inside less kinded looping e
     outer-start byte at-t-set-field t e slot = lone-set-acts w labels lent main lab at inside less kinded looping e
     outer-start byte at-t-delete t e slot = delete-acts w labels lent main lab at inside less kinded looping slot e
-    outer-start byte at-s-save t e slot = save-acts w labels lent main lab at inside less kinded looping short e
+    outer-start byte at-s-save t e slot = save-acts w labels lent main lab at inside less kinded looping e
     outer-start byte at-call t e slot = call-acts w labels lent main lab at inside less kinded looping e
     outer-start byte at-end-call t e slot = end-call-acts w labels lent main lab at inside less kinded looping slot e
     outer-start byte at-push-u32 t e slot = absurd (false≢true t)
@@ -76,8 +79,8 @@ module _ (w : World) (labels : ℕ → Label) (lent : length (w .stack) ≡ 1000
     unfolding inner registers-of
     inner-start f = inner-steps w _ main (instruction-good code labels lab here (w .machine .height) (w .machine .memory) (w .machine .count) (w .machine .loops) (w .stack) (w .memory) lent at less kinded looping f)
 
-    step-start : Steps code labels (step w)
-    unfolding step op-at
+    step-start : Steps code labels (step-by-parts w)
+    unfolding step-by-parts op-at
     step-start =
         on-bool (is-outer (getD code here 0))
         (λ t. rw t (outer-start (getD code here 0) (opcode (getD code here 0)) t refl _))
@@ -85,8 +88,8 @@ module _ (w : World) (labels : ℕ → Label) (lent : length (w .stack) ≡ 1000
 
   -- ---- in the middle of a joined element
 
-  step-holds : Holds code labels here (w .machine .height) (w .machine .loops) (w .stack) → Steps code labels (step w)
-  unfolding step op-at is-outer outer
+  step-holds : Holds code labels here (w .machine .height) (w .machine .loops) (w .stack) → Steps code labels (step-by-parts w)
+  unfolding step-by-parts op-at is-outer outer
   step-holds (starts at kinded looping) = step-start at kinded looping
   step-holds (middle there e is-get high few top fielded kinded at looping) = rw e (get-acts w labels lent main _ inside less e high few top fielded kinded at looping)
   step-holds (middle there e is-set high few top fielded kinded at looping) = rw e (set-acts w labels lent main _ inside less e high few top fielded kinded at looping)
@@ -99,4 +102,5 @@ step-good {program} {labels} lab short w stands inside =
     let lab-here = subst (λ (c : List ℕ). Labelling c labels) (sym runs) lab in
     let short-here = subst (λ (c : List ℕ). length c ≤ 65535) (sym runs) short in
     let holds = subst (λ (c : List ℕ). Holds c labels (place w) (w .machine .height) (w .machine .loops) (w .stack)) (sym runs) (stands .holds) in
-    subst (λ (c : List ℕ). Steps c labels (step w)) runs (step-holds w labels (stands .lent) main lab-here short-here inside holds)
+    subst (λ (a : StepResult). Steps program labels a) (step-is w)
+    (subst (λ (c : List ℕ). Steps c labels (step-by-parts w)) runs (step-holds w labels (stands .lent) main lab-here short-here inside holds))

@@ -46,7 +46,7 @@ use Rattle.storage.proofs.Records.{R, table-ty, makes, typed}
 use Rattle.image.specs.Table.{saved-table, save-table}
 use Rattle.table_image.specs.Tables.{held}
 use Rattle.mechanism.specs.declared.Gone.{Gone}
-use Rattle.mechanism.specs.Turns.{saved as saved-of}
+use Rattle.runner.specs.Behind.{saved as saved-of}
 use Rattle.runner.specs.Going.{saving, save-turn}
 use Rattle.mechanism.proofs.Values.{machine-shut, gone-shut, gone-vals}
 use Rattle.mechanism.proofs.Fields.{entries-fit, next-id-fits, machine-is, left-fits, take-machine, take-left, take-entries, take-next-id}

@@ -1,5 +1,5 @@
 -- `runner::gone::saved` meets its contract.
-use Rattle.mechanism.specs.Turns.{saved, save-went}
+use Rattle.runner.specs.Behind.{save-answered, saved}
 use borrow.Author.Needs.{needs}
 use Rattle.runner.proofs.gone.saved.Statement.{statement}
 use Rattle.runner.proofs.gone.saved.Tie as tie
@@ -9,7 +9,7 @@ use Rattle.mechanism.proofs.machines.registers_of.Reads as registers-of-reads
 use Rattle.mechanism.proofs.machines.settled.Reads as settled-reads
 use Rattle.runner.proofs.gone.turned.Reads as turned-reads
 use Rattle.mechanism.proofs.stack.moved.Reads as moved-reads
-use Rattle.std.proofs.num.wrapping_add_usize.Reads as wrapping-add-usize-reads
+use Rattle.runner.proofs.gone.next_of.Reads as next-of-reads
 
 enum-known-result : tie.Need-enum-known-result
 enum-known-result c = search needs
@@ -23,8 +23,8 @@ enum-known-result-2 c = search needs
 registers-of-requires : tie.Need-registers-of-requires
 registers-of-requires c κs = search needs
 
-wrapping-add-usize-requires : tie.Need-wrapping-add-usize-requires
-wrapping-add-usize-requires c κs = search needs
+next-of-requires : tie.Need-next-of-requires
+next-of-requires c κs = search needs
 
 moved-requires : tie.Need-moved-requires
 moved-requires c κs = search needs
@@ -36,14 +36,14 @@ turned-requires-2 : tie.Need-turned-requires-2
 turned-requires-2 c κs = search needs
 
 returns : tie.Need-returns
-unfolding saved save-went
+unfolding saved save-answered
 returns c =
     simp (← c .turned .ensures, c .before .before .result .given .1)
 
 returns-2 : tie.Need-returns-2
-unfolding saved save-went
+unfolding saved save-answered
 returns-2 c =
-    simp (← c .turned2 .ensures, ← c .before .settled .ensures, ← c .before .before .moved .ensures, ← c .before .before .before .wrapping-add-usize .ensures, ← c .before .before .before .before .registers-of .ensures, c .before .before .before .before .before .before .result2 .given .1)
+    simp (← c .turned2 .ensures, ← c .before .settled .ensures, ← c .before .before .moved .ensures, ← c .before .before .before .next-of .ensures, ← c .before .before .before .before .registers-of .ensures, c .before .before .before .before .before .before .result2 .given .1)
 
 pub saved-spec : {M : Type 1} → statement M
 saved-spec =
@@ -53,7 +53,7 @@ saved-spec =
     turned-requires
     enum-known-result-2
     registers-of-requires
-    wrapping-add-usize-requires
+    next-of-requires
     moved-requires
     settled-requires
     turned-requires-2

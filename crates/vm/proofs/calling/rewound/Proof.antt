@@ -1,5 +1,5 @@
 -- `vm::calling::rewound` meets its contract.
-use Rattle.machine.specs.Machines.{rewound}
+use Rattle.machine.specs.Machines.{rewound, placed}
 use borrow.Author.Needs.{needs}
 use Rattle.vm.proofs.calling.rewound.Statement.{statement}
 use Rattle.vm.proofs.calling.rewound.Tie as tie
