@@ -1,8 +1,8 @@
 // The admission check: document 01's admission rules in code, in time that grows with the program's length.
 pub mod changes;
+mod decision;
 pub mod elements;
 pub mod finding;
-mod decision;
 mod jumps;
 mod nodes;
 mod sweep;

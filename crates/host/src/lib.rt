@@ -1,12 +1,12 @@
 // The library for a host: a run with its listing and its new image, the admission of a program, the test of an image.
 pub mod answering;
 pub mod hosting;
-pub mod owner;
-pub mod reasons;
 mod lines;
 mod listings;
 mod numbers;
 mod outcomes;
+pub mod owner;
+pub mod reasons;
 
 ghost use mathlib.Core.Path.{_≡_};
 ghost use Rattle.labels.specs.Check.{admission};
@@ -15,9 +15,9 @@ ghost use Rattle.image.specs.Image.{read-image};
 ghost use Rattle.image.specs.Reading.{tested};
 ghost use Rattle.host.specs.Numbers.{admitted, packed-admission, packed-image};
 ghost use Rattle.host.specs.Answering.{ran, rafenuma-run};
-use admission::Admission;
 use crate::reasons::number_and_detail;
 use crate::reasons::number_beside;
+use admission::Admission;
 use image::ImageResult;
 use image::reading::test_image;
 

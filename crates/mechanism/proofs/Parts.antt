@@ -84,6 +84,7 @@ module _ (w : World) where
       on-second : (first : ℕ) (b : PopResult) → F (pop-second first b) ≡ popped b (K first)
       on-second first (Popped second below) = good first second below
       on-second first (NotPopped refusal) = bad refusal
+
       on-first : (a : PopResult) → F (pop-first (w .stack) a) ≡ popped a (λ first above. pop w above λ second below. K first second below)
       on-first (Popped first above) = on-second first (stacks.pop (w .stack) above)
       on-first (NotPopped refusal) = bad refusal
@@ -189,20 +190,25 @@ module _ (w : World) where
       on-right-vector : (l : FatPointer) (a : PointerResult) → calculated (eq-right (memory-in-use w) l a) k ≡ pointed a (λ v. calculated (is-m-slice-eq (memory-in-use w) l v) k)
       on-right-vector l (Pointer v) = refl
       on-right-vector l (NoPointer refusal) = refl
+
       on-left-vector : (a : PointerResult) → calculated (eq-left (memory-in-use w) right a) k ≡ pointed a (λ l. pointed (to-fat-pointer right) λ v. calculated (is-m-slice-eq (memory-in-use w) l v) k)
       on-left-vector (Pointer l) = on-right-vector l (to-fat-pointer right)
       on-left-vector (NoPointer refusal) = refl
+
       by-kind : (b : Bool) → calculated (cond b (eq-vectors (memory-in-use w) left right) (value-eq left right)) k
           ≡ cond b (pointed (to-fat-pointer left) λ l. pointed (to-fat-pointer right) λ v. calculated (is-m-slice-eq (memory-in-use w) l v) k) (calculated (value-eq left right) k)
       by-kind true = on-left-vector (to-fat-pointer left)
       by-kind false = refl
+
       on-tags : (a b : ℕ) → calculated (eq-tagged (memory-in-use w) left right a b) k
           ≡ test (eqb a b) TypeMismatch (cond (is-vec left) (pointed (to-fat-pointer left) λ l. pointed (to-fat-pointer right) λ v. calculated (is-m-slice-eq (memory-in-use w) l v) k) (calculated (value-eq left right) k))
       on-tags a b = on-bool (eqb a b) (λ t. rw t (by-kind (is-vec left))) (λ t. rw t)
+
       on-right : (a : ℕ) (b : TagResult) → calculated (eq-right-tag (memory-in-use w) left right a b) k
           ≡ tagged b (λ c. test (eqb a c) TypeMismatch (cond (is-vec left) (pointed (to-fat-pointer left) λ l. pointed (to-fat-pointer right) λ v. calculated (is-m-slice-eq (memory-in-use w) l v) k) (calculated (value-eq left right) k)))
       on-right a (Tag b) = on-tags a b
       on-right a (NoTag refusal) = refl
+
       on-left : (a : TagResult) → calculated (eq-left-tag (memory-in-use w) left right a) k
           ≡ tagged a (λ b. tagged (tag-of right) λ c. test (eqb b c) TypeMismatch (cond (is-vec left) (pointed (to-fat-pointer left) λ l. pointed (to-fat-pointer right) λ v. calculated (is-m-slice-eq (memory-in-use w) l v) k) (calculated (value-eq left right) k)))
       on-left (Tag a) = on-right a (tag-of right)
@@ -241,6 +247,7 @@ module _ (w : World) where
       at : (a : AllocResult) (memory : List ℕ) → on-registers w (allocated-at (w .stack) r to height memory a) ≡ allocated w to height memory a
       at (Allocated value used) memory = refl
       at (NotAllocated refusal) memory = refl
+
       by : (a : ValueResult) → on-registers w (cond (leb 1000 height) (on-memory (Refused (full-by a)) (w .stack) (w .memory)) (allocated-at (w .stack) r to height (filled payload size tag a .memory) (filled payload size tag a .answer)))
           ≡ calculated a (λ value. test (ltb height 1000) StackOverflow (allocated w to height (filled payload size tag a .memory) (filled payload size tag a .answer)))
       by (Value value) =
@@ -260,11 +267,13 @@ module _ (w : World) where
           ≡ element-changed a (next (with-memory (opcodes.onward w below) (m ++ drop (w .machine .memory) (w .memory)) (w .machine .memory)))
       on-change payload index below value v Changed m = refl
       on-change payload index below value v (NotChanged refusal) m = refl
+
       on-pointer : (payload index below value : ℕ) (a : PointerResult)
           → on-registers w (changed (w .stack) (mutate-at (w .memory) r (place w + 1) below (record { 0 = to-u32 index }) (to-u32 payload) (raw-tag value) a))
           ≡ pointed a (λ v. element-changed (opcodes.changing w value v index payload .answer) (next (with-memory (opcodes.onward w below) (opcodes.changing w value v index payload .memory ++ drop (w .machine .memory) (w .memory)) (w .machine .memory))))
       on-pointer payload index below value (Pointer v) = on-change payload index below value v (opcodes.changing w value v index payload .answer) (opcodes.changing w value v index payload .memory)
       on-pointer payload index below value (NoPointer refusal) = refl
+
       on-last : (payload index below : ℕ) (a : LastResult)
           → on-registers w (changed (w .stack) (mutate-last (w .memory) r (place w + 1) below payload index a))
           ≡ looked-at a (λ value. pointed (to-fat-pointer value) λ v. element-changed (opcodes.changing w value v index payload .answer) (next (with-memory (opcodes.onward w below) (opcodes.changing w value v index payload .memory ++ drop (w .machine .memory) (w .memory)) (w .machine .memory))))

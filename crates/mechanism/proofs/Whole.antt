@@ -68,7 +68,6 @@ module _ (w : World) (inside : place w < length (code w)) where
   abbrev reach-next : (n : ℕ) → getD (code w) (place w) 0 ≡ n → operand-size n ≡ 0 → eqb n PUSH-CALLDATA ≡ false → eqb n M-STI ≡ false → extent (code w) (place w) ≡ extents.Next (place w + 1)
   reach-next n = reaches-next (code w) (place w) n inside
 
-
   mul : getD (code w) (place w) 0 ≡ MUL → step-by-parts w ≡ opcodes.mul w
   unfolding is-outer operand-size by-extent executing.execute is-equality operated plain
   mul e = inner-step MUL e refl _ (reach-next MUL e refl refl refl) (parts.mul-is w)

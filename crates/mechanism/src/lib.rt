@@ -97,4 +97,3 @@ pub struct Stated {
     pub state: u32,
     pub went: Went,
 }
-

@@ -3,10 +3,10 @@ ghost use mathlib.Core.Path.{_≡_};
 ghost use lib.ListN.{getD};
 ghost use Rattle.machine.specs.Machines.{current, with-current, code-of};
 ghost use Rattle.mechanism.specs.Registers.{registers-of, settled};
-use machine::Machine;
 use crate::Registers;
 use inlinevec::Frame;
 use inlinevec::Frames;
+use machine::Machine;
 
 // The frame that runs.
 pub fn current(frames: Frames) -> Frame

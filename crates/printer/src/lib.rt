@@ -1,8 +1,8 @@
 // The lines on standard output that answers and machines share, and those of tasks and of a refused creation. What is printed is no part of a contract: the kit's `io` says nothing about standard output.
-pub mod shows;
 mod answer_lines;
 mod asked;
 mod machine_lines;
+pub mod shows;
 
 ghost use mathlib.Core.Path.{_≡_};
 use libc::STDOUT_FILENO;

@@ -6,8 +6,8 @@ use bytecode::opcodes::T_CREATE;
 use bytecode::opcodes::T_GET_FIELD;
 use bytecode::opcodes::T_SET_FIELD;
 use inlinevec::PopResult;
-use mechanism::Gone;
 use machine::Machine;
+use mechanism::Gone;
 
 // The slot that a value names, with so many values on the stack below it; past the last slot where there is none.
 fn named(stack: &[u64; 1000], height: usize) -> usize

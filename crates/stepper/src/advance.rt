@@ -2,10 +2,10 @@
 ghost use mathlib.Core.Path.{_≡_};
 ghost use Rattle.mechanism.specs.Advance.{halted-at, gone-on, advance};
 use crate::steps;
-use mechanism::Gone;
-use mechanism::Halt;
 use machine::Machine;
 use machine::Outcome;
+use mechanism::Gone;
+use mechanism::Halt;
 use mechanism::machines::byte_at;
 use mechanism::machines::code_of;
 use mechanism::machines::registers_of;

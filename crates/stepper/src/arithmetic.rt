@@ -30,7 +30,12 @@ pub(crate) fn op_mul(stack: &mut [u64; 1000], registers: Registers, next: usize)
 }
 
 // MULI.
-pub(crate) fn op_muli(stack: &mut [u64; 1000], registers: Registers, next: usize, number: u32) -> Did
+pub(crate) fn op_muli(
+    stack: &mut [u64; 1000],
+    registers: Registers,
+    next: usize,
+    number: u32,
+) -> Did
     ensures { λ r. ⌜ on-stack r (now (stack .exit)) ≡ op-muli (now (stack .entry)) registers next number ⌝ }
 {
     match inlinevec::pop(stack, registers.height) {

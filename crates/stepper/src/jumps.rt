@@ -7,7 +7,12 @@ use mechanism::Registers;
 use mechanism::stack::moved;
 
 // JUMP_IF_FALSE, its operand being there.
-pub(crate) fn op_jump_if_false(stack: &[u64; 1000], registers: Registers, next: usize, target: u32) -> Did
+pub(crate) fn op_jump_if_false(
+    stack: &[u64; 1000],
+    registers: Registers,
+    next: usize,
+    target: u32,
+) -> Did
     ensures { λ r. ⌜ r ≡ op-jump-if-false (now (stack .entry)) registers next target ⌝ }
 {
     match inlinevec::pop(stack, registers.height) {

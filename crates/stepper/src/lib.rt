@@ -2,17 +2,17 @@
 pub mod advance;
 pub mod arithmetic;
 pub mod control;
+mod cut;
 pub mod entering;
 pub mod equality;
+mod execute;
 pub mod jumps;
 pub mod mutation;
+mod operated;
 pub mod ordering;
 pub mod pushes;
 pub mod stack;
 pub mod store;
-mod cut;
-mod execute;
-mod operated;
 
 ghost use mathlib.Core.Path.{_≡_};
 ghost use Rattle.mechanism.specs.Steps.{is-outer, stepped, steps};

@@ -61,7 +61,12 @@ fn mutate(
 }
 
 // M_MUTA.
-pub(crate) fn op_m_muta(stack: &[u64; 1000], memory: &mut [u8], registers: Registers, next: usize) -> Did
+pub(crate) fn op_m_muta(
+    stack: &[u64; 1000],
+    memory: &mut [u8],
+    registers: Registers,
+    next: usize,
+) -> Did
     ensures { λ r. ⌜ changed-to r (now (memory .exit)) ≡ op-m-muta (now (stack .entry)) (now (memory .entry)) registers next ⌝ }
 {
     match pop_two(stack, registers.height) {

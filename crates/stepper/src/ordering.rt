@@ -9,7 +9,12 @@ use mechanism::stack::finish;
 use mechanism::stack::pop_two;
 
 // LT, and GT where is_lt is false: the right value is on top.
-pub(crate) fn op_compare(stack: &mut [u64; 1000], registers: Registers, next: usize, is_lt: bool) -> Did
+pub(crate) fn op_compare(
+    stack: &mut [u64; 1000],
+    registers: Registers,
+    next: usize,
+    is_lt: bool,
+) -> Did
     ensures { λ r. ⌜ on-stack r (now (stack .exit)) ≡ op-compare (now (stack .entry)) registers next «is_lt» ⌝ }
 {
     match pop_two(stack, registers.height) {

@@ -8,7 +8,12 @@ use mechanism::Registers;
 use mechanism::stack::push_value;
 
 // PUSH_U32, PUSH_STATE, PUSH_MAX_STATES, PUSH_TASK_FIELD, S_LEN: a number.
-pub(crate) fn op_push(stack: &mut [u64; 1000], registers: Registers, next: usize, number: u32) -> Did
+pub(crate) fn op_push(
+    stack: &mut [u64; 1000],
+    registers: Registers,
+    next: usize,
+    number: u32,
+) -> Did
     ensures { λ r. ⌜ on-stack r (now (stack .exit)) ≡ op-push (now (stack .entry)) registers next number ⌝ }
 {
     push_value(

@@ -1,5 +1,9 @@
 -- `vm::calling::rewound` meets its contract.
 use Rattle.machine.specs.Machines.{rewound, placed}
+use Prim.Native.Nat.{ℕ}
+use mathlib.Core.Path.{_≡_, refl}
+use Rattle.machine.specs.declared.Machine.{Machine}
+use Rattle.mechanism.specs.Registers.{moved, registers-of, settled}
 use borrow.Author.Needs.{needs}
 use Rattle.vm.proofs.calling.rewound.Statement.{statement}
 use Rattle.vm.proofs.calling.rewound.Tie as tie
@@ -18,10 +22,15 @@ moved-requires c κs = search needs
 settled-requires : tie.Need-settled-requires
 settled-requires c κs = search needs
 
+-- registers that are put back at another place
+settles : (machine : Machine) (place height : ℕ) → settled machine (moved (registers-of machine) place height) ≡ placed machine place height
+unfolding settled placed registers-of
+settles machine place height = refl
+
 returns : tie.Need-returns
-unfolding rewound placed settled registers-of
+unfolding rewound
 returns c =
-    simp (← c .settled .ensures, ← c .before .moved .ensures, ← c .before .before .registers-of .ensures)
+    simp (c .settled .ensures, c .before .moved .ensures, c .before .before .registers-of .ensures, settles)
 
 pub rewound-spec : {M : Type 1} → statement M
 rewound-spec = tie.close (tie.spec registers-of-requires moved-requires settled-requires returns)
