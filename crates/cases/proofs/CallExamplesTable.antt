@@ -3,7 +3,7 @@ use Prim.Native.Nat.{ℕ}
 use mathlib.Core.Bool.{true, false}
 use mathlib.Core.List.{List, [], _∷_, _++_}
 use mathlib.Core.Path.{_≡_, refl}
-use lib.ListN.{replicate, getD}
+use lib.ListN.{replicate, getD, set}
 use Rattle.errors.specs.declared.Refusal.the-variants.{EmptyInstructions, StackOverflow, TaskNotFound, InvalidInstructionsIndex, SaveBufferTooShort, BadImage, WrongPhaseOrUnsound}
 use Rattle.machine.specs.declared.Phase.the-variants as phase
 use Rattle.machine.specs.declared.Halt.the-variants as halt
@@ -16,7 +16,7 @@ use Rattle.memory.specs.declared.unbox.Return.the-variants.{U32, CallData, NoRe
 use Rattle.machine.specs.declared.CreateResult.the-variants.{Created, NotCreated}
 use Rattle.machine.specs.declared.TaskResult.the-variants.{Readable, NotReadable}
 use Rattle.machine.specs.Steps.{Halted, steps}
-use Rattle.machine.specs.Machines.{registers-of, with-pool}
+use Rattle.machine.specs.Machines.{registers-of, with-pool, with-frames}
 use Rattle.machine.specs.Frames.{placed}
 use Rattle.machine.specs.Act.{OnAll, act}
 use Rattle.machine.specs.World.{World, world}
@@ -97,6 +97,11 @@ after r = world (r .report .machine) (r .table) (r .stack) (r .memory) (r .pool)
 -- a machine of C1 whose stack has this height
 abbrev high : ℕ → World
 high height = with-machine (fresh C1) (placed (fresh C1 .machine) 0 height)
+
+-- one in a task, whose frame names this entry
+abbrev in-task : ℕ → World
+in-task entry =
+    with-machine (fresh C1) (with-frames (fresh C1 .machine) (record { count = 2; main = fresh C1 .machine .frames .main; task = record { entry = record { 0 = entry }; place = 0 } }))
 
 -- one with a length of the pool in use, and a next id and an S_LEN count
 abbrev counting : ℕ → ℕ → ℕ → World
@@ -183,10 +188,14 @@ pub record Examples : Type 0 where
   pub unsound-next-id : is-sound (counting 17 257 256) ≡ false
   -- the S_LEN count above the next id
   pub unsound-count : is-sound (counting 17 1 2) ≡ false
+  -- a task's frame that names no entry
+  pub unsound-frame : is-sound (in-task 1) ≡ false
   -- pool entries not end to end
   pub unsound-pool : is-sound (counting 16 0 0) ≡ false
   -- vm::creating::create: image I1 and a program of one byte: two entries, next id 1, S_LEN count 1
   pub create-machine : creating 256 I1 (0x1d ∷ []) .answer ≡ Created (new-machine 1 2 1 1)
+  -- image I1 with next id 2: S_LEN is still 1
+  pub create-next-id : creating 256 (set I1 6 2) (0x1d ∷ []) .answer ≡ Created (new-machine 1 2 2 1)
   -- task 0 lives
   pub create-living : getD (creating 256 I1 (0x1d ∷ []) .table) 0 blank .living ≡ true
   -- its instructions are the entry behind the program
@@ -268,8 +277,10 @@ examples = record {
   sound-ids = refl;
   unsound-next-id = refl;
   unsound-count = refl;
+  unsound-frame = refl;
   unsound-pool = refl;
   create-machine = refl;
+  create-next-id = refl;
   create-living = refl;
   create-reference = refl;
   create-blank = refl;
