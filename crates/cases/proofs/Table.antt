@@ -24,29 +24,16 @@ use Rattle.memory.specs.Allocation as memory-allocation
 use Rattle.memory.specs.Change as memory-change
 use Rattle.memory.specs.Reads as memory-reads
 use Rattle.pools.specs.Pool as pools-pool
-use Rattle.mechanism.specs.Stack as opcodes-stack
-use Rattle.mechanism.specs.Control as opcodes-control
-use Rattle.mechanism.specs.Equality as opcodes-equality
-use Rattle.mechanism.specs.Store as opcodes-store
-use Rattle.mechanism.specs.Cut as core-cut
-use Rattle.mechanism.specs.Operated as core-operated
-use Rattle.mechanism.specs.Execute as core-execute
-use Rattle.mechanism.specs.Steps as core-steps
-use Rattle.mechanism.specs.Changes as tasks-changes
-use Rattle.machine.specs.Titles as tasks-titles
-use Rattle.mechanism.specs.Create as tasks-create
-use Rattle.mechanism.specs.Fields as tasks-fields
+use Rattle.machine.specs.Machines as machine-machines
+use Rattle.machine.specs.Titles as machine-fields
+use Rattle.machine.specs.World as machine-world
+use Rattle.machine.specs.Words as machine-words
+use Rattle.machine.specs.Opcodes as machine-opcodes
+use Rattle.machine.specs.Step as machine-step
+use Rattle.machine.specs.Run as machine-run
 use Rattle.storage.specs.Tasks as storage-tasks
 use Rattle.storage.specs.Storage as storage-storage
 use Rattle.storage.specs.Table as storage-table
-use Rattle.machine.specs.Machines as calls-machines
-use Rattle.mechanism.specs.Frames as calls-frames
-use Rattle.mechanism.specs.Act as calls-act
-use Rattle.mechanism.specs.Advance as calls-advance
-use Rattle.mechanism.specs.Turns as calls-turns
-use Rattle.machine.specs.World as runs-world
-use Rattle.mechanism.specs.Step as runs-step
-use Rattle.machine.specs.Run as runs-run
 use Rattle.slices.specs.Same as slices-same
 use Rattle.image.specs.Image as image-image
 use Rattle.image.specs.Numbers as image-numbers
@@ -237,7 +224,7 @@ pub record Instructions : Type 0 where
   pub save-too-short : run 100 (lent (replicate 13 9) Save) .outcome ≡ Refused SaveBufferTooShort
 
 both : Cases × Instructions
-unfolding bytecode-opcodes.operand-size bytecode-operands.big-endian bytecode-operands.operand bytecode-operands.data-size bytecode-operands.behind bytecode-operands.extent bytecode-operands.behind-by bytecode-operands.extent-by inlinevec-stacks.if-room inlinevec-stacks.if-some inlinevec-stacks.push inlinevec-stacks.pop inlinevec-stacks.last inlinevec-stacks.values-of inlinevec-stacks.push-two inlinevec-stacks.last-two inlinevec-stacks.pop-two inlinevec-stacks.change-two inlinevec-stacks.two-of inlinevec-stacks.push-loop inlinevec-stacks.pop-loop inlinevec-stacks.last-loop inlinevec-stacks.push-frame inlinevec-stacks.pop-frame values-values.make-scalar-tagged values-values.make-vec-tagged values-values.to-vec-val values-values.to-bool-val values-values.is-qnan values-values.is-scalar values-values.is-vec values-values.raw-tag values-values.tag-of values-values.is-u32-val values-values.to-u32 values-values.fat-pointer values-values.to-fat-pointer values-values.bool-not values-values.product values-values.mul-checked values-values.mul-checked-i values-values.alike values-values.value-eq values-values.turned values-values.value-neq values-values.value-cmp values-values.vec-type values-values.scalar-type values-values.get-value-type memory-allocation.offset-aligned memory-allocation.is-element-tag memory-allocation.vector memory-allocation.filling memory-allocation.stored memory-allocation.alloc memory-change.element-size-bytes memory-change.scaled memory-change.little-endian memory-change.inside memory-change.changed memory-change.mut-vec memory-reads.is-m-slice-eq memory-reads.get-slice-as-str memory-reads.get-slice-as-u32 pools-pool.end-of pools-pool.start-of pools-pool.bounds pools-pool.entry-of pools-pool.entries-of pools-pool.has-room pools-pool.interned pools-pool.part-in-use pools-pool.never-fall pools-pool.end-to-end opcodes-stack.pop-second opcodes-stack.pop-first opcodes-stack.pop-two opcodes-stack.pushed-to opcodes-stack.push-value opcodes-stack.finish opcodes-stack.op-push opcodes-stack.on-two opcodes-stack.op-mul opcodes-stack.op-compare opcodes-stack.on-one opcodes-stack.op-muli opcodes-stack.dup-last opcodes-stack.op-dup opcodes-stack.swapped opcodes-stack.op-swap opcodes-stack.dropped opcodes-stack.op-drop opcodes-control.opened-to opcodes-control.do-two opcodes-control.op-do opcodes-control.looped opcodes-control.op-loop opcodes-control.index-of opcodes-control.op-loop-index opcodes-control.jumped opcodes-control.op-jump-if-false opcodes-equality.eq-right opcodes-equality.eq-left opcodes-equality.eq-vectors opcodes-equality.eq-tagged opcodes-equality.eq-right-tag opcodes-equality.eq-left-tag opcodes-equality.eq-values opcodes-equality.turned-if opcodes-equality.op-eq opcodes-store.full-by opcodes-store.full opcodes-store.placed opcodes-store.store opcodes-store.sized opcodes-store.op-m-st opcodes-store.mut-in-use opcodes-store.mutated opcodes-store.mutate-at opcodes-store.mutate opcodes-store.mutate-last opcodes-store.mutate-two opcodes-store.op-m-muta core-cut.cut-value core-cut.cut-muli core-cut.cut-size core-cut.cut-m-st core-cut.cut-skip core-cut.cut-jump core-cut.cut core-operated.with-operand core-operated.push-u32 core-operated.push-u8 core-operated.muli core-operated.jump-if-false core-operated.m-st core-operated.payload-of core-operated.m-sti-of core-operated.m-sti core-execute.plain core-execute.operated core-execute.is-equality core-execute.execute core-execute.by-extent core-execute.instruct core-steps.is-outer core-steps.onward core-steps.turn core-steps.steps tasks-changes.applied tasks-titles.within tasks-titles.title-bytes tasks-create.with-room tasks-create.if-within tasks-create.new tasks-create.if-vector tasks-create.with-title tasks-create.titled tasks-create.with-state tasks-create.with-two tasks-create.op-t-create tasks-create.delete-found tasks-create.delete-popped tasks-create.op-t-delete tasks-fields.if-found tasks-fields.owner-popped tasks-fields.owner tasks-fields.field-popped tasks-fields.field-of tasks-fields.get-field tasks-fields.get-found tasks-fields.op-t-get-field tasks-fields.title-within tasks-fields.set-title tasks-fields.title-vector tasks-fields.state-answered tasks-fields.set-state tasks-fields.set-instructions tasks-fields.set-field tasks-fields.set-popped tasks-fields.set-found tasks-fields.op-t-set-field storage-tasks.no-title storage-tasks.blank storage-tasks.default-state storage-tasks.with-state storage-tasks.title-of storage-tasks.new-task storage-tasks.set-state storage-storage.slot-of storage-storage.find storage-storage.room storage-storage.len-after storage-table.set-state-at storage-table.lives storage-table.living-of storage-table.sound-slot storage-table.sound-slots storage-table.sound-counts storage-table.sound-table calls-machines.current calls-machines.with-current calls-machines.code-of calls-machines.registers-of calls-machines.settled calls-frames.intern-sized calls-frames.intern-calldata calls-frames.with-entry calls-frames.calldata-pushed calls-frames.push-calldata calls-frames.framed calls-frames.enter-bounded calls-frames.enter calls-frames.call-popped calls-frames.op-call calls-frames.left-frame calls-frames.op-end-call calls-act.went-by calls-act.created calls-act.tasked-by calls-act.created-by calls-act.on-task calls-act.on-frames calls-act.op-at calls-act.act-by calls-act.act-at calls-act.act calls-advance.named-by calls-advance.named calls-advance.wanted calls-advance.halted-at calls-advance.after-steps calls-advance.advance calls-turns.turned calls-turns.save-went calls-turns.saved calls-turns.rewound runs-world.at-end runs-step.inner-did runs-step.inner runs-step.acts-went runs-step.acts runs-step.saves-went runs-step.saves runs-step.outer runs-step.step runs-run.follow runs-run.run slices-same.same image-image.framed image-image.header image-image.body image-image.records image-image.written image-numbers.little-endian image-slots.saved-task image-table.added image-table.measure-slot image-table.count-slot image-table.grown image-table.measures image-table.save-slot image-table.save-slots image-table.saved-as image-table.save-table image-writing.puts image-writing.task-in image-writing.size-of image-writing.sized image-writing.measure image-reading.on utf8-grammar.UTF8-char utf8-utf8.valid utf8-utf8.from utf8-utf8.lead utf8-utf8.holds
+unfolding bytecode-opcodes.operand-size bytecode-operands.big-endian bytecode-operands.operand bytecode-operands.data-size bytecode-operands.behind bytecode-operands.extent bytecode-operands.behind-by bytecode-operands.extent-by inlinevec-stacks.if-room inlinevec-stacks.if-some inlinevec-stacks.push inlinevec-stacks.pop inlinevec-stacks.last inlinevec-stacks.values-of inlinevec-stacks.push-two inlinevec-stacks.last-two inlinevec-stacks.pop-two inlinevec-stacks.change-two inlinevec-stacks.two-of inlinevec-stacks.push-loop inlinevec-stacks.pop-loop inlinevec-stacks.last-loop inlinevec-stacks.push-frame inlinevec-stacks.pop-frame values-values.make-scalar-tagged values-values.make-vec-tagged values-values.to-vec-val values-values.to-bool-val values-values.is-qnan values-values.is-scalar values-values.is-vec values-values.raw-tag values-values.tag-of values-values.is-u32-val values-values.to-u32 values-values.fat-pointer values-values.to-fat-pointer values-values.bool-not values-values.product values-values.mul-checked values-values.mul-checked-i values-values.alike values-values.value-eq values-values.turned values-values.value-neq values-values.value-cmp values-values.vec-type values-values.scalar-type values-values.get-value-type memory-allocation.offset-aligned memory-allocation.is-element-tag memory-allocation.vector memory-allocation.filling memory-allocation.stored memory-allocation.alloc memory-change.element-size-bytes memory-change.scaled memory-change.little-endian memory-change.inside memory-change.changed memory-change.mut-vec memory-reads.is-m-slice-eq memory-reads.get-slice-as-str memory-reads.get-slice-as-u32 pools-pool.end-of pools-pool.start-of pools-pool.bounds pools-pool.entry-of pools-pool.entries-of pools-pool.has-room pools-pool.interned pools-pool.part-in-use pools-pool.never-fall pools-pool.end-to-end storage-tasks.no-title storage-tasks.blank storage-tasks.default-state storage-tasks.with-state storage-tasks.title-of storage-tasks.new-task storage-tasks.set-state storage-storage.slot-of storage-storage.find storage-storage.room storage-storage.len-after storage-table.set-state-at storage-table.lives storage-table.living-of storage-table.sound-slot storage-table.sound-slots storage-table.sound-counts storage-table.sound-table slices-same.same image-image.framed image-image.header image-image.body image-image.records image-image.written image-numbers.little-endian image-slots.saved-task image-table.added image-table.measure-slot image-table.count-slot image-table.grown image-table.measures image-table.save-slot image-table.save-slots image-table.saved-as image-table.save-table image-writing.puts image-writing.task-in image-writing.size-of image-writing.sized image-writing.measure image-reading.on utf8-grammar.UTF8-char utf8-utf8.valid utf8-utf8.from utf8-utf8.lead utf8-utf8.holds machine-machines.current machine-machines.with-current machine-machines.code-of machine-machines.op-at machine-machines.placed machine-machines.rewound machine-fields.within machine-fields.title-bytes machine-world.at-end machine-words.test machine-words.operand-found machine-words.popped machine-words.looked-at machine-words.push machine-words.calculated machine-words.pointed machine-words.tagged machine-words.bytes-of machine-words.allocated machine-words.store machine-words.element-changed machine-words.loop-pushed machine-words.loop-popped machine-words.loop-looked-at machine-words.frame-pushed machine-words.frame-popped machine-words.bounded machine-words.interned machine-words.found machine-words.first-state machine-words.has-state machine-words.with-room machine-words.saved machine-opcodes.push-u32 machine-opcodes.push-byte machine-opcodes.push-calldata machine-opcodes.mul machine-opcodes.muli machine-opcodes.compare machine-opcodes.t-create machine-opcodes.get-field machine-opcodes.t-get-field machine-opcodes.set-field machine-opcodes.t-set-field machine-opcodes.t-delete machine-opcodes.s-save machine-opcodes.s-len machine-opcodes.«do» machine-opcodes.loop machine-opcodes.loop-index machine-opcodes.enter machine-opcodes.call machine-opcodes.end-call machine-opcodes.jump-if-false machine-opcodes.drops machine-opcodes.dup machine-opcodes.swap machine-opcodes.equal machine-opcodes.eq machine-opcodes.neq machine-opcodes.m-sti machine-opcodes.m-st machine-opcodes.m-muta machine-step.execute machine-step.step machine-run.follow machine-run.run
 both = (
   record {
     c1 = (refl, (refl, (refl, refl)));

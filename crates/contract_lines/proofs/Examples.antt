@@ -25,9 +25,9 @@ use Rattle.machine.specs.Sound.{sound-world}
 use Rattle.machine.specs.Creation.{create}
 use Rattle.machine.specs.Calls.{Reported, call, start}
 use Rattle.machine.specs.Reads.{host-save, task-read, value-read}
-use Rattle.examples.proofs.Cases.{in-hex, refused-14}
+use Rattle.examples.proofs.Lines.{in-hex, refused-14}
 use Rattle.cases.proofs.Table.{fresh, C1, instructions}
-use Rattle.cases.proofs.CallExamplesTable.{examples}
+use Rattle.cases.proofs.Calls.{examples}
 use Rattle.text.proofs as text
 use Rattle.listing.proofs.head_line as head-line
 use Rattle.stepper.proofs as stepping

@@ -1,3 +1,6 @@
 pub mod Answers
 pub mod Examples
+pub mod Leaves
 pub mod Lines
+pub mod Tasks
+pub mod Texts

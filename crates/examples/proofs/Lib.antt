@@ -1,4 +1,7 @@
-pub mod Cases
-pub mod Table
-pub mod ShowsExamplesTable
-pub mod HostExamplesTable
+pub mod Bytecode
+pub mod Lines
+pub mod Memory
+pub mod Pools
+pub mod Stacks
+pub mod Tasks
+pub mod Values

@@ -3,3 +3,4 @@ pub mod Ways
 pub mod Exactly
 pub mod Refused
 pub mod Cases
+pub mod Examples

@@ -4,6 +4,7 @@ pub mod Saves
 pub mod Stores
 pub mod Loads
 pub mod Cases
+pub mod Images
 pub mod Places
 pub mod Tested
 pub mod Created

@@ -1,0 +1,47 @@
+-- The contract line of each exported function that puts a line of text, said a second time; what this shows stands in Lines.
+use denote.Ref.{now}
+use mathlib.Core.Path.{_≡_}
+use Rattle.labels.specs.Check.{admission}
+use Rattle.listing.specs.Listing.{line-of-count, line-of-task}
+use Rattle.report.specs.Reports.{line-of-report, text-of-word}
+use Rattle.text.specs.Lines.{lined, put-line}
+use Rattle.verdict.specs.Verdicts.{line-of-verdict}
+use Rattle.listing.proofs as listing
+use Rattle.report.proofs as report
+use Rattle.verdict.proofs as verdict
+use Rattle.contract_lines.proofs.Answers.{Line, Answers}
+
+abbrev pub listing-count-line : Line listing.count_line.ended
+listing-count-line _ out counted count r =
+    lined r (now (out .exit)) ≡ put-line (now (out .entry)) (line-of-count (counted .entry) (count .entry))
+
+pub listing-count-line-says : {M : Type 1} → listing.count_line.Statement.statement M → Answers M listing.count_line.ended listing.count_line.Symbol.routine listing-count-line
+listing-count-line-says met = met
+
+abbrev pub listing-task-line : Line listing.task_line.task_line.ended
+listing-task-line _ out task r =
+    lined r (now (out .exit)) ≡ put-line (now (out .entry)) (line-of-task (task .entry))
+
+pub listing-task-line-says : {M : Type 1} → listing.task_line.task_line.Statement.statement M → Answers M listing.task_line.task_line.ended listing.task_line.task_line.Symbol.routine listing-task-line
+listing-task-line-says met = met
+
+abbrev pub report-report-line : Line report.report_line.ended
+report-report-line _ out report r =
+    lined r (now (out .exit)) ≡ put-line (now (out .entry)) (line-of-report (report .entry))
+
+pub report-report-line-says : {M : Type 1} → report.report_line.Statement.statement M → Answers M report.report_line.ended report.report_line.Symbol.routine report-report-line
+report-report-line-says met = met
+
+abbrev pub report-put-word : Line report.report_words.put_word.ended
+report-put-word _ out word r =
+    lined r (now (out .exit)) ≡ put-line (now (out .entry)) (text-of-word (word .entry))
+
+pub report-put-word-says : {M : Type 1} → report.report_words.put_word.Statement.statement M → Answers M report.report_words.put_word.ended report.report_words.put_word.Symbol.routine report-put-word
+report-put-word-says met = met
+
+abbrev pub verdict-verdict-line : Line verdict.verdict_line.ended
+verdict-verdict-line _ out program r =
+    lined r (now (out .exit)) ≡ put-line (now (out .entry)) (line-of-verdict (admission (now (program .entry))))
+
+pub verdict-verdict-line-says : {M : Type 1} → verdict.verdict_line.Statement.statement M → Answers M verdict.verdict_line.ended verdict.verdict_line.Symbol.routine verdict-verdict-line
+verdict-verdict-line-says met = met

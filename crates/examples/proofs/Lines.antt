@@ -1,0 +1,90 @@
+-- Lines and listings as document 01 and the decisions print them, computed from `text` and `listing`.
+use mathlib.Core.Bool.{true}
+use mathlib.Core.List.{[], _∷_}
+use mathlib.Core.Path.{_≡_, refl}
+use Rattle.errors.specs.declared.Refusal.the-variants.{InvalidInstructionsIndex, MSliceOutOfBounds, SaveBufferTooShort}
+use Rattle.storage.specs.Table.{living-of}
+use Rattle.text.specs.Ascii.{ascii}
+use Rattle.text.specs.Numbers.{digit, digits, decimal, hex, spaced, words, shown, numbers-left, filled}
+use Rattle.text.specs.declared.LineResult.the-variants.{Line, NoLine}
+use Rattle.text.specs.Lines.{formed, line, said, lined, put-line, hex-count, parted, hex-part}
+use Rattle.memory.specs.declared.unbox.Return.the-variants.{U32, CallData, VecU32, Null, NoReturn}
+use Rattle.listing.specs.declared.Head.the-variants.{Done, Paused, Refused}
+use Rattle.listing.specs.declared.Counted.the-variants.{Values, Tasks}
+use Rattle.listing.specs.Listing.{line-of-refusal, line-of-head, line-of-count, line-of-numbers, line-of-value, line-of-task, lines-of-values, lines-of-tasks, listing}
+
+-- C1, whole
+pub c1 : listing (Done 5) (record { answer = U32 99; part = [] } ∷ []) [] ≡ ascii "done 5\nvalues 1\nu32 99\ntasks 0\n"
+unfolding listing line-of-head line-of-count lines-of-values lines-of-tasks line-of-value said line formed filled shown numbers-left decimal digits digit ascii living-of
+c1 = refl
+
+-- details, one space before each
+pub refused-14 : line-of-head (Refused (MSliceOutOfBounds 4 6)) ≡ ascii "refused 14 4 6\n"
+unfolding line-of-head line-of-refusal spaced decimal digits digit ascii
+refused-14 = refl
+
+-- a paused call
+pub paused : line-of-head (Paused 2) ≡ ascii "paused 2\n"
+unfolding line-of-head said line formed filled shown numbers-left decimal digits digit ascii
+paused = refl
+
+-- how many values follow, and how many tasks
+pub values : line-of-count Values 3 ≡ ascii "values 3\n"
+unfolding line-of-count said line formed filled shown numbers-left decimal digits digit ascii
+values = refl
+
+pub tasks : line-of-count Tasks 4 ≡ ascii "tasks 4\n"
+unfolding line-of-count said line formed filled shown numbers-left decimal digits digit ascii
+tasks = refl
+
+-- null
+pub null : line-of-value Null [] ≡ ascii "null\n"
+unfolding line-of-value said line formed filled shown numbers-left ascii
+null = refl
+
+-- calldata in lower-case hex
+pub calldata : line-of-value (CallData (record { 0 = 1 })) (0x4a ∷ 0x62 ∷ []) ≡ ascii "calldata 4a62\n"
+unfolding line-of-value line formed filled shown numbers-left hex digit ascii
+calldata = refl
+
+-- numbers, one space between
+pub numbers : line-of-value (VecU32 (record { offset = 0; size = 8 })) (0 ∷ 1 ∷ 0 ∷ 0 ∷ 255 ∷ 255 ∷ 255 ∷ 255 ∷ []) ≡ ascii "vec 256 4294967295\n"
+unfolding line-of-value line-of-numbers words spaced decimal digits digit ascii
+numbers = refl
+
+-- no numbers leave the space
+pub no-numbers : line-of-value (VecU32 (record { offset = 0; size = 0 })) [] ≡ ascii "vec \n"
+unfolding line-of-value line-of-numbers words ascii
+no-numbers = refl
+
+-- the number alone
+pub bad : line-of-value (NoReturn (InvalidInstructionsIndex 7)) [] ≡ ascii "bad 12\n"
+unfolding line-of-value said line formed filled shown numbers-left decimal digits digit ascii
+bad = refl
+
+-- id, state and title
+pub task : line-of-task (record {
+  living = true;
+  id = record { 0 = 0 };
+  state = record { len = 3; state = 1 };
+  «instructions_ref» = record { 0 = 1 };
+  «title_len» = 2;
+  title = 65 ∷ 98 ∷ 0 ∷ [];
+}) ≡ ascii "task 0 1 Ab\n"
+unfolding line-of-task line formed filled shown numbers-left decimal digits digit ascii
+task = refl
+
+-- a line goes to the buffer's start, and the bytes past it stay
+pub put : put-line (7 ∷ 7 ∷ 7 ∷ []) (65 ∷ 10 ∷ []) ≡ lined (Line 2) (65 ∷ 10 ∷ 7 ∷ [])
+unfolding put-line
+put = refl
+
+-- one that the buffer does not hold is 24, and the buffer stays
+pub not-put : put-line (7 ∷ []) (65 ∷ 10 ∷ []) ≡ lined (NoLine SaveBufferTooShort) (7 ∷ [])
+unfolding put-line
+not-put = refl
+
+-- as many bytes in hex as the buffer holds, two digits to a byte
+pub in-hex : hex-part (7 ∷ 7 ∷ 7 ∷ []) (0 ∷ 31 ∷ 2 ∷ []) 1 ≡ parted (record { length = 2; next = 2 }) (49 ∷ 102 ∷ 7 ∷ [])
+unfolding hex-part hex-count hex digit
+in-hex = refl
