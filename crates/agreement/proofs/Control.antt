@@ -30,8 +30,8 @@ use Rattle.mechanism.specs.Registers.{on-memory}
 use Rattle.mechanism.specs.Stack.{finish, op-push, on-one, op-muli}
 use Rattle.mechanism.specs.Control.{looping, opened-to, do-two, op-do, looped, op-loop, index-of, op-loop-index, jumped, op-jump-if-false}
 use Rattle.mechanism.specs.declared.Registers.{Registers}
-use Rattle.mechanism.specs.declared.Did.{Did}
-use Rattle.mechanism.specs.declared.Did.the-variants.{Next}
+use Rattle.mechanism.specs.declared.RegistersResult.{RegistersResult}
+use Rattle.mechanism.specs.declared.RegistersResult.the-variants.{Next}
 use Rattle.mechanism.specs.declared.PopTwoResult.{PopTwoResult}
 use Rattle.mechanism.specs.Cut.{cut, cut-value, cut-muli, cut-skip, cut-jump}
 use Rattle.mechanism.specs.Operated.{with-operand, push-u32, push-u8, muli, jump-if-false}
@@ -195,7 +195,7 @@ module _ (w : World) (stale : ℕ) (h : Facts w) (bytes : Bytes (w .pool)) where
           (inlinevec.push 2 (loops-of loops) (record { place = last .place; index = last .index + 1; limit = last .limit }) λ control. ok (with-control-stack (at (view stale w) (last .place) (values-of (w .machine .height) (w .stack))) control))
           (ok (with-control-stack (at (view stale w) next (values-of (w .machine .height) (w .stack))) (loops-of loops))))
       back last loops few =
-          same (λ (d : Did). stepped w (on-memory d (w .stack) (w .memory))) (ltb (last .index + 1) (last .limit))
+          same (λ (d : RegistersResult). stepped w (on-memory d (w .stack) (w .memory))) (ltb (last .index + 1) (last .limit))
           (λ t. loop-pushed (last .place) (w .machine .height) loops _ few)
           (λ t. loops-go next (w .machine .height) loops (loops-of loops) refl)
 

@@ -38,8 +38,8 @@ use Rattle.mechanism.specs.Act.{on-all, acted, after-pool, on-frames, act-by}
 use Rattle.bytecode.specs.declared.Extent.{Extent}
 use Rattle.bytecode.specs.declared.Extent.the-variants as extents
 use Rattle.mechanism.specs.Advance.{named-by, wanted}
-use Rattle.mechanism.specs.declared.Went.{Went}
-use Rattle.mechanism.specs.declared.Went.the-variants.{Onto}
+use Rattle.mechanism.specs.declared.MachineResult.{MachineResult}
+use Rattle.mechanism.specs.declared.MachineResult.the-variants.{Onto}
 use Rattle.machine.specs.World.{World, world, code, place}
 use Rattle.machine.specs.Words.{StepResult, next}
 use Rattle.mechanism.specs.Step.{acts-went}
@@ -210,7 +210,7 @@ module _ (w : World) (stale : ℕ) (h : Facts w) (bytes : Bytes (w .pool)) where
 
   -- ---- CALL
 
-  abbrev went-as : ℕ → Task → Went → StepResult
+  abbrev went-as : ℕ → Task → MachineResult → StepResult
   went-as slot task went = acted-as w slot (on-all (acted went (keep task)) (w .stack) (w .memory) (w .pool) (w .ends))
 
   -- the caller with its place noted

@@ -17,7 +17,7 @@ use Rattle.values.specs.declared.ValueResult.the-variants.{Value, NoValue}
 use Rattle.mechanism.specs.Registers.{on-memory, moved}
 use Rattle.mechanism.specs.Stack.{finish, on-two, op-mul, op-compare, dup-last, op-dup, swapped, op-swap, dropped, op-drop}
 use Rattle.mechanism.specs.declared.Registers.{Registers}
-use Rattle.mechanism.specs.declared.Did.the-variants.{Next}
+use Rattle.mechanism.specs.declared.RegistersResult.the-variants.{Next}
 use Rattle.mechanism.specs.declared.PopTwoResult.{PopTwoResult}
 use Rattle.mechanism.specs.Execute.{kept}
 use Rattle.mechanism.specs.Registers.{registers-of}

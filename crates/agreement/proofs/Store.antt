@@ -36,7 +36,7 @@ use Rattle.mechanism.specs.Registers.{on-memory, moved}
 use Rattle.mechanism.specs.Store.{full-by, full, placed, store, sized, op-m-st, mut-in-use, changed-to, mutated, mutate-at, mutate, mutate-last, mutate-two, op-m-muta}
 use Rattle.mechanism.specs.declared.Registers.{Registers}
 use Rattle.mechanism.specs.declared.PopTwoResult.{PopTwoResult}
-use Rattle.mechanism.specs.declared.Did.the-variants.{Next, Refused}
+use Rattle.mechanism.specs.declared.RegistersResult.the-variants.{Next, Refused}
 use Rattle.mechanism.specs.Cut.{cut, cut-size, cut-m-st}
 use Rattle.mechanism.specs.Operated.{with-operand, m-st, payload-of, m-sti-of, m-sti}
 use Rattle.mechanism.specs.Execute.{is-equality, execute, by-extent, changed}

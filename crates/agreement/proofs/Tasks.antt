@@ -34,15 +34,15 @@ use Rattle.mechanism.specs.Registers.{on-memory, moved}
 use Rattle.mechanism.specs.Store.{store}
 use Rattle.mechanism.specs.declared.Registers.{Registers}
 use Rattle.mechanism.specs.declared.PopTwoResult.{PopTwoResult}
-use Rattle.mechanism.specs.declared.Did.{Did}
-use Rattle.mechanism.specs.declared.Did.the-variants.{Next, Refused}
+use Rattle.mechanism.specs.declared.RegistersResult.{RegistersResult}
+use Rattle.mechanism.specs.declared.RegistersResult.the-variants.{Next, Refused}
 use Rattle.mechanism.specs.Changes.{applied, tasked}
 use Rattle.mechanism.specs.Changes as changes
 use Rattle.machine.specs.Titles.{within, title-length, title-bytes}
 use Rattle.mechanism.specs.Create.{with-room, if-within, new, if-vector, with-title, titled, with-state, with-two, op-t-create, delete-found, delete-popped, op-t-delete}
 use Rattle.mechanism.specs.Fields.{if-found, owner-popped, owner, field-popped, field-of, pushed, get-field, get-found, op-t-get-field, title-within, set-title, title-vector, state-answered, set-state, set-instructions, set-field, set-popped, set-found, op-t-set-field}
 use Rattle.machine.specs.Titles.{retitled, retargeted}
-use Rattle.mechanism.specs.declared.Tasked.{Tasked}
+use Rattle.mechanism.specs.declared.RegistersAndChange.{RegistersAndChange}
 use Rattle.mechanism.specs.declared.FieldResult.{FieldResult}
 use Rattle.mechanism.specs.declared.FieldResult.the-variants.{NoField}
 use Rattle.machine.specs.declared.Machine.{Machine}
@@ -76,10 +76,10 @@ abbrev pub acted-as : World → ℕ → OnAll → StepResult
 acted-as w slot after = acts-went w slot after (after .acted .went)
 
 -- one that changes a slot alone
-abbrev tasked-as : World → ℕ → Tasked → StepResult
+abbrev tasked-as : World → ℕ → RegistersAndChange → StepResult
 tasked-as w slot after = acted-as w slot (on-all (tasked-by (w .machine) after) (w .stack) (w .memory) (w .pool) (w .ends))
 
-abbrev created-as : World → ℕ → Tasked → StepResult
+abbrev created-as : World → ℕ → RegistersAndChange → StepResult
 created-as w slot after = acted-as w slot (on-all (created-by (w .machine) after) (w .stack) (w .memory) (w .pool) (w .ends))
 
 -- ---- the slot that an instruction names
@@ -185,7 +185,7 @@ module _ (w : World) (stale : ℕ) (h : Facts w) (bytes : Bytes (w .pool)) where
   -- ---- T_GET_FIELD
 
   -- it leaves the slots
-  get-is-step : (i : ℕ) (task : Task) (d : Did) (stack l : List ℕ) → acted-as w i (after-memory (w .machine) (on-memory d stack l) (w .pool) (w .ends) task) ≡ stepped w (on-memory d stack l)
+  get-is-step : (i : ℕ) (task : Task) (d : RegistersResult) (stack l : List ℕ) → acted-as w i (after-memory (w .machine) (on-memory d stack l) (w .pool) (w .ends) task) ≡ stepped w (on-memory d stack l)
   unfolding acts-went went-by applied inner-did
   get-is-step i task (Next registers) stack l = refl
   get-is-step i task (Refused refusal) stack l = refl

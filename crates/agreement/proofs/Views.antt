@@ -17,7 +17,7 @@ use Rattle.storage.specs.declared.Task.{Task}
 use Rattle.mechanism.specs.Registers.{OnMemory, on-memory, moved}
 use Rattle.mechanism.specs.Stack.{push-value, pushed-to}
 use Rattle.mechanism.specs.declared.Registers.{Registers}
-use Rattle.mechanism.specs.declared.Did.the-variants.{Next}
+use Rattle.mechanism.specs.declared.RegistersResult.the-variants.{Next}
 use Rattle.mechanism.specs.Execute.{kept}
 use Rattle.machine.specs.declared.Machine.{Machine}
 use Rattle.machine.specs.Machines.{current, with-current, with-ids}

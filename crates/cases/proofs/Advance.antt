@@ -16,14 +16,14 @@ use Rattle.mechanism.specs.Control as control
 use Rattle.mechanism.specs.Operated as operated
 use Rattle.mechanism.specs.Execute as executing
 use Rattle.mechanism.specs.Steps as steps
-use Rattle.mechanism.specs.Advance.{GoneOn, halted-at, after-steps, advance}
+use Rattle.mechanism.specs.Advance.{ProgressOn, halted-at, after-steps, advance}
 use Rattle.cases.proofs.Table.{C1, fresh}
 
 -- 04 0001 1d
 abbrev Calldata : List ℕ
 Calldata = 0x04 ∷ 0x00 ∷ 0x01 ∷ 0x1d ∷ []
 
-abbrev advancing : ℕ → List ℕ → GoneOn
+abbrev advancing : ℕ → List ℕ → ProgressOn
 advancing fuel program = advance (fresh program .stack) (fresh program .memory) (fresh program .pool) (fresh program .ends) (fresh program .machine) fuel
 
 pub record Examples : Type 0 where

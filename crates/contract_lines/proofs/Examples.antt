@@ -31,7 +31,7 @@ use Rattle.cases.proofs.Calls.{examples}
 use Rattle.text.proofs as text
 use Rattle.listing.proofs.head_line as head-line
 use Rattle.stepper.proofs as stepping
-use Rattle.runner.proofs as driving
+use Rattle.runner.proofs as runner
 use Rattle.vm.proofs.sound as sound
 use Rattle.vm.proofs.creating as creating
 use Rattle.vm.proofs.calling as calling
@@ -67,23 +67,14 @@ pub head-line-of-14-says : {M : Type 1} → head-line.head_line.Statement.statem
 head-line-of-14-says met =
     so head-line.head_line.ended head-line.head_line.Symbol.routine lines.head-line-head-line head-line-of-14 (lines.head-line-head-line-says met) (λ _ out head r e h. e ∙ (λ i. put-line (now (out .entry)) (line-of-head (h i))) ∙ ap (put-line (now (out .entry))) refused-14)
 
--- C1 has no fuel before its third instruction
-abbrev pub steps-of-C1 : Line stepping.steps.ended
-steps-of-C1 _ stack memory code registers count fuel r =
-    now (stack .entry) ≡ fresh C1 .stack → now (memory .entry) ≡ fresh C1 .memory → now (code .entry) ≡ C1 → registers .entry ≡ registers-of (fresh C1 .machine) → count .entry ≡ 0 → fuel .entry ≡ 2 → r .halt ≡ OutOfFuel
-
-pub steps-of-C1-says : {M : Type 1} → stepping.steps.Statement.statement M → Answers M stepping.steps.ended stepping.steps.Symbol.routine steps-of-C1
-steps-of-C1-says met =
-    so stepping.steps.ended stepping.steps.Symbol.routine lines.stepping-steps steps-of-C1 (lines.stepping-steps-says met) (λ _ stack memory code registers count fuel r e s m c g n f. ap (λ t. t .at .halt) (e ∙ (λ i. steps (f i) (s i) (m i) (c i) (g i) (n i))) ∙ examples .steps-without-fuel)
-
 -- a run of C1 is done with fuel 5
-abbrev pub drive-of-C1 : Line driving.drive.ended
-drive-of-C1 _ table stack memory pool ends save machine fuel r =
+abbrev pub run-of-C1 : Line runner.run.ended
+run-of-C1 _ table stack memory pool ends save machine fuel r =
     world (machine .entry) (now (table .entry)) (now (stack .entry)) (now (memory .entry)) (now (pool .entry)) (now (ends .entry)) (now (save .entry)) ≡ fresh C1 → fuel .entry ≡ 5 → r .outcome ≡ Done
 
-pub drive-of-C1-says : {M : Type 1} → driving.drive.Statement.statement M → Answers M driving.drive.ended driving.drive.Symbol.routine drive-of-C1
-drive-of-C1-says met =
-    so driving.drive.ended driving.drive.Symbol.routine lines.driving-drive drive-of-C1 (lines.driving-drive-says met) (λ _ table stack memory pool ends save machine fuel r e w f. ap (λ t. t .outcome) (e ∙ (λ i. run (f i) (w i))) ∙ instructions .at-the-end .0)
+pub run-of-C1-says : {M : Type 1} → runner.run.Statement.statement M → Answers M runner.run.ended runner.run.Symbol.routine run-of-C1
+run-of-C1-says met =
+    so runner.run.ended runner.run.Symbol.routine lines.runner-run run-of-C1 (lines.runner-run-says met) (λ _ table stack memory pool ends save machine fuel r e w f. ap (λ t. t .outcome) (e ∙ (λ i. run (f i) (w i))) ∙ instructions .at-the-end .0)
 
 -- a new machine is sound
 abbrev pub sound-of-C1 : Line sound.sound.ended

@@ -37,7 +37,7 @@ use Rattle.task_opcodes.proofs.t_fields as t-fields
 use Rattle.stepper.proofs.entering as entering
 use Rattle.runner.proofs.act as act
 use Rattle.table_image.proofs as tables
-use Rattle.runner.proofs as driving
+use Rattle.runner.proofs as runner
 use Rattle.vm.proofs.sound as sound
 use Rattle.vm.proofs.creating as creating
 use Rattle.vm.proofs.calling as calling
@@ -82,13 +82,6 @@ image-read-record _ image at reference r =
 pub image-read-record-says : {M : Type 1} → image.reading.read_record.Statement.statement M → Answers M image.reading.read_record.ended image.reading.read_record.Symbol.routine image-read-record
 image-read-record-says met = met
 
-abbrev pub stepping-steps : Line stepping.steps.ended
-stepping-steps _ stack memory code registers count fuel r =
-    stepped r (now (stack .exit)) (now (memory .exit)) ≡ steps (fuel .entry) (now (stack .entry)) (now (memory .entry)) (now (code .entry)) (registers .entry) (count .entry)
-
-pub stepping-steps-says : {M : Type 1} → stepping.steps.Statement.statement M → Answers M stepping.steps.ended stepping.steps.Symbol.routine stepping-steps
-stepping-steps-says met = met
-
 abbrev pub t-fields-op-t-get-field : Line t-fields.op_t_get_field.ended
 t-fields-op-t-get-field _ stack memory registers next task r =
     on-memory r (now (stack .exit)) (now (memory .exit)) ≡ op-t-get-field (now (stack .entry)) (now (memory .entry)) (registers .entry) (next .entry) (task .entry)
@@ -117,13 +110,6 @@ entering-op-end-call _ machine next r =
 pub entering-op-end-call-says : {M : Type 1} → entering.op_end_call.Statement.statement M → Answers M entering.op_end_call.ended entering.op_end_call.Symbol.routine entering-op-end-call
 entering-op-end-call-says met = met
 
-abbrev pub act-act : Line act.act.ended
-act-act _ stack memory pool ends machine task r =
-    on-all r (now (stack .exit)) (now (memory .exit)) (now (pool .exit)) (now (ends .exit)) ≡ act (now (stack .entry)) (now (memory .entry)) (now (pool .entry)) (now (ends .entry)) (machine .entry) (task .entry)
-
-pub act-act-says : {M : Type 1} → act.act.Statement.statement M → Answers M act.act.ended act.act.Symbol.routine act-act
-act-act-says met = met
-
 abbrev pub tables-save-table : Line tables.save_table.ended
 tables-save-table _ table pool ends save entries next-id r =
     held (saved-table r (now (save .exit))) (now (table .exit)) (now (pool .exit)) (now (ends .exit)) ≡ held (save-table (next-id .entry) (now (table .entry)) (now (pool .entry)) (now (ends .entry)) (entries .entry) (now (save .entry))) (now (table .entry)) (now (pool .entry)) (now (ends .entry))
@@ -131,12 +117,12 @@ tables-save-table _ table pool ends save entries next-id r =
 pub tables-save-table-says : {M : Type 1} → tables.save_table.Statement.statement M → Answers M tables.save_table.ended tables.save_table.Symbol.routine tables-save-table
 tables-save-table-says met = met
 
-abbrev pub driving-drive : Line driving.drive.ended
-driving-drive _ table stack memory pool ends save machine fuel r =
+abbrev pub runner-run : Line runner.run.ended
+runner-run _ table stack memory pool ends save machine fuel r =
     ran-to r (now (table .exit)) (now (stack .exit)) (now (memory .exit)) (now (pool .exit)) (now (ends .exit)) (now (save .exit)) ≡ run (fuel .entry) (world (machine .entry) (now (table .entry)) (now (stack .entry)) (now (memory .entry)) (now (pool .entry)) (now (ends .entry)) (now (save .entry)))
 
-pub driving-drive-says : {M : Type 1} → driving.drive.Statement.statement M → Answers M driving.drive.ended driving.drive.Symbol.routine driving-drive
-driving-drive-says met = met
+pub runner-run-says : {M : Type 1} → runner.run.Statement.statement M → Answers M runner.run.ended runner.run.Symbol.routine runner-run
+runner-run-says met = met
 
 abbrev pub sound-sound : Line sound.sound.ended
 sound-sound _ table memory pool ends save machine r =

@@ -15,15 +15,15 @@ use Rattle.machine.specs.declared.SaveReport.{SaveReport}
 use Rattle.machine.specs.Calls.{reported, start}
 use Rattle.machine.specs.Creation.{machine-of, made, create}
 use Rattle.machine.specs.Reads.{saved-to, host-save}
-use Rattle.host.specs.declared.hosting.Performed.{Performed}
+use Rattle.host.specs.declared.hosting.RunSummary.{RunSummary}
 use Rattle.host.specs.Lines.{task-lines}
-use Rattle.host.specs.Hosting.{to-save, performed, PerformedIn, performed-in, with-lines, with-save, with-run, with-creation, perform, owned, without-table, blank-table, own}
+use Rattle.host.specs.Hosting.{to-save, performed, RunSummaryIn, performed-in, with-lines, with-save, with-run, with-creation, perform, owned, without-table, blank-table, own}
 
 -- creation, start, save and the lines of the tasks
 pub performs : (fuel : ℕ) (table : List Task) (stack memory pool ends save image program lines : List ℕ)
     {creation : CreateResult} {t₁ : List Task} {p₁ e₁ i₁ g₁ : List ℕ} {begun : Machine}
     {report : Report} {t₂ : List Task} {s₂ m₂ p₂ e₂ v₂ : List ℕ} {saving : Machine}
-    {saved : SaveReport} {t₃ : List Task} {s₃ m₃ p₃ e₃ v₃ : List ℕ} {told : LineResult} {t₄ : List Task} {l₄ : List ℕ} {r : Performed}
+    {saved : SaveReport} {t₃ : List Task} {s₃ m₃ p₃ e₃ v₃ : List ℕ} {told : LineResult} {t₄ : List Task} {l₄ : List ℕ} {r : RunSummary}
     → made creation t₁ p₁ e₁ i₁ g₁ ≡ create table pool ends image program
     → begun ≡ machine-of creation
     → reported report t₂ s₂ m₂ p₂ e₂ v₂ ≡ start fuel (world begun t₁ stack memory p₁ e₁ save)
@@ -34,7 +34,7 @@ pub performs : (fuel : ℕ) (table : List Task) (stack memory pool ends save ima
     → performed-in r t₄ s₃ m₃ p₃ e₃ v₃ i₁ g₁ l₄ ≡ perform fuel table stack memory pool ends save image program lines
 unfolding perform with-creation with-run with-save with-lines
 performs fuel table stack memory pool ends save image program lines {creation} {t₁} {p₁} {e₁} {i₁} {g₁} {begun} {report} {t₂} {s₂} {m₂} {p₂} {e₂} {v₂} {saving} {saved} {t₃} {s₃} {m₃} {p₃} {e₃} {v₃} {told} {t₄} {l₄} {r} creates begins starts chooses saves tells sums =
-    ap (λ (a : Performed). performed-in a t₄ s₃ m₃ p₃ e₃ v₃ i₁ g₁ l₄) sums
+    ap (λ (a : RunSummary). performed-in a t₄ s₃ m₃ p₃ e₃ v₃ i₁ g₁ l₄) sums
     ∙ ap (λ (a : After Lined (List Task)). performed-in (performed creation report saved (a .answer .answer)) (a .lent) s₃ m₃ p₃ e₃ v₃ i₁ g₁ (a .answer .out)) tells
     ∙ ap (with-save creation report i₁ g₁ lines) saves
     ∙ ap (λ (m : Machine). with-save creation report i₁ g₁ lines (host-save (world m t₂ s₂ m₂ p₂ e₂ v₂))) chooses
@@ -44,10 +44,10 @@ performs fuel table stack memory pool ends save image program lines {creation} {
 
 -- over a table of blank slots
 pub owns-it : (fuel : ℕ) (stack memory pool ends save image program lines : List ℕ) {slot : Task}
-    {r : Performed} {t : List Task} {s₂ m₂ p₂ e₂ v₂ i₂ g₂ l₂ : List ℕ} → slot ≡ blank
+    {r : RunSummary} {t : List Task} {s₂ m₂ p₂ e₂ v₂ i₂ g₂ l₂ : List ℕ} → slot ≡ blank
     → performed-in r t s₂ m₂ p₂ e₂ v₂ i₂ g₂ l₂ ≡ perform fuel (replicate 256 slot) stack memory pool ends save image program lines
     → owned r s₂ m₂ p₂ e₂ v₂ i₂ g₂ l₂ ≡ own fuel stack memory pool ends save image program lines
 unfolding own blank-table
 owns-it fuel stack memory pool ends save image program lines blanks performs-it =
-    ap (λ (p : PerformedIn). without-table p) performs-it
+    ap (λ (p : RunSummaryIn). without-table p) performs-it
     ∙ ap (λ (t : Task). without-table (perform fuel (replicate 256 t) stack memory pool ends save image program lines)) blanks

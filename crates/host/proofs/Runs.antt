@@ -3,15 +3,15 @@ use Prim.Native.Nat.{ℕ}
 use mathlib.Core.List.{List}
 use mathlib.Core.Path.{_≡_, refl, ap, _∙_}
 use lib.ListN.{replicate}
-use Rattle.host.specs.declared.hosting.Performed.{Performed}
+use Rattle.host.specs.declared.hosting.RunSummary.{RunSummary}
 use Rattle.host.specs.Hosting.{Owned, owned, own}
-use Rattle.host.specs.declared.answering.Listed.{Listed}
+use Rattle.host.specs.declared.answering.ListingLengths.{ListingLengths}
 use Rattle.host.specs.Listings.{Listing, listing-of, list-run}
 use Rattle.host.specs.AnsweringNumbers.{Told, told, answers}
 use Rattle.host.specs.Answering.{new-stack, new-ends, new-pool, new-lines, new-scratch, ran, with-numbers, with-listing, with-run, rafenuma-run}
 
 pub runs-it : (fuel : ℕ) (memory image program new-image listing answer : List ℕ)
-    {stack ends pool lines scratch : List ℕ} {performed : Performed} {stack′ memory′ pool′ ends′ new-image′ image′ program′ lines′ : List ℕ} {listed : Listed} {listing′ : List ℕ} {r : ℕ} {answer′ : List ℕ}
+    {stack ends pool lines scratch : List ℕ} {performed : RunSummary} {stack′ memory′ pool′ ends′ new-image′ image′ program′ lines′ : List ℕ} {listed : ListingLengths} {listing′ : List ℕ} {r : ℕ} {answer′ : List ℕ}
     → stack ≡ new-stack → ends ≡ new-ends → pool ≡ new-pool → lines ≡ new-lines
     → owned performed stack′ memory′ pool′ ends′ new-image′ image′ program′ lines′ ≡ own fuel stack memory pool ends new-image image program lines
     → scratch ≡ new-scratch

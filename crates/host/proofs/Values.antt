@@ -5,9 +5,9 @@ use Rattle.lent.proofs.Shut.{Shut, vals, of-struct, of-enum}
 use Rattle.text.specs.declared.LineResult.{LineResult}
 use Rattle.text.proofs.LineResult as line
 use Rattle.text.proofs.LineResult.Laws as line-laws
-use Rattle.host.specs.declared.hosting.Performed.{Performed}
-use Rattle.host.proofs.hosting.Performed as performed
-use Rattle.host.proofs.hosting.Performed.Laws as performed-laws
+use Rattle.host.specs.declared.hosting.RunSummary.{RunSummary}
+use Rattle.host.proofs.hosting.RunSummary as performed
+use Rattle.host.proofs.hosting.RunSummary.Laws as performed-laws
 
 -- the length of lines
 unfoldable pub line-shut : Shut line.the-row
@@ -20,5 +20,5 @@ line-vals = vals line-shut
 unfoldable pub performed-shut : Shut performed.the-row
 performed-shut = of-struct performed.the-type performed-laws.the-laws performed-laws.the-plain
 
-abbrev pub performed-vals : Performed → List Val
+abbrev pub performed-vals : RunSummary → List Val
 performed-vals = vals performed-shut

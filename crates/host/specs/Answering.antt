@@ -23,7 +23,7 @@ unfoldable pub new-scratch : List ℕ
 new-scratch = replicate 196608 0
 
 -- the packed number, and everything lent after it
-pub record Ran : Type 0 where
+pub record RunOn : Type 0 where
   pub answer : ℕ
   pub memory : List ℕ
   pub image : List ℕ
@@ -32,22 +32,22 @@ pub record Ran : Type 0 where
   pub listing : List ℕ
   pub numbers : List ℕ
 
-abbrev pub ran : ℕ → List ℕ → List ℕ → List ℕ → List ℕ → List ℕ → List ℕ → Ran
+abbrev pub ran : ℕ → List ℕ → List ℕ → List ℕ → List ℕ → List ℕ → List ℕ → RunOn
 ran answer memory image program new-image listing numbers =
     record { answer = answer; memory = memory; image = image; program = program; new-image = new-image; listing = listing; numbers = numbers }
 
 -- the numbers come last
-abbrev pub with-numbers : Owned → Listing → Told → Ran
+abbrev pub with-numbers : Owned → Listing → Told → RunOn
 with-numbers o l t = ran (t .answer) (o .memory) (o .image) (o .program) (o .save) (l .listing) (t .numbers)
 
 -- before them the listing
-abbrev pub with-listing : List ℕ → Owned → Listing → Ran
+abbrev pub with-listing : List ℕ → Owned → Listing → RunOn
 with-listing answer o l = with-numbers o l (answers answer (o .answer) (l .answer))
 
 -- before it the run and its save
-unfoldable pub with-run : List ℕ → List ℕ → Owned → Ran
+unfoldable pub with-run : List ℕ → List ℕ → Owned → RunOn
 with-run listing answer o = with-listing answer o (list-run listing new-scratch (o .stack) (o .memory) (o .pool) (o .ends) (o .lines) (o .answer))
 
-unfoldable pub rafenuma-run : ℕ → List ℕ → List ℕ → List ℕ → List ℕ → List ℕ → List ℕ → Ran
+unfoldable pub rafenuma-run : ℕ → List ℕ → List ℕ → List ℕ → List ℕ → List ℕ → List ℕ → RunOn
 rafenuma-run fuel memory image program new-image listing answer =
     with-run listing answer (own fuel new-stack memory new-pool new-ends new-image image program new-lines)

@@ -8,10 +8,10 @@ use Rattle.image.specs.declared.SaveResult.{SaveResult}
 use Rattle.image.specs.declared.SaveResult.the-variants as save
 use Rattle.listing.specs.declared.Head.{Head}
 use Rattle.listing.specs.declared.Head.the-variants.{Done, Paused, Refused, Saved}
-use Rattle.host.specs.declared.hosting.Performed.{Performed}
+use Rattle.host.specs.declared.hosting.RunSummary.{RunSummary}
 use Rattle.host.specs.declared.reasons.Reason.{Reason}
 use Rattle.host.specs.Reasons.{as-numbers}
-use Rattle.host.specs.declared.answering.Listed.{Listed}
+use Rattle.host.specs.declared.answering.ListingLengths.{ListingLengths}
 
 -- no refusal
 abbrev pub no-reason : Reason
@@ -53,13 +53,13 @@ abbrev pub told : ℕ → List ℕ → Told
 told answer numbers = record { answer = answer; numbers = numbers }
 
 -- the eight numbers, in their order
-abbrev pub numbers-of : Performed → Listed → Reason → List ℕ
+abbrev pub numbers-of : RunSummary → ListingLengths → Reason → List ℕ
 numbers-of performed listed why =
     outcome-of (performed .head) ∷ performed .finished ∷ why .number ∷ why .first ∷ why .second ∷ listed .written ∷ performed .saved ∷ listed .needed ∷ []
 
-abbrev pub answers-with : List ℕ → Performed → Listed → Reason → Told
+abbrev pub answers-with : List ℕ → RunSummary → ListingLengths → Reason → Told
 answers-with answer performed listed why =
     told (packed (outcome-of (performed .head)) (why .number) (listing-number (listed .written))) (sets answer 0 (numbers-of performed listed why))
 
-unfoldable pub answers : List ℕ → Performed → Listed → Told
+unfoldable pub answers : List ℕ → RunSummary → ListingLengths → Told
 answers answer performed listed = answers-with answer performed listed (reason-of (performed .head) (performed .save))

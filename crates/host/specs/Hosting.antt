@@ -21,7 +21,7 @@ use Rattle.machine.specs.Calls.{Reported, start}
 use Rattle.machine.specs.Creation.{machine-of, Made, create}
 use Rattle.machine.specs.Reads.{SavedTo, host-save}
 use Rattle.host.specs.Lines.{task-lines}
-use Rattle.host.specs.declared.hosting.Performed.{Performed}
+use Rattle.host.specs.declared.hosting.RunSummary.{RunSummary}
 
 -- ---- between the calls
 
@@ -56,7 +56,7 @@ height-of (head.Refused refusal) height = 0
 height-of (head.Saved length) height = 0
 
 -- what came of it all
-unfoldable pub performed : CreateResult → Report → SaveReport → LineResult → Performed
+unfoldable pub performed : CreateResult → Report → SaveReport → LineResult → RunSummary
 performed creation report saved lines = record {
   head = head-of creation report;
   finished = report .finished;
@@ -71,8 +71,8 @@ performed creation report saved lines = record {
 -- ---- one call after the other
 
 -- what came of it, and everything lent after it
-pub record PerformedIn : Type 0 where
-  pub answer : Performed
+pub record RunSummaryIn : Type 0 where
+  pub answer : RunSummary
   pub table : List Task
   pub stack : List ℕ
   pub memory : List ℕ
@@ -83,32 +83,32 @@ pub record PerformedIn : Type 0 where
   pub program : List ℕ
   pub lines : List ℕ
 
-abbrev pub performed-in : Performed → List Task → List ℕ → List ℕ → List ℕ → List ℕ → List ℕ → List ℕ → List ℕ → List ℕ → PerformedIn
+abbrev pub performed-in : RunSummary → List Task → List ℕ → List ℕ → List ℕ → List ℕ → List ℕ → List ℕ → List ℕ → List ℕ → RunSummaryIn
 performed-in answer table stack memory pool ends save image program lines =
     record { answer = answer; table = table; stack = stack; memory = memory; pool = pool; ends = ends; save = save; image = image; program = program; lines = lines }
 
 -- the lines of the tasks come last
-unfoldable pub with-lines : CreateResult → Report → List ℕ → List ℕ → SavedTo → Lined → PerformedIn
+unfoldable pub with-lines : CreateResult → Report → List ℕ → List ℕ → SavedTo → Lined → RunSummaryIn
 with-lines creation report image program s l =
     performed-in (performed creation report (s .report) (l .answer)) (s .table) (s .stack) (s .memory) (s .pool) (s .ends) (s .save) image program (l .out)
 
 -- before them the save
-unfoldable pub with-save : CreateResult → Report → List ℕ → List ℕ → List ℕ → SavedTo → PerformedIn
+unfoldable pub with-save : CreateResult → Report → List ℕ → List ℕ → List ℕ → SavedTo → RunSummaryIn
 with-save creation report image program lines s = with-lines creation report image program s (task-lines (s .table) lines)
 
 -- before it the run
-unfoldable pub with-run : CreateResult → List ℕ → List ℕ → List ℕ → Reported → PerformedIn
+unfoldable pub with-run : CreateResult → List ℕ → List ℕ → List ℕ → Reported → RunSummaryIn
 with-run creation image program lines r =
     with-save creation (r .report) image program lines
     (host-save (world (to-save (r .report)) (r .table) (r .stack) (r .memory) (r .pool) (r .ends) (r .save)))
 
 -- before it the creation
-unfoldable pub with-creation : ℕ → List ℕ → List ℕ → List ℕ → List ℕ → Made → PerformedIn
+unfoldable pub with-creation : ℕ → List ℕ → List ℕ → List ℕ → List ℕ → Made → RunSummaryIn
 with-creation fuel stack memory save lines m =
     with-run (m .answer) (m .image) (m .program) lines
     (start fuel (world (machine-of (m .answer)) (m .table) stack memory (m .pool) (m .ends) save))
 
-unfoldable pub perform : ℕ → List Task → List ℕ → List ℕ → List ℕ → List ℕ → List ℕ → List ℕ → List ℕ → List ℕ → PerformedIn
+unfoldable pub perform : ℕ → List Task → List ℕ → List ℕ → List ℕ → List ℕ → List ℕ → List ℕ → List ℕ → List ℕ → RunSummaryIn
 perform fuel table stack memory pool ends save image program lines =
     with-creation fuel stack memory save lines (create table pool ends image program)
 
@@ -116,7 +116,7 @@ perform fuel table stack memory pool ends save image program lines =
 
 -- what came of it, and everything lent but the table
 pub record Owned : Type 0 where
-  pub answer : Performed
+  pub answer : RunSummary
   pub stack : List ℕ
   pub memory : List ℕ
   pub pool : List ℕ
@@ -126,11 +126,11 @@ pub record Owned : Type 0 where
   pub program : List ℕ
   pub lines : List ℕ
 
-abbrev pub owned : Performed → List ℕ → List ℕ → List ℕ → List ℕ → List ℕ → List ℕ → List ℕ → List ℕ → Owned
+abbrev pub owned : RunSummary → List ℕ → List ℕ → List ℕ → List ℕ → List ℕ → List ℕ → List ℕ → List ℕ → Owned
 owned answer stack memory pool ends save image program lines =
     record { answer = answer; stack = stack; memory = memory; pool = pool; ends = ends; save = save; image = image; program = program; lines = lines }
 
-abbrev pub without-table : PerformedIn → Owned
+abbrev pub without-table : RunSummaryIn → Owned
 without-table p = owned (p .answer) (p .stack) (p .memory) (p .pool) (p .ends) (p .save) (p .image) (p .program) (p .lines)
 
 -- 256 slots, all blank

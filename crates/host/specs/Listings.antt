@@ -13,8 +13,8 @@ use Rattle.memory.specs.Unbox.{unbox-value, part-of}
 use Rattle.listing.specs.declared.Head.{Head}
 use Rattle.listing.specs.declared.Counted.the-variants.{Values}
 use Rattle.listing.specs.Listing.{Read, line-of-head, line-of-count, line-of-value}
-use Rattle.host.specs.declared.hosting.Performed.{Performed}
-use Rattle.host.specs.declared.answering.Listed.{Listed}
+use Rattle.host.specs.declared.hosting.RunSummary.{RunSummary}
+use Rattle.host.specs.declared.answering.ListingLengths.{ListingLengths}
 
 -- ---- a line
 
@@ -70,13 +70,13 @@ tell keeps out head values tasks =
 
 -- what came of a listing, and the buffer after it
 pub record Listing : Type 0 where
-  pub answer : Listed
+  pub answer : ListingLengths
   pub listing : List ℕ
 
-abbrev pub listing-of : Listed → List ℕ → Listing
+abbrev pub listing-of : ListingLengths → List ℕ → Listing
 listing-of answer listing = record { answer = answer; listing = listing }
 
-abbrev pub with-lengths : ℕ → ℕ → Listed
+abbrev pub with-lengths : ℕ → ℕ → ListingLengths
 with-lengths written needed = record { written = written; needed = needed }
 
 -- measured so, the listing is written where the buffer holds it
@@ -89,10 +89,10 @@ unfoldable pub list : List ℕ → List ℕ → Head → List Read → List ℕ 
 list listing scratch head values tasks = measured listing (tell true listing head values tasks) (tell false scratch head values tasks .answer)
 
 -- the values of a run over the memory in use, and the lines of its tasks, where they had room
-unfoldable pub with-tasks : List ℕ → List ℕ → List ℕ → List ℕ → List ℕ → List ℕ → List ℕ → Performed → LineResult → Listing
+unfoldable pub with-tasks : List ℕ → List ℕ → List ℕ → List ℕ → List ℕ → List ℕ → List ℕ → RunSummary → LineResult → Listing
 with-tasks listing scratch stack memory pool ends lines performed (Line size) =
     list listing scratch (performed .head) (values-of (take (performed .memory) (drop 0 memory)) pool ends (performed .entries) (take (performed .height) stack)) (take size (drop 0 lines))
 with-tasks listing scratch stack memory pool ends lines performed (NoLine refusal) = listing-of (with-lengths 0 0) listing
 
-abbrev pub list-run : List ℕ → List ℕ → List ℕ → List ℕ → List ℕ → List ℕ → List ℕ → Performed → Listing
+abbrev pub list-run : List ℕ → List ℕ → List ℕ → List ℕ → List ℕ → List ℕ → List ℕ → RunSummary → Listing
 list-run listing scratch stack memory pool ends lines performed = with-tasks listing scratch stack memory pool ends lines performed (performed .lines)

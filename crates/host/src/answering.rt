@@ -3,7 +3,7 @@ ghost use mathlib.Core.Path.{_≡_};
 ghost use Rattle.host.specs.Answering.{new-stack, new-ends, new-pool, new-lines, new-scratch, ran, rafenuma-run};
 
 // What came of a listing: its length where it was written, else 0; its whole length, or 0 where no buffer holds a line of it.
-pub struct Listed {
+pub struct ListingLengths {
     pub written: usize,
     pub needed: usize,
 }

@@ -6,7 +6,7 @@ use text::LineResult;
 
 // What came of a run: how it ended, its finished instructions, what the save by the host answered, how many values there are and what they are read over,
 // the length of the image that was saved last, and the length of the lines of the tasks.
-pub struct Performed {
+pub struct RunSummary {
     pub head: Head,
     pub finished: u64,
     pub save: SaveResult,

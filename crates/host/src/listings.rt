@@ -6,8 +6,8 @@ ghost use Rattle.text.specs.Lines.{lined};
 ghost use Rattle.listing.specs.Listing.{line-of-count, line-of-value};
 ghost use Rattle.listing.specs.declared.Counted.the-variants.{Values};
 ghost use Rattle.host.specs.Listings.{start-of, counted, put-from, next, read-of, values-of, put-values, tell, listing-of, list, list-run};
-use crate::answering::Listed;
-use crate::hosting::Performed;
+use crate::answering::ListingLengths;
+use crate::hosting::RunSummary;
 use errors::Refusal;
 use listing::Counted;
 use listing::Head;
@@ -197,7 +197,7 @@ fn whole<'a>(
     tasks: &[u8],
     head: Head,
     entries: usize,
-) -> Listed
+) -> ListingLengths
     ensures { λ r. ⌜ listing-of r (now (listing .exit)) ≡ list (now (listing .entry)) (now (scratch .entry)) head (values-of (now (memory .entry)) (now (pool .entry)) (now (ends .entry)) entries (now (words .entry))) (now (tasks .entry)) ⌝ }
 {
     match tell(
@@ -211,13 +211,13 @@ fn whole<'a>(
         false,
         entries,
     ) {
-        LineResult::NoLine(_) => Listed {
+        LineResult::NoLine(_) => ListingLengths {
             written: 0,
             needed: 0,
         },
         LineResult::Line(needed) => {
             if listing.len() < needed {
-                return Listed { written: 0, needed };
+                return ListingLengths { written: 0, needed };
             }
             tell(
                 listing,
@@ -230,7 +230,7 @@ fn whole<'a>(
                 true,
                 entries,
             );
-            Listed {
+            ListingLengths {
                 written: needed,
                 needed,
             }
@@ -247,14 +247,14 @@ fn list<'a>(
     pool: &'a [u8],
     ends: &[u32; 1024],
     lines: &[u8],
-    performed: Performed,
-) -> Listed
+    performed: RunSummary,
+) -> ListingLengths
     ensures { λ r. ⌜ listing-of r (now (listing .exit)) ≡ list-run (now (listing .entry)) (now (scratch .entry)) (now (stack .entry)) (now (memory .entry)) (now (pool .entry)) (now (ends .entry)) (now (lines .entry)) performed ⌝ }
 {
     let head = performed.head;
     let told = performed.lines;
     match told {
-        LineResult::NoLine(_) => Listed {
+        LineResult::NoLine(_) => ListingLengths {
             written: 0,
             needed: 0,
         },
@@ -286,8 +286,8 @@ pub(crate) fn list_run<'a>(
     pool: &'a [u8],
     ends: &[u32; 1024],
     lines: &[u8],
-    performed: Performed,
-) -> Listed
+    performed: RunSummary,
+) -> ListingLengths
     ensures { λ r. ⌜ listing-of r (now (listing .exit)) ≡ list-run (now (listing .entry)) (now (scratch .entry)) (now (stack .entry)) (now (memory .entry)) (now (pool .entry)) (now (ends .entry)) (now (lines .entry)) performed ⌝ }
 {
     list(

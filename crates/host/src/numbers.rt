@@ -1,8 +1,8 @@
 // The eight numbers of a run.
 ghost use mathlib.Core.Path.{_≡_};
 ghost use Rattle.host.specs.AnsweringNumbers.{no-reason, save-reason, reason-of, outcome-of, listing-number, packed, answers, told};
-use crate::answering::Listed;
-use crate::hosting::Performed;
+use crate::answering::ListingLengths;
+use crate::hosting::RunSummary;
 use crate::reasons::Reason;
 use crate::reasons::as_numbers;
 use image::SaveResult;
@@ -71,7 +71,7 @@ fn packed(outcome: u32, number: u32, listing: u32) -> u64
 }
 
 // Writes the eight numbers of a run, and answers with its packed one.
-pub(crate) fn tell(answer: &mut [u64; 8], performed: Performed, listed: Listed) -> u64
+pub(crate) fn tell(answer: &mut [u64; 8], performed: RunSummary, listed: ListingLengths) -> u64
     ensures { λ r. ⌜ told r (now (answer .exit)) ≡ answers (now (answer .entry)) performed listed ⌝ }
 {
     let head = performed.head;

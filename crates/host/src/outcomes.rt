@@ -1,7 +1,7 @@
 // What a creation, a run and a save come to, between the calls of the machine.
 ghost use mathlib.Core.Path.{_≡_};
 ghost use Rattle.host.specs.Hosting.{unsavable, to-save, head-of, height-of, performed};
-use crate::hosting::Performed;
+use crate::hosting::RunSummary;
 use listing::Head;
 use machine::CreateResult;
 use machine::Machine;
@@ -64,12 +64,12 @@ pub(crate) fn performed(
     report: Report,
     saved: SaveReport,
     lines: LineResult,
-) -> Performed
+) -> RunSummary
     ensures { λ r. ⌜ r ≡ performed creation report saved lines ⌝ }
 {
     let head = head_of(creation, report);
     let save = saved.result;
-    Performed {
+    RunSummary {
         head,
         finished: report.finished,
         save,

@@ -1,7 +1,7 @@
 // The owner of a table of tasks, and what it performs over it.
 ghost use mathlib.Core.Path.{_≡_};
 ghost use Rattle.host.specs.Hosting.{performed-in, perform, owned, own};
-use crate::hosting::Performed;
+use crate::hosting::RunSummary;
 use crate::lines::put_tasks;
 use crate::outcomes::performed;
 use crate::outcomes::to_save;
@@ -21,7 +21,7 @@ fn perform(
     program: &mut [u8],
     lines: &mut [u8],
     fuel: u64,
-) -> Performed
+) -> RunSummary
     ensures { λ r. ⌜ performed-in r (now (table .exit)) (now (stack .exit)) (now (memory .exit)) (now (pool .exit)) (now (ends .exit)) (now (save .exit)) (now (image .exit)) (now (program .exit)) (now (lines .exit)) ≡ perform fuel (now (table .entry)) (now (stack .entry)) (now (memory .entry)) (now (pool .entry)) (now (ends .entry)) (now (save .entry)) (now (image .entry)) (now (program .entry)) (now (lines .entry)) ⌝ }
 {
     let creation = vm::creating::create(table, pool, ends, image, program);
@@ -54,7 +54,7 @@ pub fn own(
     program: &mut [u8],
     lines: &mut [u8],
     fuel: u64,
-) -> Performed
+) -> RunSummary
     ensures { λ r. ⌜ owned r (now (stack .exit)) (now (memory .exit)) (now (pool .exit)) (now (ends .exit)) (now (save .exit)) (now (image .exit)) (now (program .exit)) (now (lines .exit)) ≡ own fuel (now (stack .entry)) (now (memory .entry)) (now (pool .entry)) (now (ends .entry)) (now (save .entry)) (now (image .entry)) (now (program .entry)) (now (lines .entry)) ⌝ }
 {
     let blank = storage::task_types::blank();

@@ -12,7 +12,7 @@ use Rattle.text.specs.Ascii.{ascii}
 use Rattle.text.specs.declared.LineResult.the-variants.{Line}
 use Rattle.listing.specs.declared.Head.the-variants.{Done, Refused}
 use Rattle.host.specs.Hosting.{Owned, own}
-use Rattle.host.specs.Answering.{Ran, rafenuma-run}
+use Rattle.host.specs.Answering.{RunOn, rafenuma-run}
 use Rattle.labels.specs.Check.{admission}
 use Rattle.admission.specs.Answer.{answered}
 use Rattle.host.specs.Numbers.{Admitting, packed-admission, packed-image}
@@ -80,7 +80,7 @@ abbrev No-tasks : List ℕ
 No-tasks = 0x08 ∷ 0 ∷ 0 ∷ 0 ∷ 0x01 ∷ 0 ∷ 0 ∷ 0 ∷ 0 ∷ 0 ∷ 0 ∷ 0 ∷ 0 ∷ 0 ∷ []
 
 -- a run for a host: no image, 16 bytes of memory, 16 of a new image, so many of a listing
-abbrev called : ℕ → List ℕ → ℕ → Ran
+abbrev called : ℕ → List ℕ → ℕ → RunOn
 called fuel program room = rafenuma-run fuel (replicate 16 0) [] program (replicate 16 255) (replicate room 0) (replicate 8 255)
 
 -- the same run with every buffer lent

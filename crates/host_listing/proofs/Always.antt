@@ -33,7 +33,7 @@ use Rattle.listing.specs.declared.Counted.the-variants.{Values, Tasks}
 use Rattle.listing.specs.Listing.{Read, line-of-count, lines-of-tasks, listing}
 use Rattle.listing.proofs.Short.{numbers-told, head-short, count-short, Small, task-short, tasks-short, living-most}
 use Rattle.host.specs.Lines.{task-lines}
-use Rattle.host.specs.Hosting.{to-save, height-of, performed, PerformedIn, with-lines, with-save, with-run, with-creation, perform, without-table, blank-table, own}
+use Rattle.host.specs.Hosting.{to-save, height-of, performed, RunSummaryIn, with-lines, with-save, with-run, with-creation, perform, without-table, blank-table, own}
 use Rattle.host.specs.Listings.{Listing, listing-of, with-lengths, values-of, list, list-run}
 use Rattle.host.specs.Answering.{new-stack, new-ends, new-pool, new-lines, new-scratch, with-listing, with-run as list-after, rafenuma-run}
 use Rattle.host_listing.proofs.Tasks.{text-of}
@@ -83,7 +83,7 @@ height-below (head.Refused refusal) height = omega arith
 height-below (head.Saved length) height = omega arith
 
 -- what a run leaves, beside the machine that it reports
-record Left (p : PerformedIn) (lines : List ℕ) : Type 0 where
+record Left (p : RunSummaryIn) (lines : List ℕ) : Type 0 where
   machine : Machine
   bounded : Bounded (p .table) (p .ends) machine
   entries : p .answer .entries ≡ machine .entries
@@ -129,20 +129,20 @@ module _ (fuel : ℕ) (stack memory pool ends save image program lines : List �
 -- ---- its lines
 
 -- what the types of the code alone say of it: a byte of memory and a state are `u8`, and the numbers in the first line are `u64`, `u32` or `usize`
-pub record Typed (p : PerformedIn) : Type 0 where
+pub record Typed (p : RunSummaryIn) : Type 0 where
   pub bytes : (i : ℕ) → getD (p .memory) i 0 < 256
   pub states : (slot : ℕ) → getD (p .table) slot blank .state .state < 256
   pub numbers : (i : ℕ) → getD (numbers-told (p .answer .head)) i 0 < 18446744073709551616
 
 -- the values that are listed
-abbrev pub values-left : PerformedIn → List Read
+abbrev pub values-left : RunSummaryIn → List Read
 values-left p = values-of (take (p .answer .memory) (drop 0 (p .memory))) (p .pool) (p .ends) (p .answer .entries) (take (p .answer .height) (p .stack))
 
 -- the listing of document 01
-abbrev pub whole : PerformedIn → List ℕ
+abbrev pub whole : RunSummaryIn → List ℕ
 whole p = listing (p .answer .head) (values-left p) (p .table)
 
-module _ (p : PerformedIn) (lines : List ℕ) (left : Left p lines) (typed : Typed p) where
+module _ (p : RunSummaryIn) (lines : List ℕ) (left : Left p lines) (typed : Typed p) where
   -- the S_LEN count
   abbrev count : ℕ
   count = left .machine .count
@@ -223,7 +223,7 @@ scratch-bytes = length-replicate {A = ℕ} 196608 0
 
 module _ (fuel : ℕ) (memory image program new-image lent : List ℕ) where
   -- what the library performs, over its own table and buffers
-  abbrev pub run : PerformedIn
+  abbrev pub run : RunSummaryIn
   run = perform fuel blank-table new-stack memory new-pool new-ends new-image image program new-lines
 
   -- the listing that it makes in the lent buffer

@@ -17,7 +17,7 @@ use Rattle.machine.specs.declared.Outcome.the-variants.{Refused}
 use Rattle.machine.specs.World.{World, world}
 use Rattle.machine.specs.declared.CreateResult.{CreateResult}
 use Rattle.machine.specs.declared.CreateResult.the-variants.{NotCreated}
-use Rattle.machine.specs.declared.Allowed.{Allowed}
+use Rattle.machine.specs.declared.Permission.{Permission}
 use Rattle.machine.specs.Sound.{sound-record, sound-world}
 use Rattle.machine.specs.declared.Verb.the-variants.{Start}
 use Rattle.machine.specs.Calls.{may-start, allowed, not-allowed, Reported, reports, is-sound, call-with, call, start}
@@ -80,7 +80,7 @@ unfolding allowed may-start
 not-begun true = refl
 not-begun false = refl
 
-not-called : (fuel : ℕ) (w : World) (a : Allowed) → a .allowed ≡ false → call-with fuel w a ≡ reports (not-allowed (w .machine)) w
+not-called : (fuel : ℕ) (w : World) (a : Permission) → a .allowed ≡ false → call-with fuel w a ≡ reports (not-allowed (w .machine)) w
 unfolding call-with
 not-called fuel w a test = rw test
 

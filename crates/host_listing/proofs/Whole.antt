@@ -17,7 +17,7 @@ use Rattle.listing.specs.declared.Counted.the-variants.{Values}
 use Rattle.listing.specs.Listing.{Read, line-of-head, line-of-count, line-of-value, lines-of-values, listing}
 use Rattle.storage.specs.declared.Task.{Task}
 use Rattle.host.specs.Lines.{task-lines}
-use Rattle.host.specs.declared.hosting.Performed.{Performed}
+use Rattle.host.specs.declared.hosting.RunSummary.{RunSummary}
 use Rattle.host.specs.Listings.{put-from, counted, counting, next-line, next, values-of, put-values, tell, listing-of, with-lengths, measured, list, with-tasks, list-run}
 use Rattle.host_listing.proofs.Tasks.{text-of, all-tasks, read-back}
 
@@ -201,7 +201,7 @@ unfolding listing
 is-the-listing head values table = refl
 
 -- where the tasks' lines had room, they are listed as they stand
-pub tasks-listed : (lent scratch stack memory pool ends lines before : List ℕ) (performed : Performed) (table : List Task)
+pub tasks-listed : (lent scratch stack memory pool ends lines before : List ℕ) (performed : RunSummary) (table : List Task)
     → lined (performed .lines) lines ≡ task-lines table before → length (text-of table) ≤ length before
     → list-run lent scratch stack memory pool ends lines performed
     ≡ list lent scratch (performed .head) (values-of (take (performed .memory) (drop 0 memory)) pool ends (performed .entries) (take (performed .height) stack)) (text-of table)

@@ -20,7 +20,7 @@ use Rattle.mechanism.specs.declared.Registers.{Registers}
 use Rattle.mechanism.specs.Changes.{keep, applied}
 use Rattle.mechanism.specs.Create.{op-t-create}
 use Rattle.mechanism.specs.declared.Change.{Change}
-use Rattle.mechanism.specs.declared.Tasked.{Tasked}
+use Rattle.mechanism.specs.declared.RegistersAndChange.{RegistersAndChange}
 use Rattle.machine.specs.declared.Machine.{Machine}
 use Rattle.machine.specs.Machines.{current, code-of, with-ids}
 use Rattle.mechanism.specs.Registers.{registers-of, settled}
@@ -28,9 +28,9 @@ use Rattle.mechanism.specs.Frames.{OnPool}
 use Rattle.mechanism.specs.Registers.{machine-at}
 use Rattle.mechanism.specs.Act.{acted, OnAll, on-all, went-by, created, tasked-by, created-by, on-task, after-pool, after-memory, on-frames, act-by, act-at, act}
 use Rattle.machine.specs.Machines.{op-at}
-use Rattle.mechanism.specs.declared.Went.{Went}
-use Rattle.mechanism.specs.declared.Went.the-variants.{Onto, Refused}
-use Rattle.mechanism.specs.declared.Acted.{Acted}
+use Rattle.mechanism.specs.declared.MachineResult.{MachineResult}
+use Rattle.mechanism.specs.declared.MachineResult.the-variants.{Onto, Refused}
+use Rattle.mechanism.specs.declared.MachineAndChange.{MachineAndChange}
 use Rattle.laws.specs.Counted.{creates, deletes}
 use Rattle.laws.proofs.Either.{either}
 use Rattle.laws.proofs.Parts.{Machined, Tabled}
@@ -82,7 +82,7 @@ module _ (save : ℕ) (stack memory pool ends : List ℕ) (machine : Machine) (t
   same-entries : (after : Machine) → after .entries ≡ machine .entries → Grows pool ends (machine .entries) pool ends (after .entries)
   same-entries after same = subst (λ (n : ℕ). Grows pool ends (machine .entries) pool ends n) (sym same) (same-pool pool ends (machine .entries))
 
-  went-acts : (went : Went) → WentOn (length memory) (length pool) save stack ends machine went → On 0 0 (on-all (acted went (keep task)) stack memory pool ends)
+  went-acts : (went : MachineResult) → WentOn (length memory) (length pool) save stack ends machine went → On 0 0 (on-all (acted went (keep task)) stack memory pool ends)
   went-acts _ (went-on after sound many same) = keeps after stack memory pool ends sound same (same-entries after many)
   went-acts _ (frames.refused refusal) = refused refusal _ stack memory pool ends
 
@@ -104,20 +104,20 @@ module _ (save : ℕ) (stack memory pool ends : List ℕ) (machine : Machine) (t
 
   -- ---- the opcodes that change a slot
 
-  by-acts : (made deleted : ℕ) (a : Tasked) → Changes (length memory) stack table slot (machine .«next_id») (machine .count) made deleted a → On made deleted (on-all (tasked-by machine a) stack memory pool ends)
+  by-acts : (made deleted : ℕ) (a : RegistersAndChange) → Changes (length memory) stack table slot (machine .«next_id») (machine .count) made deleted a → On made deleted (on-all (tasked-by machine a) stack memory pool ends)
   unfolding tasked-by went-by settled
   by-acts made deleted _ (changes registers change r sound lived) =
       acts (settled machine registers) change stack memory pool ends (settled-sound registers stack m r) sound (same-entries (settled machine registers) (settled-entries registers)) lived
   by-acts made deleted _ (tasks.refused refusal change) = refused refusal change stack memory pool ends
 
-  created-acts : (a : Tasked) → Changes (length memory) stack table slot ((machine .«next_id» + 1) % 2 ^ 32) (len-after (machine .count) (machine .«next_id»)) 1 0 a
+  created-acts : (a : RegistersAndChange) → Changes (length memory) stack table slot ((machine .«next_id» + 1) % 2 ^ 32) (len-after (machine .count) (machine .«next_id»)) 1 0 a
       → On 1 0 (on-all (created-by machine a) stack memory pool ends)
   unfolding created-by created
   created-acts _ (changes registers change r sound lived) =
       acts _ change stack memory pool ends (ids-sound _ _ (settled-sound registers stack m r)) sound (same-entries (settled machine registers) (settled-entries registers)) lived
   created-acts _ (tasks.refused refusal change) = refused refusal change stack memory pool ends
 
-  abbrev creation : ℕ → Tasked
+  abbrev creation : ℕ → RegistersAndChange
   creation next = op-t-create stack memory (registers-of machine) next (machine .«next_id») task
 
   created-here : (next : ℕ) → slot ≡ machine .«next_id»
@@ -149,7 +149,7 @@ module _ (save : ℕ) (stack memory pool ends : List ℕ) (machine : Machine) (t
       subst (λ (c : ℕ). On c (deletes op) (on-all (acted (Onto (machine-at machine next (machine .height))) (keep task)) stack memory pool ends)) (sym (none-made op made))
       (subst (λ (d : ℕ). On 0 d (on-all (acted (Onto (machine-at machine next (machine .height))) (keep task)) stack memory pool ends)) (sym (none-deleted op deleted)) (idle-acts next))
 
-  abbrev OnTask : ℕ → Acted → Type 0
+  abbrev OnTask : ℕ → MachineAndChange → Type 0
   OnTask op a = On (creates op) (deletes op) (on-all a stack memory pool ends)
 
   task-acts : (op next : ℕ) → (eqb op T-CREATE ≡ true → slot ≡ machine .«next_id») → OnTask op (on-task stack memory machine task op next)

@@ -16,7 +16,7 @@ use Rattle.machine.specs.Calls.{may-continue, allowed, phased, ended, report, n
 use Rattle.machine.specs.World.{with-machine}
 use Rattle.machine.specs.declared.Verb.{Verb}
 use Rattle.machine.specs.declared.Verb.the-variants.{Start, Continue}
-use Rattle.machine.specs.declared.Allowed.{Allowed}
+use Rattle.machine.specs.declared.Permission.{Permission}
 use Rattle.laws.specs.Sound.{Sound}
 use Rattle.laws.specs.After.{world-after}
 use Rattle.laws.proofs.SoundnessCalls.{call-sound}
@@ -77,7 +77,7 @@ unfolding report ended
 left-paused a v = refl
 
 module _ (verb : Verb) (w : World) where
-  abbrev allows : Allowed
+  abbrev allows : Permission
   allows = allowed (w .machine) (is-sound w) verb
 
   -- the world that the call's run begins with

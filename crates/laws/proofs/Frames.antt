@@ -28,8 +28,8 @@ use Rattle.machine.specs.Machines.{current, with-current, with-frames}
 use Rattle.mechanism.specs.Registers.{registers-of, settled}
 use Rattle.mechanism.specs.Frames.{framed, enter-bounded, enter, call-popped, op-call, left-frame, op-end-call}
 use Rattle.mechanism.specs.Registers.{machine-at}
-use Rattle.mechanism.specs.declared.Went.{Went}
-use Rattle.mechanism.specs.declared.Went.the-variants.{Onto, Refused}
+use Rattle.mechanism.specs.declared.MachineResult.{MachineResult}
+use Rattle.mechanism.specs.declared.MachineResult.the-variants.{Onto, Refused}
 use Rattle.machine.specs.Sound.{names, sound-frames}
 use Rattle.laws.proofs.Either.{either}
 use Rattle.laws.proofs.Parts.{Machined}
@@ -118,7 +118,7 @@ pub record Same (machine after : Machine) : Type 0 where
   pub next-id : after .«next_id» ≡ machine .«next_id»
   pub count : after .count ≡ machine .count
 
-pub data WentOn (memory pool save : ℕ) (stack ends : List ℕ) (machine : Machine) : Went → Type 0 where
+pub data WentOn (memory pool save : ℕ) (stack ends : List ℕ) (machine : Machine) : MachineResult → Type 0 where
   went-on : (after : Machine) → Machined memory pool save stack ends after → after .entries ≡ machine .entries → Same machine after → WentOn memory pool save stack ends machine (Onto after)
   refused : (refusal : Refusal) → WentOn memory pool save stack ends machine (Refused refusal)
 
@@ -163,7 +163,7 @@ bounds-told ends entries entry =
     either (Bounded entries entry) (ltb (entry .0) (min entries 1024)) _ _ (λ less. bounded _ _ (let l = ltb-true (entry .0) (min entries 1024) less in omega (arith, l))) (λ _. not-bounded _)
 
 module _ (memory pool save : ℕ) (stack ends : List ℕ) (machine : Machine) (m : Machined memory pool save stack ends machine) where
-  abbrev On : Went → Type 0
+  abbrev On : MachineResult → Type 0
   On = WentOn memory pool save stack ends machine
 
   framed-on : (caller : Machine) (result : FramesResult) → Machined memory pool save stack ends caller → caller .entries ≡ machine .entries → Same machine caller → Pushes (caller .entries) result → On (framed caller result)

@@ -17,7 +17,7 @@ use Rattle.inlinevec.specs.declared.PopResult.the-variants.{Popped, NotPopped}
 use Rattle.values.specs.Values.{to-u32, to-bool-val}
 use Rattle.mechanism.specs.Registers.{OnStack}
 use Rattle.mechanism.specs.declared.Registers.{Registers}
-use Rattle.mechanism.specs.declared.Did.the-variants.{Next}
+use Rattle.mechanism.specs.declared.RegistersResult.the-variants.{Next}
 use Rattle.mechanism.specs.Operated.{with-operand, push-u32, push-u8, muli, jump-if-false, m-st, m-sti-of, m-sti}
 use Rattle.mechanism.specs.Cut.{cut-value, cut-muli, cut-size, cut-m-st, cut-skip, cut-jump, cut}
 use Rattle.mechanism.specs.Execute.{plain, operated, is-equality, execute, by-extent, instruct}

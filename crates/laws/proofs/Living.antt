@@ -18,7 +18,7 @@ use Rattle.machine.specs.World.{with-machine}
 use Rattle.machine.specs.Reads.{SavedTo, host-save}
 use Rattle.machine.specs.Creation.{create}
 use Rattle.machine.specs.declared.Verb.{Verb}
-use Rattle.machine.specs.declared.Allowed.{Allowed}
+use Rattle.machine.specs.declared.Permission.{Permission}
 use Rattle.machine.specs.declared.CreateResult.the-variants.{Created}
 use Rattle.laws.specs.Sound.{Sound}
 use Rattle.laws.specs.Counted.{creates, deletes}
@@ -90,7 +90,7 @@ living-after-run fuel w sound = living (way-of fuel w .instructions) w (run fuel
 -- ---- calls
 
 -- those of a call's run; a call that is not allowed runs nothing
-abbrev pub allowance : Verb → World → Allowed
+abbrev pub allowance : Verb → World → Permission
 allowance verb w = allowed (w .machine) (is-sound w) verb
 
 unfoldable pub call-creates : Verb → ℕ → World → ℕ
@@ -99,7 +99,7 @@ call-creates verb fuel w = cond (allowance verb w .allowed) (run-creates fuel (w
 unfoldable pub call-deletes : Verb → ℕ → World → ℕ
 call-deletes verb fuel w = cond (allowance verb w .allowed) (run-deletes fuel (with-machine w (allowance verb w .machine))) 0
 
-with-living : (b : Bool) (fuel : ℕ) (w : World) (a : Allowed) → a .allowed ≡ b → Sound w → Sound (with-machine w (a .machine))
+with-living : (b : Bool) (fuel : ℕ) (w : World) (a : Permission) → a .allowed ≡ b → Sound w → Sound (with-machine w (a .machine))
     → living-of (call-with fuel w a .table) + cond (a .allowed) (run-deletes fuel (with-machine w (a .machine))) 0 ≡ living-of (w .table) + cond (a .allowed) (run-creates fuel (with-machine w (a .machine))) 0
 unfolding call-with
 with-living true fuel w a e sound begins = simp e (living-after-run fuel (with-machine w (a .machine)) begins)

@@ -32,8 +32,8 @@ use Rattle.inlinevec.specs.declared.PopResult.{PopResult}
 use Rattle.mechanism.specs.Registers.{OnStack, OnMemory, on-memory}
 use Rattle.mechanism.specs.Store.{placed, store, sized, op-m-st, mut-in-use, ChangedTo, mutated, mutate-at, mutate, mutate-last, mutate-two, op-m-muta}
 use Rattle.mechanism.specs.declared.Registers.{Registers}
-use Rattle.mechanism.specs.declared.Did.{Did}
-use Rattle.mechanism.specs.declared.Did.the-variants.{Next, Refused}
+use Rattle.mechanism.specs.declared.RegistersResult.{RegistersResult}
+use Rattle.mechanism.specs.declared.RegistersResult.the-variants.{Next, Refused}
 use Rattle.mechanism.specs.declared.PopTwoResult.{PopTwoResult}
 use Rattle.laws.specs.Sound.{Inside}
 use Rattle.laws.proofs.Either.{either}
@@ -50,7 +50,7 @@ pub beside : (memory : List ℕ) (a : OnStack) → stacked.Keeps (length memory)
 beside memory _ (stacked.finished registers stack r) = finished registers stack memory r refl
 beside memory _ (stacked.refused refusal stack) = refused refusal stack memory
 
-pub unwritten : (memory stack : List ℕ) (did : Did) → Goes (length memory) stack did → Keeps (length memory) (on-memory did stack memory)
+pub unwritten : (memory stack : List ℕ) (did : RegistersResult) → Goes (length memory) stack did → Keeps (length memory) (on-memory did stack memory)
 unwritten memory stack _ (goes registers r) = finished registers stack memory r refl
 unwritten memory stack _ (stops refusal) = refused refusal stack memory
 
@@ -149,7 +149,7 @@ module _ (registers : Registers) (stack memory : List ℕ) (next : ℕ) (r : Reg
   mutated-goes height Changed low = goes _ (lowered (length memory) registers stack next height r low)
   mutated-goes height (NotChanged refusal) low = stops refusal
 
-  changed-keeps : (m : List ℕ) (did : Did) → Goes (length memory) stack did → length m ≡ length memory → Keeps (length memory) (on-memory did stack m)
+  changed-keeps : (m : List ℕ) (did : RegistersResult) → Goes (length memory) stack did → length m ≡ length memory → Keeps (length memory) (on-memory did stack m)
   changed-keeps m _ (goes after sound) long = finished after stack m sound long
   changed-keeps m _ (stops refusal) long = refused refusal stack m
 

@@ -27,13 +27,13 @@ use Rattle.storage.specs.declared.Task.{Task}
 use Rattle.storage.specs.Tasks.{blank}
 use Rattle.image.specs.declared.SaveResult.{SaveResult}
 use Rattle.image.specs.declared.SaveResult.the-variants.{Saved, NotSaved}
-use Rattle.mechanism.specs.declared.Did.{Did}
-use Rattle.mechanism.specs.declared.Did.the-variants as did
+use Rattle.mechanism.specs.declared.RegistersResult.{RegistersResult}
+use Rattle.mechanism.specs.declared.RegistersResult.the-variants as did
 use Rattle.mechanism.specs.Registers.{OnMemory}
 use Rattle.mechanism.specs.Changes.{keep}
 use Rattle.mechanism.specs.Create.{op-t-create, op-t-delete}
 use Rattle.mechanism.specs.Fields.{op-t-get-field, op-t-set-field}
-use Rattle.mechanism.specs.declared.Tasked.{Tasked}
+use Rattle.mechanism.specs.declared.RegistersAndChange.{RegistersAndChange}
 use Rattle.mechanism.specs.Steps.{is-outer}
 use Rattle.machine.specs.declared.Machine.{Machine}
 use Rattle.machine.specs.declared.Phase.{Phase}
@@ -45,9 +45,9 @@ use Rattle.mechanism.specs.Act.{acted, OnAll, on-all, went-by, created, tasked-
 use Rattle.machine.specs.Machines.{op-at}
 use Rattle.mechanism.specs.Advance.{wanted}
 use Rattle.mechanism.specs.Turns.{save-went}
-use Rattle.mechanism.specs.declared.Went.{Went}
-use Rattle.mechanism.specs.declared.Went.the-variants.{Onto, Refused}
-use Rattle.mechanism.specs.declared.Acted.{Acted}
+use Rattle.mechanism.specs.declared.MachineResult.{MachineResult}
+use Rattle.mechanism.specs.declared.MachineResult.the-variants.{Onto, Refused}
+use Rattle.mechanism.specs.declared.MachineAndChange.{MachineAndChange}
 use Rattle.machine.specs.World.{World, world, op, at-end}
 use Rattle.machine.specs.Words as steps
 use Rattle.mechanism.proofs.Whole.{step-is}
@@ -69,14 +69,14 @@ rephased phase w = with-machine w (phased (w .machine) phase)
 
 module _ (phase : Phase) where
   -- the same in this phase
-  went-as : Went → Went
+  went-as : MachineResult → MachineResult
   went-as (Onto machine) = Onto (phased machine phase)
   went-as (Refused refusal) = Refused refusal
 
   abbrev pool-as : OnPool → OnPool
   pool-as a = on-pool (went-as (a .went)) (a .stack) (a .pool) (a .ends)
 
-  abbrev acted-as : Acted → Acted
+  abbrev acted-as : MachineAndChange → MachineAndChange
   acted-as a = acted (went-as (a .went)) (a .change)
 
   abbrev all-as : OnAll → OnAll
@@ -145,12 +145,12 @@ module _ (phase : Phase) where
 
   -- ---- tasks
 
-  by-as : (machine : Machine) (result : Did) → went-by (phased machine phase) result ≡ went-as (went-by machine result)
+  by-as : (machine : Machine) (result : RegistersResult) → went-by (phased machine phase) result ≡ went-as (went-by machine result)
   unfolding went-by settled went-as
   by-as machine (did.Next registers) = refl
   by-as machine (did.Refused refusal) = refl
 
-  created-as : (machine : Machine) (result : Did) → created (phased machine phase) result ≡ went-as (created machine result)
+  created-as : (machine : Machine) (result : RegistersResult) → created (phased machine phase) result ≡ went-as (created machine result)
   unfolding created settled went-as
   created-as machine (did.Next registers) = refl
   created-as machine (did.Refused refusal) = refl
@@ -158,23 +158,23 @@ module _ (phase : Phase) where
   task-as : (stack memory : List ℕ) (machine : Machine) (task : Task) (op next : ℕ) → on-task stack memory (phased machine phase) task op next ≡ acted-as (on-task stack memory machine task op next)
   unfolding on-task created-by tasked-by registers-of settled went-as
   task-as stack memory machine task op next =
-      alike acted-as (eqb op T-CREATE) _ _ _ _ (ap (λ (w : Went). acted w (made .change)) (created-as machine (made .did)))
-      (alike acted-as (eqb op T-SET-FIELD) _ _ _ _ (ap (λ (w : Went). acted w (set .change)) (by-as machine (set .did)))
-      (alike acted-as (eqb op T-DELETE) _ _ _ _ (ap (λ (w : Went). acted w (deleted .change)) (by-as machine (deleted .did))) refl))
+      alike acted-as (eqb op T-CREATE) _ _ _ _ (ap (λ (w : MachineResult). acted w (made .change)) (created-as machine (made .did)))
+      (alike acted-as (eqb op T-SET-FIELD) _ _ _ _ (ap (λ (w : MachineResult). acted w (set .change)) (by-as machine (set .did)))
+      (alike acted-as (eqb op T-DELETE) _ _ _ _ (ap (λ (w : MachineResult). acted w (deleted .change)) (by-as machine (deleted .did))) refl))
     where
-      made : Tasked
+      made : RegistersAndChange
       made = op-t-create stack memory (registers-of machine) next (machine .«next_id») task
 
-      set : Tasked
+      set : RegistersAndChange
       set = op-t-set-field stack memory (registers-of machine) next task
 
-      deleted : Tasked
+      deleted : RegistersAndChange
       deleted = op-t-delete stack (registers-of machine) next task
 
   -- ---- each
 
   memory-as : (pool ends : List ℕ) (machine : Machine) (task : Task) (a : OnMemory) → after-memory (phased machine phase) a pool ends task ≡ all-as (after-memory machine a pool ends task)
-  memory-as pool ends machine task a = ap (λ (w : Went). on-all (acted w (keep task)) (a .stack) (a .memory) pool ends) (by-as machine (a .did))
+  memory-as pool ends machine task a = ap (λ (w : MachineResult). on-all (acted w (keep task)) (a .stack) (a .memory) pool ends) (by-as machine (a .did))
 
   frames-as : (stack memory pool ends : List ℕ) (machine : Machine) (task : Task) (op place next : ℕ)
       → on-frames stack memory pool ends (phased machine phase) task op place next ≡ all-as (on-frames stack memory pool ends machine task op place next)
@@ -182,9 +182,9 @@ module _ (phase : Phase) where
   frames-as stack memory pool ends machine task op place next =
       alike all-as (eqb op PUSH-CALLDATA) _ _ _ _ (ap (λ (a : OnPool). after-pool a memory task) (calldata-as stack pool ends machine place next))
       (alike all-as (eqb op T-GET-FIELD) _ _ _ _ (memory-as pool ends machine task (op-t-get-field stack memory (registers-of machine) next task))
-      (alike all-as (eqb op CALL) _ _ _ _ (ap (λ (w : Went). on-all (acted w (keep task)) stack memory pool ends) (call-as stack ends machine next task))
-      (alike all-as (eqb op END-CALL) _ _ _ _ (ap (λ (w : Went). on-all (acted w (keep task)) stack memory pool ends) (end-call-as machine next))
-      (ap (λ (a : Acted). on-all a stack memory pool ends) (task-as stack memory machine task op next)))))
+      (alike all-as (eqb op CALL) _ _ _ _ (ap (λ (w : MachineResult). on-all (acted w (keep task)) stack memory pool ends) (call-as stack ends machine next task))
+      (alike all-as (eqb op END-CALL) _ _ _ _ (ap (λ (w : MachineResult). on-all (acted w (keep task)) stack memory pool ends) (end-call-as machine next))
+      (ap (λ (a : MachineAndChange). on-all a stack memory pool ends) (task-as stack memory machine task op next)))))
 
   extent-as : (stack memory pool ends : List ℕ) (machine : Machine) (task : Task) (op place : ℕ) (extent : Extent)
       → act-by stack memory pool ends (phased machine phase) task op place extent ≡ all-as (act-by stack memory pool ends machine task op place extent)
@@ -199,7 +199,7 @@ module _ (phase : Phase) where
 
   -- ---- an instruction
 
-  inner-did-as : (w : World) (stack memory : List ℕ) (result : Did) → inner-did (rephased phase w) stack memory result ≡ step-as (inner-did w stack memory result)
+  inner-did-as : (w : World) (stack memory : List ℕ) (result : RegistersResult) → inner-did (rephased phase w) stack memory result ≡ step-as (inner-did w stack memory result)
   unfolding inner-did settled step-as
   inner-did-as w stack memory (did.Next registers) = refl
   inner-did-as w stack memory (did.Refused refusal) = refl
@@ -208,7 +208,7 @@ module _ (phase : Phase) where
   unfolding inner registers-of code-of
   inner-as w = inner-did-as w _ _ _
 
-  acts-went-as : (w : World) (slot : ℕ) (a : OnAll) (went : Went) → acts-went (rephased phase w) slot (all-as a) (went-as went) ≡ step-as (acts-went w slot a went)
+  acts-went-as : (w : World) (slot : ℕ) (a : OnAll) (went : MachineResult) → acts-went (rephased phase w) slot (all-as a) (went-as went) ≡ step-as (acts-went w slot a went)
   unfolding acts-went step-as went-as
   acts-went-as w slot a (Onto machine) = refl
   acts-went-as w slot a (Refused refusal) = refl

@@ -20,7 +20,7 @@ use Rattle.machine.specs.declared.Machine.{Machine}
 use Rattle.mechanism.specs.Registers.{registers-of, settled}
 use Rattle.mechanism.specs.Frames.{OnPool, on-pool, intern-sized, intern-calldata, with-entry, calldata-pushed, push-calldata}
 use Rattle.mechanism.specs.Registers.{machine-at}
-use Rattle.mechanism.specs.declared.Went.the-variants.{Onto, Refused}
+use Rattle.mechanism.specs.declared.MachineResult.the-variants.{Onto, Refused}
 use Rattle.laws.proofs.Either.{either}
 use Rattle.laws.proofs.Parts.{Entries, Machined}
 use Rattle.laws.proofs.Values.{boxed-no-vec, no-vec-inside}

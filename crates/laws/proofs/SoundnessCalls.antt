@@ -22,7 +22,7 @@ use Rattle.machine.specs.World.{with-machine}
 use Rattle.machine.specs.Reads.{host-saved, SavedTo, host-save-as, host-save}
 use Rattle.machine.specs.declared.Verb.{Verb}
 use Rattle.machine.specs.declared.Verb.the-variants.{Start, Continue}
-use Rattle.machine.specs.declared.Allowed.{Allowed}
+use Rattle.machine.specs.declared.Permission.{Permission}
 use Rattle.laws.specs.Sound.{Sound}
 use Rattle.laws.specs.After.{world-after, world-saved}
 use Rattle.laws.proofs.Either.{either}
@@ -60,10 +60,10 @@ ended-sound w (outcome.Refused refusal) s = sound (with-machine w (ended (w .mac
 pub allowed-sound : (w : World) (test : Bool) (verb : Verb) → Sound w → Sound (with-machine w (allowed (w .machine) test verb .machine))
 unfolding allowed
 allowed-sound w test Start s =
-    either (λ (a : Allowed). Sound (with-machine w (a .machine))) test _ _ (λ _. sound (with-machine w (fresh (w .machine))) (fresh-sound (machined w s)) (tabled w s)) (λ _. s)
-allowed-sound w test Continue s = either (λ (a : Allowed). Sound (with-machine w (a .machine))) test _ _ (λ _. s) (λ _. s)
+    either (λ (a : Permission). Sound (with-machine w (a .machine))) test _ _ (λ _. sound (with-machine w (fresh (w .machine))) (fresh-sound (machined w s)) (tabled w s)) (λ _. s)
+allowed-sound w test Continue s = either (λ (a : Permission). Sound (with-machine w (a .machine))) test _ _ (λ _. s) (λ _. s)
 
-with-sound : (fuel : ℕ) (w : World) (a : Allowed) → Sound w → Sound (with-machine w (a .machine)) → Sound (world-after (call-with fuel w a))
+with-sound : (fuel : ℕ) (w : World) (a : Permission) → Sound w → Sound (with-machine w (a .machine)) → Sound (world-after (call-with fuel w a))
 unfolding call-with report
 with-sound fuel w a s begins =
     either (λ (r : Reported). Sound (world-after r)) (a .allowed) _ _

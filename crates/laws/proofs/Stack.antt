@@ -33,8 +33,8 @@ use Rattle.mechanism.specs.Stack.{pop-second, pop-first, pop-two, pushed-to, pu
 use Rattle.mechanism.specs.Control.{looping, opened-to, do-two, op-do, looped, op-loop, index-of, op-loop-index, jumped, op-jump-if-false}
 use Rattle.mechanism.specs.Equality.{eq-values, turned-if, op-eq}
 use Rattle.mechanism.specs.declared.Registers.{Registers}
-use Rattle.mechanism.specs.declared.Did.{Did}
-use Rattle.mechanism.specs.declared.Did.the-variants.{Next, Refused}
+use Rattle.mechanism.specs.declared.RegistersResult.{RegistersResult}
+use Rattle.mechanism.specs.declared.RegistersResult.the-variants.{Next, Refused}
 use Rattle.mechanism.specs.declared.PopTwoResult.{PopTwoResult}
 use Rattle.mechanism.specs.declared.PopTwoResult.the-variants.{PoppedTwo, NotPoppedTwo}
 use Rattle.laws.specs.Sound.{Inside}
@@ -59,11 +59,11 @@ pub data Keeps (lent : ℕ) : OnStack → Type 0 where
   refused : (refusal : Refusal) (stack : List ℕ) → Keeps lent (on-stack (Refused refusal) stack)
 
 -- the same of an instruction that leaves the stack
-pub data Goes (lent : ℕ) (stack : List ℕ) : Did → Type 0 where
+pub data Goes (lent : ℕ) (stack : List ℕ) : RegistersResult → Type 0 where
   goes : (registers : Registers) → Registered lent registers stack → Goes lent stack (Next registers)
   stops : (refusal : Refusal) → Goes lent stack (Refused refusal)
 
-pub unwritten : (lent : ℕ) (stack : List ℕ) (did : Did) → Goes lent stack did → Keeps lent (on-stack did stack)
+pub unwritten : (lent : ℕ) (stack : List ℕ) (did : RegistersResult) → Goes lent stack did → Keeps lent (on-stack did stack)
 unwritten lent stack _ (goes registers r) = finished registers stack r
 unwritten lent stack _ (stops refusal) = refused refusal stack
 

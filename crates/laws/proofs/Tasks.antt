@@ -33,7 +33,7 @@ use Rattle.storage.proofs.Laws.{length-title}
 use Rattle.storage.proofs.Soundness.{Living}
 use Rattle.mechanism.specs.Registers.{moved}
 use Rattle.mechanism.specs.declared.Registers.{Registers}
-use Rattle.mechanism.specs.declared.Did.the-variants.{Next, Refused}
+use Rattle.mechanism.specs.declared.RegistersResult.the-variants.{Next, Refused}
 use Rattle.mechanism.specs.declared.PopTwoResult.{PopTwoResult}
 use Rattle.mechanism.specs.Changes.{tasked, applied}
 use Rattle.mechanism.specs.Create.{with-room, if-within, new, if-vector, with-title, titled, with-state, with-two, op-t-create, delete-found, delete-popped, op-t-delete}
@@ -41,7 +41,7 @@ use Rattle.mechanism.specs.Fields.{if-found, owner-popped, owner, field-popped,
 use Rattle.machine.specs.Titles.{retitled, retargeted}
 use Rattle.machine.specs.Titles.{title-length, title-bytes}
 use Rattle.mechanism.specs.declared.Change.{Change}
-use Rattle.mechanism.specs.declared.Tasked.{Tasked}
+use Rattle.mechanism.specs.declared.RegistersAndChange.{RegistersAndChange}
 use Rattle.mechanism.specs.declared.FieldResult.{FieldResult}
 use Rattle.mechanism.specs.declared.FieldResult.the-variants.{Field, NoField}
 use Rattle.laws.proofs.Either.{either}
@@ -53,7 +53,7 @@ use Rattle.laws.proofs.Memory.{beside, store-keeps}
 use Rattle.laws.proofs.Tables.{Lived, put-living, put-lived, deleted, deleted-lived, stated, stated-lived, created, created-lived}
 
 -- finished with a sound table, so many tasks made and deleted; or refused
-pub data Changes (lent : ℕ) (stack : List ℕ) (table : List Task) (slot next-id count made deleted : ℕ) : Tasked → Type 0 where
+pub data Changes (lent : ℕ) (stack : List ℕ) (table : List Task) (slot next-id count made deleted : ℕ) : RegistersAndChange → Type 0 where
   changes : (registers : Registers) (change : Change) → Registered lent registers stack → Tabled (applied table slot change) next-id count
       → Lived table (applied table slot change) made deleted → Changes lent stack table slot next-id count made deleted (tasked (Next registers) change)
   refused : (refusal : Refusal) (change : Change) → Changes lent stack table slot next-id count made deleted (tasked (Refused refusal) change)
@@ -79,7 +79,7 @@ unfolding default-state
 default-told len = either Default (eqb len 0) _ _ (λ _. no-default _) (λ some. default _ (let n = eqb-false len 0 some in omega (arith, n)))
 
 module _ (lent : ℕ) (stack : List ℕ) (table : List Task) (next-id count : ℕ) (t : Tabled table next-id count) where
-  abbrev Made : Tasked → Type 0
+  abbrev Made : RegistersAndChange → Type 0
   Made = Changes lent stack table next-id ((next-id + 1) % 2 ^ 32) (len-after count next-id) 1 0
 
   abbrev id : TaskId
@@ -168,7 +168,7 @@ module _ (lent : ℕ) (stack : List ℕ) (table : List Task) (slot next-id count
 
   -- ---- T_DELETE
 
-  abbrev Deletes : Tasked → Type 0
+  abbrev Deletes : RegistersAndChange → Type 0
   Deletes = Changes lent stack table slot next-id count 0 1
 
   found-deletes : (after : Registers) (result : FindResult) → Registered lent after stack → Finds task result → Deletes (delete-found after task result)
@@ -187,7 +187,7 @@ module _ (lent : ℕ) (stack : List ℕ) (table : List Task) (slot next-id count
 
   -- ---- T_SET_FIELD
 
-  abbrev Sets : Tasked → Type 0
+  abbrev Sets : RegistersAndChange → Type 0
   Sets = Changes lent stack table slot next-id count 0 0
 
   retitled-rules : (title : List ℕ) → Living task (0 + slot) count → Living (retitled task title) (0 + slot) count

@@ -8,7 +8,7 @@ use Rattle.machine.specs.declared.Machine.{Machine}
 use Rattle.machine.specs.declared.Phase.{Phase}
 use Rattle.machine.specs.declared.Phase.the-variants.{New, Paused, Done, Stopped}
 use Rattle.machine.specs.Machines.{rewound}
-use Rattle.machine.specs.declared.Ran.{Ran}
+use Rattle.machine.specs.declared.RunEnd.{RunEnd}
 use Rattle.machine.specs.declared.Outcome.{Outcome}
 use Rattle.machine.specs.declared.Outcome.the-variants as outcome
 use Rattle.machine.specs.World.{World, with-machine}
@@ -17,7 +17,7 @@ use Rattle.machine.specs.Sound.{sound-world}
 use Rattle.machine.specs.declared.Verb.{Verb}
 use Rattle.machine.specs.declared.Verb.the-variants.{Start, Continue}
 use Rattle.machine.specs.declared.Report.{Report}
-use Rattle.machine.specs.declared.Allowed.{Allowed}
+use Rattle.machine.specs.declared.Permission.{Permission}
 
 -- start is for a machine that is new or done
 unfoldable pub may-start : Phase → Bool
@@ -49,16 +49,16 @@ fresh machine = record {
 }
 
 -- whether a call is allowed, and the machine that it begins with
-abbrev pub allowing : Bool → Machine → Allowed
+abbrev pub allowing : Bool → Machine → Permission
 allowing allowed machine = record { allowed = allowed; machine = machine }
 
 -- by its verb and the phase
-abbrev pub beginning : Verb → Machine → Allowed
+abbrev pub beginning : Verb → Machine → Permission
 beginning Start machine = allowing (may-start (machine .phase)) (fresh machine)
 beginning Continue machine = allowing (may-continue (machine .phase)) machine
 
 -- where the record is sound
-unfoldable pub allowed : Machine → Bool → Verb → Allowed
+unfoldable pub allowed : Machine → Bool → Verb → Permission
 allowed machine sound verb = cond sound (beginning verb machine) (allowing false machine)
 
 -- a machine in a phase
@@ -87,7 +87,7 @@ abbrev pub spent : ℕ → ℕ → ℕ
 spent fuel left = fuel - left
 
 -- what a run reports
-unfoldable pub report : ℕ → Ran → Report
+unfoldable pub report : ℕ → RunEnd → Report
 report fuel ran = record { machine = ended (ran .machine) (ran .outcome); finished = spent fuel (ran .left); outcome = ran .outcome }
 
 -- 26: the machine as it was, no instruction finished
@@ -120,7 +120,7 @@ abbrev pub is-sound : World → Bool
 is-sound w = sound-world (w .table) (w .memory) (w .pool) (w .ends) (w .save) (w .machine)
 
 -- a run where it is allowed, else 26
-unfoldable pub call-with : ℕ → World → Allowed → Reported
+unfoldable pub call-with : ℕ → World → Permission → Reported
 call-with fuel w a = cond (a .allowed) (at-end fuel (run fuel (with-machine w (a .machine)))) (reports (not-allowed (w .machine)) w)
 
 unfoldable pub call : Verb → ℕ → World → Reported

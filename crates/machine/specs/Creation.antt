@@ -24,7 +24,7 @@ use Rattle.machine.specs.Machines.{with-pool}
 use Rattle.machine.specs.Calls.{phased}
 use Rattle.machine.specs.declared.CreateResult.{CreateResult}
 use Rattle.machine.specs.declared.CreateResult.the-variants.{Created, NotCreated}
-use Rattle.machine.specs.declared.Prepared.{Prepared}
+use Rattle.machine.specs.declared.Preparation.{Preparation}
 
 -- no loop, and main at its start
 abbrev pub no-loop : Loop
@@ -50,24 +50,24 @@ new-machine bytes entries next-id count = record {
 
 -- what is prepared, and the pool, its ends, the image and the program after it
 pub record PreparedIn : Type 0 where
-  pub ready : Prepared
+  pub ready : Preparation
   pub pool : List ℕ
   pub ends : List ℕ
   pub image : List ℕ
   pub program : List ℕ
 
-abbrev pub prepared : Prepared → List ℕ → List ℕ → List ℕ → List ℕ → PreparedIn
+abbrev pub prepared : Preparation → List ℕ → List ℕ → List ℕ → List ℕ → PreparedIn
 prepared ready pool ends image program = record { ready = ready; pool = pool; ends = ends; image = image; program = program }
 
 -- a creation that is refused, and one that goes on
-unfoldable pub unfit : Refusal → Prepared
+unfoldable pub unfit : Refusal → Preparation
 unfit refusal = record { fits = false; refusal = refusal; machine = new-machine 0 0 0 0; count = 0 }
 
-abbrev pub fit : Machine → ℕ → Prepared
+abbrev pub fit : Machine → ℕ → Preparation
 fit machine count = record { fits = true; refusal = PoolFull; machine = machine; count = count }
 
 -- the program is entry 0
-unfoldable pub with-program : ℕ → ℕ → ℕ → InternResult → Prepared
+unfoldable pub with-program : ℕ → ℕ → ℕ → InternResult → Preparation
 with-program next-id count s-len (Interned entry bytes) = fit (new-machine bytes 1 next-id s-len) count
 with-program next-id count s-len (NotInterned refusal) = unfit refusal
 

@@ -3,7 +3,7 @@ use Prim.Native.Nat.{ℕ, zero, suc}
 use mathlib.Core.Bool.{cond}
 use mathlib.Core.List.{List}
 use Rattle.storage.specs.declared.Task.{Task}
-use Rattle.machine.specs.declared.Ran.{Ran}
+use Rattle.machine.specs.declared.RunEnd.{RunEnd}
 use Rattle.machine.specs.declared.Outcome.{Outcome}
 use Rattle.machine.specs.declared.Outcome.the-variants.{Done, Paused, Refused}
 use Rattle.machine.specs.World.{World, world, at-end}
@@ -21,7 +21,7 @@ abbrev pub end-at : World → ℕ → Outcome → End
 end-at w left outcome = record { world = w; left = left; outcome = outcome }
 
 -- the same as the code answers it
-abbrev pub ran-to : Ran → List Task → List ℕ → List ℕ → List ℕ → List ℕ → List ℕ → End
+abbrev pub ran-to : RunEnd → List Task → List ℕ → List ℕ → List ℕ → List ℕ → List ℕ → End
 ran-to ran table stack memory pool ends save =
     end-at (world (ran .machine) table stack memory pool ends save) (ran .left) (ran .outcome)
 

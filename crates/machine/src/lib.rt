@@ -37,7 +37,7 @@ pub enum Outcome {
 }
 
 // A machine at the end of a run, the fuel that is left, and how the run ended.
-pub struct Ran {
+pub struct RunEnd {
     pub machine: Machine,
     pub left: u64,
     pub outcome: Outcome,
@@ -63,7 +63,7 @@ pub struct Report {
 }
 
 // Whether a call is allowed, and the machine that it begins with.
-pub struct Allowed {
+pub struct Permission {
     pub allowed: bool,
     pub machine: Machine,
 }
@@ -87,7 +87,7 @@ pub struct SaveReport {
 }
 
 // Whether a creation goes on, the machine that it makes before its tasks are loaded, and how many there are.
-pub struct Prepared {
+pub struct Preparation {
     pub fits: bool,
     pub refusal: Refusal,
     pub machine: Machine,

@@ -18,14 +18,14 @@ use Rattle.storage.specs.declared.Task.{Task}
 use Rattle.mechanism.specs.Registers.{OnMemory}
 use Rattle.mechanism.specs.Changes.{keep}
 use Rattle.mechanism.specs.declared.Change.{Change}
-use Rattle.mechanism.specs.declared.Tasked.{Tasked}
+use Rattle.mechanism.specs.declared.RegistersAndChange.{RegistersAndChange}
 use Rattle.machine.specs.declared.Machine.{Machine}
 use Rattle.machine.specs.Machines.{current, code-of}
 use Rattle.mechanism.specs.Frames.{OnPool, on-pool, intern-sized, intern-calldata, calldata-pushed, push-calldata}
 use Rattle.mechanism.specs.Act.{acted, OnAll, on-all, went-by, created, tasked-by, created-by, on-task, after-pool, after-memory, on-frames, act-by, act-at, act}
-use Rattle.mechanism.specs.declared.Went.{Went}
-use Rattle.mechanism.specs.declared.Went.the-variants.{Onto, Refused}
-use Rattle.mechanism.specs.declared.Acted.{Acted}
+use Rattle.mechanism.specs.declared.MachineResult.{MachineResult}
+use Rattle.mechanism.specs.declared.MachineResult.the-variants.{Onto, Refused}
+use Rattle.mechanism.specs.declared.MachineAndChange.{MachineAndChange}
 use Rattle.mechanism.proofs.Either.{either}
 use Rattle.mechanism.proofs.Memory as memory
 use Rattle.mechanism.proofs.Tasks as tasks
@@ -67,7 +67,7 @@ calldata-leaves s m pool ends machine place next task =
 
 -- ---- the others
 
-unwritten : (s m pool ends : List ℕ) (task : Task) (went : Went) → Leaves s m pool ends task (on-all (acted went (keep task)) s m pool ends)
+unwritten : (s m pool ends : List ℕ) (task : Task) (went : MachineResult) → Leaves s m pool ends task (on-all (acted went (keep task)) s m pool ends)
 unwritten s m pool ends task (Onto machine) = finished _ _ _ _ _ _
 unwritten s m pool ends task (Refused refusal) = kept refusal
 
@@ -76,17 +76,17 @@ unfolding went-by
 memory-leaves s m pool ends machine task _ (memory.finished registers s₁ m₁) = finished _ _ _ _ _ _
 memory-leaves s m pool ends machine task _ (memory.kept refusal) = kept refusal
 
-by-leaves : (s m pool ends : List ℕ) (machine : Machine) (task : Task) (a : Tasked) → tasks.Leaves task a → Leaves s m pool ends task (on-all (tasked-by machine a) s m pool ends)
+by-leaves : (s m pool ends : List ℕ) (machine : Machine) (task : Task) (a : RegistersAndChange) → tasks.Leaves task a → Leaves s m pool ends task (on-all (tasked-by machine a) s m pool ends)
 unfolding tasked-by went-by
 by-leaves s m pool ends machine task _ (tasks.finished registers change) = finished _ _ _ _ _ _
 by-leaves s m pool ends machine task _ (tasks.kept refusal) = kept refusal
 
-created-leaves : (s m pool ends : List ℕ) (machine : Machine) (task : Task) (a : Tasked) → tasks.Leaves task a → Leaves s m pool ends task (on-all (created-by machine a) s m pool ends)
+created-leaves : (s m pool ends : List ℕ) (machine : Machine) (task : Task) (a : RegistersAndChange) → tasks.Leaves task a → Leaves s m pool ends task (on-all (created-by machine a) s m pool ends)
 unfolding created-by created
 created-leaves s m pool ends machine task _ (tasks.finished registers change) = finished _ _ _ _ _ _
 created-leaves s m pool ends machine task _ (tasks.kept refusal) = kept refusal
 
-abbrev OnActed : (s m pool ends : List ℕ) → Task → Acted → Type 0
+abbrev OnActed : (s m pool ends : List ℕ) → Task → MachineAndChange → Type 0
 OnActed s m pool ends task a = Leaves s m pool ends task (on-all a s m pool ends)
 
 task-leaves : (s m pool ends : List ℕ) (machine : Machine) (task : Task) (op next : ℕ) → Leaves s m pool ends task (on-all (on-task s m machine task op next) s m pool ends)

@@ -15,7 +15,7 @@ use Rattle.table_image.specs.Tables.{Held, held, in-use, loading}
 use Rattle.table_image.specs.declared.InUse.{InUse}
 use Rattle.memory.specs.declared.unbox.Return.{Return}
 use Rattle.machine.specs.declared.Machine.{Machine}
-use Rattle.machine.specs.declared.Ran.{Ran}
+use Rattle.machine.specs.declared.RunEnd.{RunEnd}
 use Rattle.machine.specs.World.{world}
 use Rattle.machine.specs.Run.{ran-to, run}
 use Rattle.machine.specs.Sound.{Tested, tested, Beside, beside, sound-record, sound-world}
@@ -23,10 +23,10 @@ use Rattle.machine.specs.Calls.{reported, allowed, report, not-allowed, at-end,
 use Rattle.machine.specs.Reads.{read-to, value-at, value-read, task-at, task-read, saved-to, host-saved, not-saved, host-save-as, host-save}
 use Rattle.machine.specs.Reads as reads
 use Rattle.machine.specs.Creation.{prepared, prepare, made, created, loaded, create-as, create}
-use Rattle.machine.specs.declared.Allowed.{Allowed}
+use Rattle.machine.specs.declared.Permission.{Permission}
 use Rattle.machine.specs.declared.Verb.{Verb}
 use Rattle.machine.specs.declared.Report.{Report}
-use Rattle.machine.specs.declared.Prepared.{Prepared}
+use Rattle.machine.specs.declared.Preparation.{Preparation}
 use Rattle.machine.specs.declared.CreateResult.{CreateResult}
 use Rattle.machine.specs.declared.CreateResult.the-variants.{NotCreated}
 use Rattle.machine.specs.declared.TaskRead.{TaskRead}
@@ -46,7 +46,7 @@ tests table memory pool ends save machine {good} {answer} {table′} e f =
 
 -- ---- creation
 
-module _ (table : List Task) (pool ends image program : List ℕ) {ready : Prepared} {pool′ ends′ image′ program′ : List ℕ}
+module _ (table : List Task) (pool ends image program : List ℕ) {ready : Preparation} {pool′ ends′ image′ program′ : List ℕ}
     (e : prepared ready pool′ ends′ image′ program′ ≡ prepare pool ends image program (length table)) where
   -- it goes on to the image's tasks
   pub creates : {used : InUse} {r : CreateResult} {table″ : List Task} {pool″ ends″ image″ : List ℕ} → ready .fits ≡ true
@@ -73,7 +73,7 @@ module _ (machine : Machine) (table : List Task) (stack memory pool ends save : 
   calls verb fuel = ap (λ (t : Tested). call-with fuel (world machine (t .table) stack (t .memory) (t .pool) (t .ends) (t .save)) (allowed machine (t .answer) verb)) e
 
   -- one that is allowed
-  pub calls-run : (verb : Verb) (fuel : ℕ) {a : Allowed} {ran : Ran} {r : Report} {table″ : List Task} {stack″ memory″ pool″ ends″ save″ : List ℕ} → a ≡ allowed machine good verb → a .allowed ≡ true
+  pub calls-run : (verb : Verb) (fuel : ℕ) {a : Permission} {ran : RunEnd} {r : Report} {table″ : List Task} {stack″ memory″ pool″ ends″ save″ : List ℕ} → a ≡ allowed machine good verb → a .allowed ≡ true
       → ran-to ran table″ stack″ memory″ pool″ ends″ save″ ≡ run fuel (world (a .machine) table′ stack memory′ pool′ ends′ save′) → r ≡ report fuel ran
       → reported r table″ stack″ memory″ pool″ ends″ save″ ≡ call verb fuel (world machine table stack memory pool ends save)
   unfolding call-with
@@ -82,7 +82,7 @@ module _ (machine : Machine) (table : List Task) (stack memory pool ends save : 
       ∙ sym (simp (may)) ∙ ap (call-with fuel (world machine table′ stack memory′ pool′ ends′ save′)) begun ∙ calls verb fuel
 
   -- one that is not
-  pub calls-none : (verb : Verb) (fuel : ℕ) {a : Allowed} {r : Report} → a ≡ allowed machine good verb → a .allowed ≡ false → r ≡ not-allowed machine
+  pub calls-none : (verb : Verb) (fuel : ℕ) {a : Permission} {r : Report} → a ≡ allowed machine good verb → a .allowed ≡ false → r ≡ not-allowed machine
       → reported r table′ stack memory′ pool′ ends′ save′ ≡ call verb fuel (world machine table stack memory pool ends save)
   unfolding call-with
   calls-none verb fuel begun may reports =

@@ -27,16 +27,16 @@ use Rattle.machine.proofs.Machine.Laws as machine-laws
 use Rattle.mechanism.specs.declared.Change.{Change}
 use Rattle.mechanism.proofs.Change as change
 use Rattle.mechanism.proofs.Change.Laws as change-laws
-use Rattle.mechanism.specs.declared.Acted.{Acted}
-use Rattle.mechanism.proofs.Acted as acted
-use Rattle.mechanism.proofs.Acted.Laws as acted-laws
-use Rattle.mechanism.specs.declared.Gone.{Gone}
-use Rattle.mechanism.proofs.Gone as gone
-use Rattle.mechanism.proofs.Gone.Laws as gone-laws
-use Rattle.mechanism.proofs.Went as went
-use Rattle.mechanism.specs.declared.Stated.{Stated}
-use Rattle.mechanism.proofs.Stated as stated
-use Rattle.mechanism.proofs.Stated.Laws as stated-laws
+use Rattle.mechanism.specs.declared.MachineAndChange.{MachineAndChange}
+use Rattle.mechanism.proofs.MachineAndChange as acted
+use Rattle.mechanism.proofs.MachineAndChange.Laws as acted-laws
+use Rattle.mechanism.specs.declared.Progress.{Progress}
+use Rattle.mechanism.proofs.Progress as gone
+use Rattle.mechanism.proofs.Progress.Laws as gone-laws
+use Rattle.mechanism.proofs.MachineResult as went
+use Rattle.mechanism.specs.declared.StateAnswer.{StateAnswer}
+use Rattle.mechanism.proofs.StateAnswer as stated
+use Rattle.mechanism.proofs.StateAnswer.Laws as stated-laws
 use Rattle.mechanism.proofs.Values.{machine-shut, machine-vals, change-shut, change-vals, went-shut, went-vals, acted-shut, acted-vals, gone-shut, gone-vals, stated-shut, stated-vals}
 open Shut machine-shut using (val as machine-val)
 open Shut change-shut using (val as change-val, ty as change-ty)
@@ -66,33 +66,33 @@ unfolding change-shut
 task-is c is = struct.owed change.the-type change-laws.the-laws c (change-vals c) is .1 .1 .1 .0
 
 -- of an answer
-pub went-is : (a : Acted) → Is acted.the-row a (acted-vals a) → Is went.the-row (a .went) (went-vals (a .went))
+pub went-is : (a : MachineAndChange) → Is acted.the-row a (acted-vals a) → Is went.the-row (a .went) (went-vals (a .went))
 unfolding acted-shut went-shut
 went-is a is = struct.owed acted.the-type acted-laws.the-laws a (acted-vals a) is .0
 
-pub change-is : (a : Acted) → Is acted.the-row a (acted-vals a) → Is change.the-row (a .change) (change-vals (a .change))
+pub change-is : (a : MachineAndChange) → Is acted.the-row a (acted-vals a) → Is change.the-row (a .change) (change-vals (a .change))
 unfolding acted-shut change-shut
 change-is a is = struct.owed acted.the-type acted-laws.the-laws a (acted-vals a) is .1 .0
 
 -- of what an instruction on a state answers
-pub new-state-fits : (s : Stated) → Is stated.the-row s (stated-vals s) → s .state < 2 ^ 32
+pub new-state-fits : (s : StateAnswer) → Is stated.the-row s (stated-vals s) → s .state < 2 ^ 32
 unfolding stated-shut
 new-state-fits s is = struct.owed stated.the-type stated-laws.the-laws s (stated-vals s) is .1 .1 .0 .1
 
-pub stated-went-is : (s : Stated) → Is stated.the-row s (stated-vals s) → Is went.the-row (s .went) (went-vals (s .went))
+pub stated-went-is : (s : StateAnswer) → Is stated.the-row s (stated-vals s) → Is went.the-row (s .went) (went-vals (s .went))
 unfolding stated-shut went-shut
 stated-went-is s is = struct.owed stated.the-type stated-laws.the-laws s (stated-vals s) is .1 .1 .1 .0
 
 -- of a machine on its way
-pub machine-is : (g : Gone) → Is gone.the-row g (gone-vals g) → Is machine.the-row (g .machine) (machine-vals (g .machine))
+pub machine-is : (g : Progress) → Is gone.the-row g (gone-vals g) → Is machine.the-row (g .machine) (machine-vals (g .machine))
 unfolding gone-shut machine-shut
 machine-is g is = struct.owed gone.the-type gone-laws.the-laws g (gone-vals g) is .0
 
-pub left-fits : (g : Gone) → Is gone.the-row g (gone-vals g) → g .left < 2 ^ 64
+pub left-fits : (g : Progress) → Is gone.the-row g (gone-vals g) → g .left < 2 ^ 64
 unfolding gone-shut
 left-fits g is = struct.owed gone.the-type gone-laws.the-laws g (gone-vals g) is .1 .0 .1
 
-pub op-fits : (g : Gone) → Is gone.the-row g (gone-vals g) → g .op < 2 ^ 8
+pub op-fits : (g : Progress) → Is gone.the-row g (gone-vals g) → g .op < 2 ^ 8
 unfolding gone-shut
 op-fits g is = struct.owed gone.the-type gone-laws.the-laws g (gone-vals g) is .1 .1 .1 .0 .1
 
@@ -115,37 +115,37 @@ module _ {M : Type 1} {𝓤 : URA M} {H : Heap 𝓤} {A : Atoms 𝓤} {K : Type 
       (sub t j f (subst (λ (v : Val). Part K W (‵ (fat fullShare (tyStruct ν τs) l 0 (vstruct vs))) fullShare (tyStruct ν′ τs′) l (0 + d) v (λ w. ‵ (fat fullShare (tyStruct ν τs) l 0 (vstruct (setV vs k w))))) inside (sub t k e (whole t))))))
 
   -- of a machine on its way
-  pub take-machine : K → (i n : ℕ) (g : Gone) {l : ℕ} → spotOf 𝓤 H E i ≡ (gone-ty, l, 0) → nth 𝓤 H A n Γ ≡ ‵ (fat fullShare gone-ty l 0 (gone-val g)) → Opd K W Γ E (copy (place i (field 0 ∷ []))) (machine-val (g .machine))
+  pub take-machine : K → (i n : ℕ) (g : Progress) {l : ℕ} → spotOf 𝓤 H E i ≡ (gone-ty, l, 0) → nth 𝓤 H A n Γ ≡ ‵ (fat fullShare gone-ty l 0 (gone-val g)) → Opd K W Γ E (copy (place i (field 0 ∷ []))) (machine-val (g .machine))
   unfolding gone-shut machine-shut
   take-machine t i n g at holds = taken t 0 i n refl at holds
 
-  pub take-left : K → (i n : ℕ) (g : Gone) {l : ℕ} → spotOf 𝓤 H E i ≡ (gone-ty, l, 0) → nth 𝓤 H A n Γ ≡ ‵ (fat fullShare gone-ty l 0 (gone-val g)) → Opd K W Γ E (copy (place i (field 1 ∷ []))) (vint w64 (g .left))
+  pub take-left : K → (i n : ℕ) (g : Progress) {l : ℕ} → spotOf 𝓤 H E i ≡ (gone-ty, l, 0) → nth 𝓤 H A n Γ ≡ ‵ (fat fullShare gone-ty l 0 (gone-val g)) → Opd K W Γ E (copy (place i (field 1 ∷ []))) (vint w64 (g .left))
   unfolding gone-shut
   take-left t i n g at holds = taken t 1 i n refl at holds
 
-  pub take-running : K → (i n : ℕ) (g : Gone) {l : ℕ} → spotOf 𝓤 H E i ≡ (gone-ty, l, 0) → nth 𝓤 H A n Γ ≡ ‵ (fat fullShare gone-ty l 0 (gone-val g)) → Opd K W Γ E (copy (place i (field 2 ∷ []))) (vbool (g .running))
+  pub take-running : K → (i n : ℕ) (g : Progress) {l : ℕ} → spotOf 𝓤 H E i ≡ (gone-ty, l, 0) → nth 𝓤 H A n Γ ≡ ‵ (fat fullShare gone-ty l 0 (gone-val g)) → Opd K W Γ E (copy (place i (field 2 ∷ []))) (vbool (g .running))
   unfolding gone-shut
   take-running t i n g at holds = taken t 2 i n refl at holds
 
-  pub take-op : K → (i n : ℕ) (g : Gone) {l : ℕ} → spotOf 𝓤 H E i ≡ (gone-ty, l, 0) → nth 𝓤 H A n Γ ≡ ‵ (fat fullShare gone-ty l 0 (gone-val g)) → Opd K W Γ E (copy (place i (field 3 ∷ []))) (vint w8 (g .op))
+  pub take-op : K → (i n : ℕ) (g : Progress) {l : ℕ} → spotOf 𝓤 H E i ≡ (gone-ty, l, 0) → nth 𝓤 H A n Γ ≡ ‵ (fat fullShare gone-ty l 0 (gone-val g)) → Opd K W Γ E (copy (place i (field 3 ∷ []))) (vint w8 (g .op))
   unfolding gone-shut
   take-op t i n g at holds = taken t 3 i n refl at holds
 
   -- of the machine in it
-  pub take-entries : K → (i n : ℕ) (g : Gone) {l : ℕ} → spotOf 𝓤 H E i ≡ (gone-ty, l, 0) → nth 𝓤 H A n Γ ≡ ‵ (fat fullShare gone-ty l 0 (gone-val g)) → Opd K W Γ E (copy (place i (field 0 ∷ field 6 ∷ []))) (vint w64 (g .machine .entries))
+  pub take-entries : K → (i n : ℕ) (g : Progress) {l : ℕ} → spotOf 𝓤 H E i ≡ (gone-ty, l, 0) → nth 𝓤 H A n Γ ≡ ‵ (fat fullShare gone-ty l 0 (gone-val g)) → Opd K W Γ E (copy (place i (field 0 ∷ field 6 ∷ []))) (vint w64 (g .machine .entries))
   unfolding gone-shut
   take-entries t i n g at holds = taken-in t 0 6 i n refl refl refl at holds
 
-  pub take-next-id : K → (i n : ℕ) (g : Gone) {l : ℕ} → spotOf 𝓤 H E i ≡ (gone-ty, l, 0) → nth 𝓤 H A n Γ ≡ ‵ (fat fullShare gone-ty l 0 (gone-val g)) → Opd K W Γ E (copy (place i (field 0 ∷ field 7 ∷ []))) (vint w32 (g .machine .«next_id»))
+  pub take-next-id : K → (i n : ℕ) (g : Progress) {l : ℕ} → spotOf 𝓤 H E i ≡ (gone-ty, l, 0) → nth 𝓤 H A n Γ ≡ ‵ (fat fullShare gone-ty l 0 (gone-val g)) → Opd K W Γ E (copy (place i (field 0 ∷ field 7 ∷ []))) (vint w32 (g .machine .«next_id»))
   unfolding gone-shut
   take-next-id t i n g at holds = taken-in t 0 7 i n refl refl refl at holds
 
   -- of an answer
-  pub take-went : K → (i n : ℕ) (a : Acted) {l : ℕ} → spotOf 𝓤 H E i ≡ (acted-ty, l, 0) → nth 𝓤 H A n Γ ≡ ‵ (fat fullShare acted-ty l 0 (acted-val a)) → Opd K W Γ E (copy (place i (field 0 ∷ []))) (went-val (a .went))
+  pub take-went : K → (i n : ℕ) (a : MachineAndChange) {l : ℕ} → spotOf 𝓤 H E i ≡ (acted-ty, l, 0) → nth 𝓤 H A n Γ ≡ ‵ (fat fullShare acted-ty l 0 (acted-val a)) → Opd K W Γ E (copy (place i (field 0 ∷ []))) (went-val (a .went))
   unfolding acted-shut went-shut
   take-went t i n a at holds = taken t 0 i n refl at holds
 
-  pub take-change : K → (i n : ℕ) (a : Acted) {l : ℕ} → spotOf 𝓤 H E i ≡ (acted-ty, l, 0) → nth 𝓤 H A n Γ ≡ ‵ (fat fullShare acted-ty l 0 (acted-val a)) → Opd K W Γ E (copy (place i (field 1 ∷ []))) (change-val (a .change))
+  pub take-change : K → (i n : ℕ) (a : MachineAndChange) {l : ℕ} → spotOf 𝓤 H E i ≡ (acted-ty, l, 0) → nth 𝓤 H A n Γ ≡ ‵ (fat fullShare acted-ty l 0 (acted-val a)) → Opd K W Γ E (copy (place i (field 1 ∷ []))) (change-val (a .change))
   unfolding acted-shut change-shut
   take-change t i n a at holds = taken t 1 i n refl at holds
 
@@ -167,19 +167,19 @@ module _ {M : Type 1} {𝓤 : URA M} {H : Heap 𝓤} {A : Atoms 𝓤} {K : Type 
   take-task t i n c at holds = taken t 3 i n refl at holds
 
   -- of what an instruction on a state answers
-  pub take-whole : K → (i n : ℕ) (s : Stated) {l : ℕ} → spotOf 𝓤 H E i ≡ (stated-ty, l, 0) → nth 𝓤 H A n Γ ≡ ‵ (fat fullShare stated-ty l 0 (stated-val s)) → Opd K W Γ E (copy (place i (field 0 ∷ []))) (vbool (s .whole))
+  pub take-whole : K → (i n : ℕ) (s : StateAnswer) {l : ℕ} → spotOf 𝓤 H E i ≡ (stated-ty, l, 0) → nth 𝓤 H A n Γ ≡ ‵ (fat fullShare stated-ty l 0 (stated-val s)) → Opd K W Γ E (copy (place i (field 0 ∷ []))) (vbool (s .whole))
   unfolding stated-shut
   take-whole t i n s at holds = taken t 0 i n refl at holds
 
-  pub take-sets : K → (i n : ℕ) (s : Stated) {l : ℕ} → spotOf 𝓤 H E i ≡ (stated-ty, l, 0) → nth 𝓤 H A n Γ ≡ ‵ (fat fullShare stated-ty l 0 (stated-val s)) → Opd K W Γ E (copy (place i (field 1 ∷ []))) (vbool (s .states))
+  pub take-sets : K → (i n : ℕ) (s : StateAnswer) {l : ℕ} → spotOf 𝓤 H E i ≡ (stated-ty, l, 0) → nth 𝓤 H A n Γ ≡ ‵ (fat fullShare stated-ty l 0 (stated-val s)) → Opd K W Γ E (copy (place i (field 1 ∷ []))) (vbool (s .states))
   unfolding stated-shut
   take-sets t i n s at holds = taken t 1 i n refl at holds
 
-  pub take-new-state : K → (i n : ℕ) (s : Stated) {l : ℕ} → spotOf 𝓤 H E i ≡ (stated-ty, l, 0) → nth 𝓤 H A n Γ ≡ ‵ (fat fullShare stated-ty l 0 (stated-val s)) → Opd K W Γ E (copy (place i (field 2 ∷ []))) (vint w32 (s .state))
+  pub take-new-state : K → (i n : ℕ) (s : StateAnswer) {l : ℕ} → spotOf 𝓤 H E i ≡ (stated-ty, l, 0) → nth 𝓤 H A n Γ ≡ ‵ (fat fullShare stated-ty l 0 (stated-val s)) → Opd K W Γ E (copy (place i (field 2 ∷ []))) (vint w32 (s .state))
   unfolding stated-shut
   take-new-state t i n s at holds = taken t 2 i n refl at holds
 
-  pub take-stated-went : K → (i n : ℕ) (s : Stated) {l : ℕ} → spotOf 𝓤 H E i ≡ (stated-ty, l, 0) → nth 𝓤 H A n Γ ≡ ‵ (fat fullShare stated-ty l 0 (stated-val s)) → Opd K W Γ E (copy (place i (field 3 ∷ []))) (went-val (s .went))
+  pub take-stated-went : K → (i n : ℕ) (s : StateAnswer) {l : ℕ} → spotOf 𝓤 H E i ≡ (stated-ty, l, 0) → nth 𝓤 H A n Γ ≡ ‵ (fat fullShare stated-ty l 0 (stated-val s)) → Opd K W Γ E (copy (place i (field 3 ∷ []))) (went-val (s .went))
   unfolding stated-shut went-shut
   take-stated-went t i n s at holds = taken t 3 i n refl at holds
 

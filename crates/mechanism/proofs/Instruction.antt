@@ -14,8 +14,8 @@ use Rattle.bytecode.specs.declared.OperandResult.{OperandResult}
 use Rattle.bytecode.specs.declared.OperandResult.the-variants.{Operand, NoOperand}
 use Rattle.mechanism.specs.Registers.{OnStack, on-stack, OnMemory, on-memory}
 use Rattle.mechanism.specs.declared.Registers.{Registers}
-use Rattle.mechanism.specs.declared.Did.{Did}
-use Rattle.mechanism.specs.declared.Did.the-variants.{Next, Refused}
+use Rattle.mechanism.specs.declared.RegistersResult.{RegistersResult}
+use Rattle.mechanism.specs.declared.RegistersResult.the-variants.{Next, Refused}
 use Rattle.mechanism.specs.Operated.{with-operand, push-u32, push-u8, muli, m-st, m-sti-of, m-sti}
 use Rattle.mechanism.specs.Execute.{plain, operated, is-equality, execute, by-extent, instruct}
 use Rattle.mechanism.proofs.Either.{either}
@@ -90,7 +90,7 @@ execute-leaves s memory code registers next op count =
     (either (Leaves s memory) (eqb op M-MUTA) _ _ (m-muta-leaves s memory registers next)
     (beside s memory _ (operated-leaves s code registers next op count)))))
 
-unwritten-either : (s memory : List ℕ) (did : Did) → Leaves s memory (on-memory did s memory)
+unwritten-either : (s memory : List ℕ) (did : RegistersResult) → Leaves s memory (on-memory did s memory)
 unwritten-either s memory (Next registers) = finished registers s memory
 unwritten-either s memory (Refused refusal) = kept refusal
 

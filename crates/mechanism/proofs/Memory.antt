@@ -30,8 +30,8 @@ use Rattle.inlinevec.specs.declared.PopResult.the-variants.{Popped, NotPopped}
 use Rattle.mechanism.specs.Registers.{OnStack, OnMemory, on-memory}
 use Rattle.mechanism.specs.Store.{ChangedIn, changed-in, placed, store, sized, op-m-st, mut-in-use, ChangedTo, changed-to, mutated, mutate-at, mutate, mutate-last, mutate-two, op-m-muta}
 use Rattle.mechanism.specs.declared.Registers.{Registers}
-use Rattle.mechanism.specs.declared.Did.{Did}
-use Rattle.mechanism.specs.declared.Did.the-variants.{Next, Refused}
+use Rattle.mechanism.specs.declared.RegistersResult.{RegistersResult}
+use Rattle.mechanism.specs.declared.RegistersResult.the-variants.{Next, Refused}
 use Rattle.mechanism.specs.declared.PopTwoResult.{PopTwoResult}
 use Rattle.mechanism.specs.declared.PopTwoResult.the-variants.{PoppedTwo, NotPoppedTwo}
 use Rattle.mechanism.proofs.Either.{either}

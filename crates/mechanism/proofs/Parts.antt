@@ -57,7 +57,7 @@ use Rattle.mechanism.specs.Cut.{cut, cut-muli, cut-value, cut-m-st, cut-
 use Rattle.mechanism.specs.Execute.{kept, changed, plain, operated, is-equality, execute, by-extent}
 use Rattle.mechanism.specs.Step.{inner-did, on-registers}
 use Rattle.mechanism.specs.declared.Registers.{Registers}
-use Rattle.mechanism.specs.declared.Did.the-variants.{Next, Refused}
+use Rattle.mechanism.specs.declared.RegistersResult.the-variants.{Next, Refused}
 use Rattle.mechanism.specs.declared.PopTwoResult.{PopTwoResult}
 use Rattle.mechanism.specs.declared.PopTwoResult.the-variants.{PoppedTwo, NotPoppedTwo}
 use Rattle.mechanism.proofs.Settled.{on-bool}

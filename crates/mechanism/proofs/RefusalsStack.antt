@@ -21,8 +21,8 @@ use Rattle.mechanism.specs.Stack.{pop-two, pushed-to, push-value, finish
 use Rattle.mechanism.specs.Control.{index-of, op-loop-index}
 use Rattle.mechanism.specs.Equality.{op-eq}
 use Rattle.mechanism.specs.declared.Registers.{Registers}
-use Rattle.mechanism.specs.declared.Did.{Did}
-use Rattle.mechanism.specs.declared.Did.the-variants.{Next, Refused}
+use Rattle.mechanism.specs.declared.RegistersResult.{RegistersResult}
+use Rattle.mechanism.specs.declared.RegistersResult.the-variants.{Next, Refused}
 use Rattle.mechanism.specs.declared.PopTwoResult.{PopTwoResult}
 use Rattle.mechanism.specs.declared.PopTwoResult.the-variants.{PoppedTwo, NotPoppedTwo}
 
@@ -32,7 +32,7 @@ pub data Leaves (stack : List ℕ) : OnStack → Type 0 where
   kept : (refusal : Refusal) → Leaves stack (on-stack (Refused refusal) stack)
 
 -- an instruction that does not write the stack
-pub unwritten : (stack : List ℕ) (did : Did) → Leaves stack (on-stack did stack)
+pub unwritten : (stack : List ℕ) (did : RegistersResult) → Leaves stack (on-stack did stack)
 unwritten stack (Next registers) = finished registers stack
 unwritten stack (Refused refusal) = kept refusal
 

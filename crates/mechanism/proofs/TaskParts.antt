@@ -66,11 +66,11 @@ use Rattle.mechanism.specs.Turns.{save-went}
 use Rattle.mechanism.specs.Act.{OnAll, acted, on-all, went-by, created, tasked-by, created-by, after-pool, after-memory, on-frames, act-by, cut}
 use Rattle.mechanism.specs.Step.{inner-did, on-registers, acts-went, on-record, saves-went, saves}
 use Rattle.mechanism.specs.declared.Registers.{Registers}
-use Rattle.mechanism.specs.declared.Did.{Did}
-use Rattle.mechanism.specs.declared.Did.the-variants as did
-use Rattle.mechanism.specs.declared.Went.{Went}
-use Rattle.mechanism.specs.declared.Went.the-variants.{Onto, Refused}
-use Rattle.mechanism.specs.declared.Tasked.{Tasked}
+use Rattle.mechanism.specs.declared.RegistersResult.{RegistersResult}
+use Rattle.mechanism.specs.declared.RegistersResult.the-variants as did
+use Rattle.mechanism.specs.declared.MachineResult.{MachineResult}
+use Rattle.mechanism.specs.declared.MachineResult.the-variants.{Onto, Refused}
+use Rattle.mechanism.specs.declared.RegistersAndChange.{RegistersAndChange}
 use Rattle.mechanism.specs.declared.FieldResult.{FieldResult}
 use Rattle.mechanism.specs.declared.FieldResult.the-variants.{Field, NoField}
 use Rattle.mechanism.specs.declared.PopTwoResult.{PopTwoResult}
@@ -87,7 +87,7 @@ module _ (w : World) where
   abbrev slot : ℕ → Task
   slot i = getD (w .table) i blank
 
-  abbrev on-slot : ℕ → Tasked → StepResult
+  abbrev on-slot : ℕ → RegistersAndChange → StepResult
   on-slot i answer = on-record w i (on-all (tasked-by (w .machine) answer) (w .stack) (w .memory) (w .pool) (w .ends))
 
   -- the slot that the value on top names
@@ -113,7 +113,7 @@ module _ (w : World) where
   abbrev next-id : ℕ
   next-id = w .machine .«next_id»
 
-  abbrev on-next : Tasked → StepResult
+  abbrev on-next : RegistersAndChange → StepResult
   on-next answer = on-record w next-id (on-all (created-by (w .machine) answer) (w .stack) (w .memory) (w .pool) (w .ends))
 
   -- the task in the next slot: 20, 21
@@ -203,7 +203,7 @@ module _ (w : World) where
         (λ field above e. rw (told field above e) (by-field field above))
 
   -- an instruction that leaves the slot
-  slot-left : (i : ℕ) (a : Did) (stack memory : List ℕ) → on-record w i (after-memory (w .machine) (on-memory a stack memory) (w .pool) (w .ends) (slot i)) ≡ on-registers w (on-memory a stack memory)
+  slot-left : (i : ℕ) (a : RegistersResult) (stack memory : List ℕ) → on-record w i (after-memory (w .machine) (on-memory a stack memory) (w .pool) (w .ends) (slot i)) ≡ on-registers w (on-memory a stack memory)
   unfolding acts-went went-by applied inner-did
   slot-left i (did.Next registers) stack memory = refl
   slot-left i (did.Refused refusal) stack memory = refl
@@ -256,7 +256,7 @@ module _ (w : World) where
 
   -- ---- CALL and END_CALL
 
-  abbrev on-went : ℕ → Went → StepResult
+  abbrev on-went : ℕ → MachineResult → StepResult
   on-went i a = on-record w i (on-all (acted a (keep (slot i))) (w .stack) (w .memory) (w .pool) (w .ends))
 
   frame-is : (i below : ℕ) (a : FramesResult) → on-went i (framed (machine-at (w .machine) (place w + 1) below) a) ≡ frame-pushed a (λ frames. next (with-frame (opcodes.onward w below) frames))

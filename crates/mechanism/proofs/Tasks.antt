@@ -25,14 +25,14 @@ use Rattle.storage.specs.declared.RoomResult.the-variants.{Room, NoRoom}
 use Rattle.storage.specs.declared.StateResult.{StateResult}
 use Rattle.storage.specs.declared.StateResult.the-variants.{Set, NotSet}
 use Rattle.mechanism.specs.declared.Registers.{Registers}
-use Rattle.mechanism.specs.declared.Did.the-variants.{Next, Refused}
+use Rattle.mechanism.specs.declared.RegistersResult.the-variants.{Next, Refused}
 use Rattle.mechanism.specs.declared.PopTwoResult.{PopTwoResult}
 use Rattle.mechanism.specs.declared.PopTwoResult.the-variants.{PoppedTwo, NotPoppedTwo}
 use Rattle.mechanism.specs.Changes.{tasked, refused}
 use Rattle.mechanism.specs.Create.{with-room, if-within, new, if-vector, with-title, titled, with-state, with-two, op-t-create, delete-found, delete-popped, op-t-delete}
 use Rattle.mechanism.specs.Fields.{get-field, get-found, op-t-get-field, title-within, set-title, title-vector, state-answered, set-state, set-instructions, set-field, set-popped, set-found, op-t-set-field}
 use Rattle.mechanism.specs.declared.Change.{Change}
-use Rattle.mechanism.specs.declared.Tasked.{Tasked}
+use Rattle.mechanism.specs.declared.RegistersAndChange.{RegistersAndChange}
 use Rattle.mechanism.specs.declared.FieldResult.{FieldResult}
 use Rattle.mechanism.specs.declared.FieldResult.the-variants.{Field, NoField}
 use Rattle.mechanism.proofs.Either.{either}
@@ -41,7 +41,7 @@ use Rattle.mechanism.proofs.Memory as memory
 use Rattle.mechanism.proofs.Memory.{beside, store-leaves}
 
 -- finished with some change, or refused with none
-pub data Leaves (task : Task) : Tasked → Type 0 where
+pub data Leaves (task : Task) : RegistersAndChange → Type 0 where
   finished : (registers : Registers) (change : Change) → Leaves task (tasked (Next registers) change)
   kept : (refusal : Refusal) → Leaves task (refused task refusal)
 

@@ -8,21 +8,21 @@ use Rattle.machine.proofs.Machine.Laws as machine-laws
 use Rattle.mechanism.specs.declared.Change.{Change}
 use Rattle.mechanism.proofs.Change as change
 use Rattle.mechanism.proofs.Change.Laws as change-laws
-use Rattle.mechanism.specs.declared.Acted.{Acted}
-use Rattle.mechanism.proofs.Acted as acted
-use Rattle.mechanism.proofs.Acted.Laws as acted-laws
-use Rattle.mechanism.specs.declared.Gone.{Gone}
-use Rattle.mechanism.proofs.Gone as gone
-use Rattle.mechanism.proofs.Gone.Laws as gone-laws
-use Rattle.machine.specs.declared.Ran.{Ran}
-use Rattle.machine.proofs.Ran as ran
-use Rattle.machine.proofs.Ran.Laws as ran-laws
-use Rattle.mechanism.specs.declared.Went.{Went}
-use Rattle.mechanism.proofs.Went as went
-use Rattle.mechanism.proofs.Went.Laws as went-laws
-use Rattle.mechanism.specs.declared.Stated.{Stated}
-use Rattle.mechanism.proofs.Stated as stated
-use Rattle.mechanism.proofs.Stated.Laws as stated-laws
+use Rattle.mechanism.specs.declared.MachineAndChange.{MachineAndChange}
+use Rattle.mechanism.proofs.MachineAndChange as acted
+use Rattle.mechanism.proofs.MachineAndChange.Laws as acted-laws
+use Rattle.mechanism.specs.declared.Progress.{Progress}
+use Rattle.mechanism.proofs.Progress as gone
+use Rattle.mechanism.proofs.Progress.Laws as gone-laws
+use Rattle.machine.specs.declared.RunEnd.{RunEnd}
+use Rattle.machine.proofs.RunEnd as ran
+use Rattle.machine.proofs.RunEnd.Laws as ran-laws
+use Rattle.mechanism.specs.declared.MachineResult.{MachineResult}
+use Rattle.mechanism.proofs.MachineResult as went
+use Rattle.mechanism.proofs.MachineResult.Laws as went-laws
+use Rattle.mechanism.specs.declared.StateAnswer.{StateAnswer}
+use Rattle.mechanism.proofs.StateAnswer as stated
+use Rattle.mechanism.proofs.StateAnswer.Laws as stated-laws
 
 -- a machine
 unfoldable pub machine-shut : Shut machine.the-row
@@ -42,33 +42,33 @@ change-vals = vals change-shut
 unfoldable pub acted-shut : Shut acted.the-row
 acted-shut = of-struct acted.the-type acted-laws.the-laws acted-laws.the-plain
 
-abbrev pub acted-vals : Acted → List Val
+abbrev pub acted-vals : MachineAndChange → List Val
 acted-vals = vals acted-shut
 
 -- a machine on its way
 unfoldable pub gone-shut : Shut gone.the-row
 gone-shut = of-struct gone.the-type gone-laws.the-laws gone-laws.the-plain
 
-abbrev pub gone-vals : Gone → List Val
+abbrev pub gone-vals : Progress → List Val
 gone-vals = vals gone-shut
 
 -- a machine at the end of a run
 unfoldable pub ran-shut : Shut ran.the-row
 ran-shut = of-struct ran.the-type ran-laws.the-laws ran-laws.the-plain
 
-abbrev pub ran-vals : Ran → List Val
+abbrev pub ran-vals : RunEnd → List Val
 ran-vals = vals ran-shut
 
 -- an answer
 unfoldable pub went-shut : Shut went.the-row
 went-shut = of-enum went.the-type went-laws.the-laws tt went-laws.the-plain
 
-abbrev pub went-vals : Went → List Val
+abbrev pub went-vals : MachineResult → List Val
 went-vals = vals went-shut
 
 -- what an instruction on a state answers
 unfoldable pub stated-shut : Shut stated.the-row
 stated-shut = of-struct stated.the-type stated-laws.the-laws stated-laws.the-plain
 
-abbrev pub stated-vals : Stated → List Val
+abbrev pub stated-vals : StateAnswer → List Val
 stated-vals = vals stated-shut

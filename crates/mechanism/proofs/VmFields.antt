@@ -19,12 +19,12 @@ use Rattle.machine.proofs.Machine as machine
 use Rattle.machine.proofs.Machine.Laws as machine-laws
 use Rattle.mechanism.proofs.Values.{machine-shut, machine-vals}
 use Rattle.mechanism.proofs.Fields.{taken, taken-in}
-use Rattle.machine.specs.declared.Allowed.{Allowed}
-use Rattle.machine.specs.declared.Prepared.{Prepared}
-use Rattle.machine.proofs.Allowed as allowed
-use Rattle.machine.proofs.Allowed.Laws as allowed-laws
-use Rattle.machine.proofs.Prepared as prepared
-use Rattle.machine.proofs.Prepared.Laws as prepared-laws
+use Rattle.machine.specs.declared.Permission.{Permission}
+use Rattle.machine.specs.declared.Preparation.{Preparation}
+use Rattle.machine.proofs.Permission as allowed
+use Rattle.machine.proofs.Permission.Laws as allowed-laws
+use Rattle.machine.proofs.Preparation as prepared
+use Rattle.machine.proofs.Preparation.Laws as prepared-laws
 use Rattle.mechanism.proofs.VmValues.{allowed-shut, allowed-vals, prepared-shut, prepared-vals}
 open Shut machine-shut using (val as machine-val, ty as machine-ty)
 open Shut allowed-shut using (val as allowed-val, ty as allowed-ty)
@@ -42,16 +42,16 @@ unfolding machine-shut
 count-fits m is = struct.owed machine.the-type machine-laws.the-laws m (machine-vals m) is .1 .1 .1 .1 .1 .1 .1 .1 .0 .1
 
 -- of what a call is allowed
-pub begun-is : (a : Allowed) → Is allowed.the-row a (allowed-vals a) → Is machine.the-row (a .machine) (machine-vals (a .machine))
+pub begun-is : (a : Permission) → Is allowed.the-row a (allowed-vals a) → Is machine.the-row (a .machine) (machine-vals (a .machine))
 unfolding allowed-shut machine-shut
 begun-is a is = struct.owed allowed.the-type allowed-laws.the-laws a (allowed-vals a) is .1 .0
 
 -- of what a creation begins with
-pub new-is : (p : Prepared) → Is prepared.the-row p (prepared-vals p) → Is machine.the-row (p .machine) (machine-vals (p .machine))
+pub new-is : (p : Preparation) → Is prepared.the-row p (prepared-vals p) → Is machine.the-row (p .machine) (machine-vals (p .machine))
 unfolding prepared-shut machine-shut
 new-is p is = struct.owed prepared.the-type prepared-laws.the-laws p (prepared-vals p) is .1 .1 .0
 
-pub tasks-fit : (p : Prepared) → Is prepared.the-row p (prepared-vals p) → p .count < 2 ^ 32
+pub tasks-fit : (p : Preparation) → Is prepared.the-row p (prepared-vals p) → p .count < 2 ^ 32
 unfolding prepared-shut
 tasks-fit p is = struct.owed prepared.the-type prepared-laws.the-laws p (prepared-vals p) is .1 .1 .1 .0 .1
 
@@ -72,31 +72,31 @@ module _ {M : Type 1} {𝓤 : URA M} {H : Heap 𝓤} {A : Atoms 𝓤} {K : Type 
   take-count t i n m at holds = taken t 8 i n refl at holds
 
   -- of what a call is allowed
-  pub take-allowed : K → (i n : ℕ) (a : Allowed) {l : ℕ} → spotOf 𝓤 H E i ≡ (allowed-ty, l, 0) → nth 𝓤 H A n Γ ≡ ‵ (fat fullShare allowed-ty l 0 (allowed-val a)) → Opd K W Γ E (copy (place i (field 0 ∷ []))) (vbool (a .allowed))
+  pub take-allowed : K → (i n : ℕ) (a : Permission) {l : ℕ} → spotOf 𝓤 H E i ≡ (allowed-ty, l, 0) → nth 𝓤 H A n Γ ≡ ‵ (fat fullShare allowed-ty l 0 (allowed-val a)) → Opd K W Γ E (copy (place i (field 0 ∷ []))) (vbool (a .allowed))
   unfolding allowed-shut
   take-allowed t i n a at holds = taken t 0 i n refl at holds
 
-  pub take-begun : K → (i n : ℕ) (a : Allowed) {l : ℕ} → spotOf 𝓤 H E i ≡ (allowed-ty, l, 0) → nth 𝓤 H A n Γ ≡ ‵ (fat fullShare allowed-ty l 0 (allowed-val a)) → Opd K W Γ E (copy (place i (field 1 ∷ []))) (machine-val (a .machine))
+  pub take-begun : K → (i n : ℕ) (a : Permission) {l : ℕ} → spotOf 𝓤 H E i ≡ (allowed-ty, l, 0) → nth 𝓤 H A n Γ ≡ ‵ (fat fullShare allowed-ty l 0 (allowed-val a)) → Opd K W Γ E (copy (place i (field 1 ∷ []))) (machine-val (a .machine))
   unfolding allowed-shut machine-shut
   take-begun t i n a at holds = taken t 1 i n refl at holds
 
   -- of what a creation begins with
-  pub take-fits : K → (i n : ℕ) (p : Prepared) {l : ℕ} → spotOf 𝓤 H E i ≡ (prepared-ty, l, 0) → nth 𝓤 H A n Γ ≡ ‵ (fat fullShare prepared-ty l 0 (prepared-val p)) → Opd K W Γ E (copy (place i (field 0 ∷ []))) (vbool (p .fits))
+  pub take-fits : K → (i n : ℕ) (p : Preparation) {l : ℕ} → spotOf 𝓤 H E i ≡ (prepared-ty, l, 0) → nth 𝓤 H A n Γ ≡ ‵ (fat fullShare prepared-ty l 0 (prepared-val p)) → Opd K W Γ E (copy (place i (field 0 ∷ []))) (vbool (p .fits))
   unfolding prepared-shut
   take-fits t i n p at holds = taken t 0 i n refl at holds
 
-  pub take-new : K → (i n : ℕ) (p : Prepared) {l : ℕ} → spotOf 𝓤 H E i ≡ (prepared-ty, l, 0) → nth 𝓤 H A n Γ ≡ ‵ (fat fullShare prepared-ty l 0 (prepared-val p)) → Opd K W Γ E (copy (place i (field 2 ∷ []))) (machine-val (p .machine))
+  pub take-new : K → (i n : ℕ) (p : Preparation) {l : ℕ} → spotOf 𝓤 H E i ≡ (prepared-ty, l, 0) → nth 𝓤 H A n Γ ≡ ‵ (fat fullShare prepared-ty l 0 (prepared-val p)) → Opd K W Γ E (copy (place i (field 2 ∷ []))) (machine-val (p .machine))
   unfolding prepared-shut machine-shut
   take-new t i n p at holds = taken t 2 i n refl at holds
 
-  pub take-tasks : K → (i n : ℕ) (p : Prepared) {l : ℕ} → spotOf 𝓤 H E i ≡ (prepared-ty, l, 0) → nth 𝓤 H A n Γ ≡ ‵ (fat fullShare prepared-ty l 0 (prepared-val p)) → Opd K W Γ E (copy (place i (field 3 ∷ []))) (vint w32 (p .count))
+  pub take-tasks : K → (i n : ℕ) (p : Preparation) {l : ℕ} → spotOf 𝓤 H E i ≡ (prepared-ty, l, 0) → nth 𝓤 H A n Γ ≡ ‵ (fat fullShare prepared-ty l 0 (prepared-val p)) → Opd K W Γ E (copy (place i (field 3 ∷ []))) (vint w32 (p .count))
   unfolding prepared-shut
   take-tasks t i n p at holds = taken t 3 i n refl at holds
 
-  pub take-new-pool : K → (i n : ℕ) (p : Prepared) {l : ℕ} → spotOf 𝓤 H E i ≡ (prepared-ty, l, 0) → nth 𝓤 H A n Γ ≡ ‵ (fat fullShare prepared-ty l 0 (prepared-val p)) → Opd K W Γ E (copy (place i (field 2 ∷ field 5 ∷ []))) (vint w64 (p .machine .pool))
+  pub take-new-pool : K → (i n : ℕ) (p : Preparation) {l : ℕ} → spotOf 𝓤 H E i ≡ (prepared-ty, l, 0) → nth 𝓤 H A n Γ ≡ ‵ (fat fullShare prepared-ty l 0 (prepared-val p)) → Opd K W Γ E (copy (place i (field 2 ∷ field 5 ∷ []))) (vint w64 (p .machine .pool))
   unfolding prepared-shut
   take-new-pool t i n p at holds = taken-in t 2 5 i n refl refl refl at holds
 
-  pub take-new-entries : K → (i n : ℕ) (p : Prepared) {l : ℕ} → spotOf 𝓤 H E i ≡ (prepared-ty, l, 0) → nth 𝓤 H A n Γ ≡ ‵ (fat fullShare prepared-ty l 0 (prepared-val p)) → Opd K W Γ E (copy (place i (field 2 ∷ field 6 ∷ []))) (vint w64 (p .machine .entries))
+  pub take-new-entries : K → (i n : ℕ) (p : Preparation) {l : ℕ} → spotOf 𝓤 H E i ≡ (prepared-ty, l, 0) → nth 𝓤 H A n Γ ≡ ‵ (fat fullShare prepared-ty l 0 (prepared-val p)) → Opd K W Γ E (copy (place i (field 2 ∷ field 6 ∷ []))) (vint w64 (p .machine .entries))
   unfolding prepared-shut
   take-new-entries t i n p at holds = taken-in t 2 6 i n refl refl refl at holds

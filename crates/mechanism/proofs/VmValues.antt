@@ -17,12 +17,12 @@ use Rattle.machine.proofs.Verb.Laws as verb-laws
 use Rattle.machine.specs.declared.Report.{Report}
 use Rattle.machine.proofs.Report as report
 use Rattle.machine.proofs.Report.Laws as report-laws
-use Rattle.machine.specs.declared.Allowed.{Allowed}
-use Rattle.machine.proofs.Allowed as allowed
-use Rattle.machine.proofs.Allowed.Laws as allowed-laws
-use Rattle.machine.specs.declared.Prepared.{Prepared}
-use Rattle.machine.proofs.Prepared as prepared
-use Rattle.machine.proofs.Prepared.Laws as prepared-laws
+use Rattle.machine.specs.declared.Permission.{Permission}
+use Rattle.machine.proofs.Permission as allowed
+use Rattle.machine.proofs.Permission.Laws as allowed-laws
+use Rattle.machine.specs.declared.Preparation.{Preparation}
+use Rattle.machine.proofs.Preparation as prepared
+use Rattle.machine.proofs.Preparation.Laws as prepared-laws
 use Rattle.table_image.specs.declared.InUse.{InUse}
 use Rattle.table_image.proofs.InUse as used
 use Rattle.table_image.proofs.InUse.Laws as used-laws
@@ -74,14 +74,14 @@ report-vals = vals report-shut
 unfoldable pub allowed-shut : Shut allowed.the-row
 allowed-shut = of-struct allowed.the-type allowed-laws.the-laws allowed-laws.the-plain
 
-abbrev pub allowed-vals : Allowed → List Val
+abbrev pub allowed-vals : Permission → List Val
 allowed-vals = vals allowed-shut
 
 -- what a creation begins with
 unfoldable pub prepared-shut : Shut prepared.the-row
 prepared-shut = of-struct prepared.the-type prepared-laws.the-laws prepared-laws.the-plain
 
-abbrev pub prepared-vals : Prepared → List Val
+abbrev pub prepared-vals : Preparation → List Val
 prepared-vals = vals prepared-shut
 
 -- what is in use of the pool

@@ -12,58 +12,58 @@ use Rattle.bytecode.specs.declared.Extent.the-variants.{Next, Cut}
 use Rattle.storage.specs.declared.Task.{Task}
 use Rattle.storage.specs.Storage.{len-after}
 use Rattle.mechanism.specs.Registers.{OnMemory}
-use Rattle.mechanism.specs.declared.Did.{Did}
-use Rattle.mechanism.specs.declared.Did.the-variants as did
+use Rattle.mechanism.specs.declared.RegistersResult.{RegistersResult}
+use Rattle.mechanism.specs.declared.RegistersResult.the-variants as did
 use Rattle.mechanism.specs.Changes.{keep}
 use Rattle.mechanism.specs.Create.{op-t-create, op-t-delete}
 use Rattle.mechanism.specs.Fields.{op-t-get-field, op-t-set-field}
 use Rattle.mechanism.specs.declared.Change.{Change}
-use Rattle.mechanism.specs.declared.Tasked.{Tasked}
+use Rattle.mechanism.specs.declared.RegistersAndChange.{RegistersAndChange}
 use Rattle.machine.specs.declared.Machine.{Machine}
 use Rattle.machine.specs.Machines.{current, code-of, with-ids}
 use Rattle.mechanism.specs.Registers.{registers-of, settled}
 use Rattle.mechanism.specs.Frames.{OnPool, push-calldata, op-call, op-end-call}
 use Rattle.mechanism.specs.Registers.{machine-at}
-use Rattle.mechanism.specs.declared.Went.{Went}
-use Rattle.mechanism.specs.declared.Went.the-variants.{Onto, Refused}
-use Rattle.mechanism.specs.declared.Acted.{Acted}
+use Rattle.mechanism.specs.declared.MachineResult.{MachineResult}
+use Rattle.mechanism.specs.declared.MachineResult.the-variants.{Onto, Refused}
+use Rattle.mechanism.specs.declared.MachineAndChange.{MachineAndChange}
 
 -- an answer, and a change with it
-abbrev pub acted : Went → Change → Acted
+abbrev pub acted : MachineResult → Change → MachineAndChange
 acted went change = record { went = went; change = change }
 
 -- an answer, the stack, memory, pool and ends after it
 pub record OnAll : Type 0 where
-  pub acted : Acted
+  pub acted : MachineAndChange
   pub stack : List ℕ
   pub memory : List ℕ
   pub pool : List ℕ
   pub ends : List ℕ
 
 -- these five together
-abbrev pub on-all : Acted → List ℕ → List ℕ → List ℕ → List ℕ → OnAll
+abbrev pub on-all : MachineAndChange → List ℕ → List ℕ → List ℕ → List ℕ → OnAll
 on-all acted stack memory pool ends = record { acted = acted; stack = stack; memory = memory; pool = pool; ends = ends }
 
 -- the machine after an instruction's registers
-unfoldable pub went-by : Machine → Did → Went
+unfoldable pub went-by : Machine → RegistersResult → MachineResult
 went-by machine (did.Next registers) = Onto (settled machine registers)
 went-by machine (did.Refused refusal) = Refused refusal
 
 -- after T_CREATE there is one more id
-unfoldable pub created : Machine → Did → Went
+unfoldable pub created : Machine → RegistersResult → MachineResult
 created machine (did.Next registers) =
     Onto (with-ids (settled machine registers) ((machine .«next_id» + 1) % 2 ^ 32) (len-after (machine .count) (machine .«next_id»)))
 created machine (did.Refused refusal) = Refused refusal
 
 -- the machine after an instruction on a task
-unfoldable pub tasked-by : Machine → Tasked → Acted
+unfoldable pub tasked-by : Machine → RegistersAndChange → MachineAndChange
 tasked-by machine tasked = acted (went-by machine (tasked .did)) (tasked .change)
 
-unfoldable pub created-by : Machine → Tasked → Acted
+unfoldable pub created-by : Machine → RegistersAndChange → MachineAndChange
 created-by machine tasked = acted (created machine (tasked .did)) (tasked .change)
 
 -- the opcodes that change a slot; any other does nothing
-unfoldable pub on-task : List ℕ → List ℕ → Machine → Task → ℕ → ℕ → Acted
+unfoldable pub on-task : List ℕ → List ℕ → Machine → Task → ℕ → ℕ → MachineAndChange
 on-task stack memory machine task op next =
     cond (eqb op T-CREATE) (created-by machine (op-t-create stack memory (registers-of machine) next (machine .«next_id») task))
     (cond (eqb op T-SET-FIELD) (tasked-by machine (op-t-set-field stack memory (registers-of machine) next task))
@@ -88,7 +88,7 @@ on-frames stack memory pool ends machine task op place next =
     (on-all (on-task stack memory machine task op next) stack memory pool ends))))
 
 -- an instruction that the code's end cuts: 2
-abbrev pub cut : Task → Acted
+abbrev pub cut : Task → MachineAndChange
 cut task = acted (Refused UnexpectedEOB) (keep task)
 
 -- whole, or cut

@@ -15,7 +15,7 @@ use Rattle.mechanism.specs.declared.Halt.{Halt}
 use Rattle.mechanism.specs.declared.Halt.the-variants as halt
 use Rattle.machine.specs.Machines.{code-of}
 use Rattle.mechanism.specs.Registers.{registers-of, settled}
-use Rattle.mechanism.specs.declared.Gone.{Gone}
+use Rattle.mechanism.specs.declared.Progress.{Progress}
 use Rattle.machine.specs.declared.Outcome.{Outcome}
 use Rattle.machine.specs.declared.Outcome.the-variants.{Done, Paused, Refused}
 
@@ -36,40 +36,40 @@ wanted stack machine op =
     (cond (eqb op T-SET-FIELD) (named stack (machine .height - 1)) (named stack (machine .height)))))
 
 -- at an outcome
-abbrev pub ended : Machine → ℕ → Outcome → Gone
+abbrev pub ended : Machine → ℕ → Outcome → Progress
 ended machine left outcome = record { machine = machine; left = left; running = false; op = 0; outcome = outcome }
 
 -- on its way, before an instruction of this opcode
-abbrev pub at-hand : Machine → ℕ → ℕ → Gone
+abbrev pub at-hand : Machine → ℕ → ℕ → Progress
 at-hand machine left op = record { machine = machine; left = left; running = true; op = op; outcome = Paused }
 
 -- why the steps halted, and what is at hand
-unfoldable pub halted-at : Machine → ℕ → ℕ → Halt → Gone
+unfoldable pub halted-at : Machine → ℕ → ℕ → Halt → Progress
 halted-at machine op left halt.AtEnd = ended machine left Done
 halted-at machine op left halt.OutOfFuel = ended machine left Paused
 halted-at machine op left (halt.Refused refusal) = ended machine left (Refused refusal)
 halted-at machine op left halt.Outer = at-hand machine left op
 
 -- a machine on its way, the stack, memory, pool and ends then
-pub record GoneOn : Type 0 where
-  pub gone : Gone
+pub record ProgressOn : Type 0 where
+  pub gone : Progress
   pub stack : List ℕ
   pub memory : List ℕ
   pub pool : List ℕ
   pub ends : List ℕ
 
 -- these five together
-abbrev pub gone-on : Gone → List ℕ → List ℕ → List ℕ → List ℕ → GoneOn
+abbrev pub gone-on : Progress → List ℕ → List ℕ → List ℕ → List ℕ → ProgressOn
 gone-on gone stack memory pool ends = record { gone = gone; stack = stack; memory = memory; pool = pool; ends = ends }
 
 -- where the steps of the current code halted
-unfoldable pub after-steps : List ℕ → List ℕ → Machine → Halted → GoneOn
+unfoldable pub after-steps : List ℕ → List ℕ → Machine → Halted → ProgressOn
 after-steps pool ends machine h =
     gone-on
     (halted-at (settled machine (h .at .registers)) (getD (code-of pool ends machine) (h .at .registers .place) 0) (h .at .left) (h .at .halt))
     (h .stack) (h .memory) pool ends
 
 -- the run of the current code from the machine's place on
-unfoldable pub advance : List ℕ → List ℕ → List ℕ → List ℕ → Machine → ℕ → GoneOn
+unfoldable pub advance : List ℕ → List ℕ → List ℕ → List ℕ → Machine → ℕ → ProgressOn
 advance stack memory pool ends machine fuel =
     after-steps pool ends machine (steps fuel stack memory (code-of pool ends machine) (registers-of machine) (machine .count))

@@ -5,12 +5,12 @@ use mathlib.Core.List.{List}
 use lib.ListN.{set}
 use Rattle.errors.specs.declared.Refusal.{Refusal}
 use Rattle.mechanism.specs.declared.Registers.{Registers}
-use Rattle.mechanism.specs.declared.Did.{Did}
-use Rattle.mechanism.specs.declared.Did.the-variants.{Next, Refused}
+use Rattle.mechanism.specs.declared.RegistersResult.{RegistersResult}
+use Rattle.mechanism.specs.declared.RegistersResult.the-variants.{Next, Refused}
 use Rattle.storage.specs.declared.Task.{Task}
 use Rattle.storage.specs.Table.{set-state-at}
 use Rattle.mechanism.specs.declared.Change.{Change}
-use Rattle.mechanism.specs.declared.Tasked.{Tasked}
+use Rattle.mechanism.specs.declared.RegistersAndChange.{RegistersAndChange}
 
 -- nothing, the whole record, or its state byte alone
 abbrev pub keep : Task → Change
@@ -23,11 +23,11 @@ abbrev pub restate : Task → ℕ → Change
 restate task state = record { puts = false; states = true; state = state; task = task }
 
 -- an answer, and a change with it
-abbrev pub tasked : Did → Change → Tasked
+abbrev pub tasked : RegistersResult → Change → RegistersAndChange
 tasked did change = record { did = did; change = change }
 
 -- a refused instruction changes nothing
-abbrev pub refused : Task → Refusal → Tasked
+abbrev pub refused : Task → Refusal → RegistersAndChange
 refused task refusal = tasked (Refused refusal) (keep task)
 
 -- a change made in a slot of the table

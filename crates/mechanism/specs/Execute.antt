@@ -16,7 +16,7 @@ use Rattle.mechanism.specs.Store.{ChangedTo, op-m-muta}
 use Rattle.mechanism.specs.Operated.{push-u32, push-u8, muli, jump-if-false, m-st, m-sti}
 use Rattle.mechanism.specs.Cut.{cut}
 use Rattle.mechanism.specs.declared.Registers.{Registers}
-use Rattle.mechanism.specs.declared.Did.the-variants.{Next}
+use Rattle.mechanism.specs.declared.RegistersResult.the-variants.{Next}
 
 -- an instruction that leaves the memory, and one that leaves the stack
 abbrev pub kept : OnStack → List ℕ → OnMemory

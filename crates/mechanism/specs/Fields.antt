@@ -26,10 +26,10 @@ use Rattle.mechanism.specs.Registers.{OnStack, OnMemory, on-memory, in-u
 use Rattle.mechanism.specs.Stack.{push-value}
 use Rattle.mechanism.specs.Store.{store}
 use Rattle.mechanism.specs.declared.Registers.{Registers}
-use Rattle.mechanism.specs.declared.Did.the-variants.{Next, Refused}
+use Rattle.mechanism.specs.declared.RegistersResult.the-variants.{Next, Refused}
 use Rattle.mechanism.specs.Changes.{put, restate, tasked, refused}
 use Rattle.machine.specs.Titles.{within, title-length, title-bytes, retitled, retargeted}
-use Rattle.mechanism.specs.declared.Tasked.{Tasked}
+use Rattle.mechanism.specs.declared.RegistersAndChange.{RegistersAndChange}
 use Rattle.mechanism.specs.declared.FieldResult.{FieldResult}
 use Rattle.mechanism.specs.declared.FieldResult.the-variants.{Field, NoField}
 
@@ -76,48 +76,48 @@ unfoldable pub op-t-get-field : List ℕ → List ℕ → Registers → ℕ → 
 op-t-get-field stack memory registers next task = get-found stack memory registers next task (field-of stack (registers .height) task)
 
 -- a title: 14, 21
-unfoldable pub title-within : List ℕ → Registers → FatPointer → Task → ReadResult → Tasked
+unfoldable pub title-within : List ℕ → Registers → FatPointer → Task → ReadResult → RegistersAndChange
 title-within memory after pointer task Readable =
     cond (ltb 128 (pointer .size)) (refused task TitleTooLong)
     (tasked (Next after) (put (retitled task (get-slice-bytes memory pointer))))
 title-within memory after pointer task (NotReadable refusal) = refused task refusal
 
-unfoldable pub set-title : List ℕ → Registers → FatPointer → Task → Tasked
+unfoldable pub set-title : List ℕ → Registers → FatPointer → Task → RegistersAndChange
 set-title memory after pointer task = title-within memory after pointer task (within memory pointer)
 
 -- a title: 5 before these
-unfoldable pub title-vector : List ℕ → Registers → Task → PointerResult → Tasked
+unfoldable pub title-vector : List ℕ → Registers → Task → PointerResult → RegistersAndChange
 title-vector memory after task (Pointer pointer) = set-title memory after pointer task
 title-vector memory after task (NoPointer refusal) = refused task refusal
 
 -- a state: 11
-unfoldable pub state-answered : Registers → ℕ → Task → StateResult → Tasked
+unfoldable pub state-answered : Registers → ℕ → Task → StateResult → RegistersAndChange
 state-answered after state task Set = tasked (Next after) (restate task state)
 state-answered after state task (NotSet refusal) = refused task refusal
 
-unfoldable pub set-state : Registers → ℕ → Task → Tasked
+unfoldable pub set-state : Registers → ℕ → Task → RegistersAndChange
 set-state after state task = state-answered after state task (with-state (task .state) state .answer)
 
 -- instructions: no test
-unfoldable pub set-instructions : Registers → InstructionsRef → Task → Tasked
+unfoldable pub set-instructions : Registers → InstructionsRef → Task → RegistersAndChange
 set-instructions after reference task = tasked (Next after) (put (retargeted task reference))
 
 -- a field's new value
-unfoldable pub set-field : List ℕ → Registers → ℕ → ℕ → Task → Tasked
+unfoldable pub set-field : List ℕ → Registers → ℕ → ℕ → Task → RegistersAndChange
 set-field memory after field value task =
     cond (eqb field 0) (title-vector memory after task (to-fat-pointer value))
     (cond (eqb field 1) (set-state after (to-u32 value) task)
     (set-instructions after (record { 0 = to-u32 value }) task))
 
-unfoldable pub set-popped : List ℕ → Registers → ℕ → ℕ → Task → PopResult → Tasked
+unfoldable pub set-popped : List ℕ → Registers → ℕ → ℕ → Task → PopResult → RegistersAndChange
 set-popped memory registers next field task (Popped value height) =
     set-field (in-use memory registers) (moved registers next height) field value task
 set-popped memory registers next field task (NotPopped refusal) = refused task refusal
 
-unfoldable pub set-found : List ℕ → List ℕ → Registers → ℕ → Task → FieldResult → Tasked
+unfoldable pub set-found : List ℕ → List ℕ → Registers → ℕ → Task → FieldResult → RegistersAndChange
 set-found stack memory registers next task (Field field height) = set-popped memory registers next field task (pop stack height)
 set-found stack memory registers next task (NoField refusal) = refused task refusal
 
 -- T_SET_FIELD: 3, 10, 3, 9, 3, then 5, 14, 21 for a title, 11 for a state
-unfoldable pub op-t-set-field : List ℕ → List ℕ → Registers → ℕ → Task → Tasked
+unfoldable pub op-t-set-field : List ℕ → List ℕ → Registers → ℕ → Task → RegistersAndChange
 op-t-set-field stack memory registers next task = set-found stack memory registers next task (field-of stack (registers .height) task)

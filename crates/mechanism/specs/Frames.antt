@@ -27,20 +27,20 @@ use Rattle.mechanism.specs.Registers.{moved}
 use Rattle.machine.specs.declared.Machine.{Machine}
 use Rattle.machine.specs.Machines.{current, code-of, with-pool, with-frames}
 use Rattle.mechanism.specs.Registers.{registers-of, machine-at}
-use Rattle.mechanism.specs.declared.Went.{Went}
-use Rattle.mechanism.specs.declared.Went.the-variants.{Onto, Refused}
+use Rattle.mechanism.specs.declared.MachineResult.{MachineResult}
+use Rattle.mechanism.specs.declared.MachineResult.the-variants.{Onto, Refused}
 
 -- ---- PUSH_CALLDATA
 
 -- an answer, the stack, the pool and its ends after it
 pub record OnPool : Type 0 where
-  pub went : Went
+  pub went : MachineResult
   pub stack : List ℕ
   pub pool : List ℕ
   pub ends : List ℕ
 
 -- these four together
-abbrev pub on-pool : Went → List ℕ → List ℕ → List ℕ → OnPool
+abbrev pub on-pool : MachineResult → List ℕ → List ℕ → List ℕ → OnPool
 on-pool went stack pool ends = record { went = went; stack = stack; pool = pool; ends = ends }
 
 -- the data, which stands behind its size in the pool itself, becomes one more entry
@@ -72,37 +72,37 @@ push-calldata stack pool ends machine place next =
 -- ---- CALL
 
 -- a frame for the task's instructions: 4
-unfoldable pub framed : Machine → FramesResult → Went
+unfoldable pub framed : Machine → FramesResult → MachineResult
 framed caller (NewFrames frames) = Onto (with-frames caller frames)
 framed caller (NoNewFrames refusal) = Refused refusal
 
 -- the task's instructions: 12; empty ones do nothing
-unfoldable pub enter-bounded : Machine → InstructionsRef → BoundsResult → Went
+unfoldable pub enter-bounded : Machine → InstructionsRef → BoundsResult → MachineResult
 enter-bounded caller entry (Bounds start end) =
     cond (leb end start) (Onto caller) (framed caller (push-frame (caller .frames) (record { entry = entry; place = 0 })))
 enter-bounded caller entry (NoBounds refusal) = Refused refusal
 
-unfoldable pub enter : List ℕ → Machine → InstructionsRef → Went
+unfoldable pub enter : List ℕ → Machine → InstructionsRef → MachineResult
 enter ends caller entry = enter-bounded caller entry (bounds ends (caller .entries) entry)
 
 -- a missing task does nothing
-unfoldable pub call-popped : List ℕ → Machine → ℕ → Task → PopResult → Went
+unfoldable pub call-popped : List ℕ → Machine → ℕ → Task → PopResult → MachineResult
 call-popped ends machine next task (Popped value height) =
     cond (task .living) (enter ends (machine-at machine next height) (task .«instructions_ref»)) (Onto (machine-at machine next height))
 call-popped ends machine next task (NotPopped refusal) = Refused refusal
 
 -- CALL: 3, 12, 4
-unfoldable pub op-call : List ℕ → List ℕ → Machine → ℕ → Task → Went
+unfoldable pub op-call : List ℕ → List ℕ → Machine → ℕ → Task → MachineResult
 op-call stack ends machine next task = call-popped ends machine next task (pop stack (machine .height))
 
 -- ---- END_CALL
 
 -- back in the frame below
-unfoldable pub left-frame : Machine → PopFrameResult → Went
+unfoldable pub left-frame : Machine → PopFrameResult → MachineResult
 left-frame machine (PoppedFrame frame frames) = Onto (with-frames machine frames)
 left-frame machine (NotPoppedFrame refusal) = Refused refusal
 
 -- END_CALL: in main it does nothing
-unfoldable pub op-end-call : Machine → ℕ → Went
+unfoldable pub op-end-call : Machine → ℕ → MachineResult
 op-end-call machine next =
     cond (leb (machine .frames .count) 1) (Onto (machine-at machine next (machine .height))) (left-frame machine (pop-frame (machine .frames)))

@@ -13,8 +13,8 @@ use Rattle.mechanism.specs.Stack.{op-push, op-muli}
 use Rattle.mechanism.specs.Control.{op-jump-if-false}
 use Rattle.mechanism.specs.Store.{op-m-st, store}
 use Rattle.mechanism.specs.declared.Registers.{Registers}
-use Rattle.mechanism.specs.declared.Did.{Did}
-use Rattle.mechanism.specs.declared.Did.the-variants.{Refused}
+use Rattle.mechanism.specs.declared.RegistersResult.{RegistersResult}
+use Rattle.mechanism.specs.declared.RegistersResult.the-variants.{Refused}
 
 -- on with an operand, or 2
 unfoldable pub with-operand : {A : Type 0} → (Refusal → A) → (ℕ → A) → OperandResult → A
@@ -37,7 +37,7 @@ muli stack code registers next =
     with-operand (λ refusal. on-stack (Refused refusal) stack) (op-muli stack registers next) (operand 4 code (registers .place + 1))
 
 -- JUMP_IF_FALSE
-unfoldable pub jump-if-false : List ℕ → List ℕ → Registers → ℕ → Did
+unfoldable pub jump-if-false : List ℕ → List ℕ → Registers → ℕ → RegistersResult
 jump-if-false stack code registers next =
     with-operand Refused (op-jump-if-false stack registers next) (operand 4 code (registers .place + 1))
 

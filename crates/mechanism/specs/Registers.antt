@@ -3,7 +3,7 @@ use Prim.Native.Nat.{ℕ}
 use mathlib.Core.List.{List}
 use lib.ListN.{take}
 use Rattle.mechanism.specs.declared.Registers.{Registers}
-use Rattle.mechanism.specs.declared.Did.{Did}
+use Rattle.mechanism.specs.declared.RegistersResult.{RegistersResult}
 use Rattle.machine.specs.declared.Machine.{Machine}
 use Rattle.machine.specs.Machines.{current, with-current}
 
@@ -13,11 +13,11 @@ moved registers place height = record { place = place; height = height; loops = 
 
 -- an answer, and the stack after it
 pub record OnStack : Type 0 where
-  pub did : Did
+  pub did : RegistersResult
   pub stack : List ℕ
 
 -- these two together
-abbrev pub on-stack : Did → List ℕ → OnStack
+abbrev pub on-stack : RegistersResult → List ℕ → OnStack
 on-stack did stack = record { did = did; stack = stack }
 
 -- the memory in use
@@ -26,12 +26,12 @@ in-use memory registers = take (registers .memory) memory
 
 -- an answer, the stack and the memory after it
 pub record OnMemory : Type 0 where
-  pub did : Did
+  pub did : RegistersResult
   pub stack : List ℕ
   pub memory : List ℕ
 
 -- these three together
-abbrev pub on-memory : Did → List ℕ → List ℕ → OnMemory
+abbrev pub on-memory : RegistersResult → List ℕ → List ℕ → OnMemory
 on-memory did stack memory = record { did = did; stack = stack; memory = memory }
 
 -- what most opcodes change, taken out of the machine

@@ -15,8 +15,8 @@ use Rattle.values.specs.declared.ValueResult.{ValueResult}
 use Rattle.values.specs.declared.ValueResult.the-variants.{Value, NoValue}
 use Rattle.mechanism.specs.Registers.{OnStack, on-stack, moved}
 use Rattle.mechanism.specs.declared.Registers.{Registers}
-use Rattle.mechanism.specs.declared.Did.{Did}
-use Rattle.mechanism.specs.declared.Did.the-variants.{Next, Refused}
+use Rattle.mechanism.specs.declared.RegistersResult.{RegistersResult}
+use Rattle.mechanism.specs.declared.RegistersResult.the-variants.{Next, Refused}
 use Rattle.mechanism.specs.declared.PopTwoResult.{PopTwoResult}
 use Rattle.mechanism.specs.declared.PopTwoResult.the-variants.{PoppedTwo, NotPoppedTwo}
 
@@ -35,7 +35,7 @@ unfoldable pub pop-two : List ℕ → ℕ → PopTwoResult
 pop-two stack height = pop-first stack (pop stack height)
 
 -- on at a place with the new height, or refused
-unfoldable pub pushed-to : Registers → ℕ → HeightResult → Did
+unfoldable pub pushed-to : Registers → ℕ → HeightResult → RegistersResult
 pushed-to registers place (NewHeight height) = Next (moved registers place height)
 pushed-to registers place (NoNewHeight refusal) = Refused refusal
 
@@ -95,9 +95,9 @@ unfoldable pub op-swap : List ℕ → Registers → ℕ → OnStack
 op-swap stack registers next = swapped stack registers next (pop-two stack (registers .height))
 
 -- DROP: 3
-unfoldable pub dropped : Registers → ℕ → PopResult → Did
+unfoldable pub dropped : Registers → ℕ → PopResult → RegistersResult
 dropped registers next (Popped value height) = Next (moved registers next height)
 dropped registers next (NotPopped refusal) = Refused refusal
 
-unfoldable pub op-drop : List ℕ → Registers → ℕ → Did
+unfoldable pub op-drop : List ℕ → Registers → ℕ → RegistersResult
 op-drop stack registers next = dropped registers next (pop stack (registers .height))

@@ -12,8 +12,8 @@ use Rattle.mechanism.specs.Changes.{applied}
 use Rattle.mechanism.specs.declared.Change.{Change}
 use Rattle.image.specs.Table.{SavedTable, save-table}
 use Rattle.mechanism.specs.declared.Registers.{Registers}
-use Rattle.mechanism.specs.declared.Did.{Did}
-use Rattle.mechanism.specs.declared.Did.the-variants as did
+use Rattle.mechanism.specs.declared.RegistersResult.{RegistersResult}
+use Rattle.mechanism.specs.declared.RegistersResult.the-variants as did
 use Rattle.mechanism.specs.Registers.{OnMemory}
 use Rattle.mechanism.specs.Execute.{instruct}
 use Rattle.mechanism.specs.Steps.{is-outer}
@@ -23,15 +23,15 @@ use Rattle.mechanism.specs.Act.{OnAll, act}
 use Rattle.machine.specs.Machines.{op-at}
 use Rattle.mechanism.specs.Advance.{wanted}
 use Rattle.mechanism.specs.Turns.{save-went}
-use Rattle.mechanism.specs.declared.Went.{Went}
-use Rattle.mechanism.specs.declared.Went.the-variants.{Onto, Refused}
+use Rattle.mechanism.specs.declared.MachineResult.{MachineResult}
+use Rattle.mechanism.specs.declared.MachineResult.the-variants.{Onto, Refused}
 use Rattle.machine.specs.World.{World, world, code, op}
 use Rattle.machine.specs.Words.{StepResult, next, refused}
 use Rattle.machine.specs.Opcodes.{saving}
 
 -- ---- an instruction that needs no task, frame or pool
 
-unfoldable pub inner-did : World → List ℕ → List ℕ → Did → StepResult
+unfoldable pub inner-did : World → List ℕ → List ℕ → RegistersResult → StepResult
 inner-did w stack memory (did.Next registers) =
     next (world (settled (w .machine) registers) (w .table) stack memory (w .pool) (w .ends) (w .save))
 inner-did w stack memory (did.Refused refusal) = refused refusal
@@ -45,7 +45,7 @@ inner w = on-registers w (instruct (w .stack) (w .memory) (code w) (registers-of
 
 -- ---- one that needs a task, a frame or the pool: it works on the record of the slot that it names
 
-unfoldable pub acts-went : World → ℕ → OnAll → Went → StepResult
+unfoldable pub acts-went : World → ℕ → OnAll → MachineResult → StepResult
 acts-went w slot after (Onto machine) =
     next (world machine (applied (w .table) slot (after .acted .change)) (after .stack) (after .memory) (after .pool) (after .ends) (w .save))
 acts-went w slot after (Refused refusal) = refused refusal
@@ -62,7 +62,7 @@ acts w slot = on-record w slot (acted-at w slot)
 
 -- ---- S_SAVE
 
-unfoldable pub saves-went : World → List ℕ → Went → StepResult
+unfoldable pub saves-went : World → List ℕ → MachineResult → StepResult
 saves-went w save (Onto machine) = next (world machine (w .table) (w .stack) (w .memory) (w .pool) (w .ends) save)
 saves-went w save (Refused refusal) = refused refusal
 

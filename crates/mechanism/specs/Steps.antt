@@ -7,10 +7,10 @@ use lib.ListN.{length, getD}
 use Rattle.bytecode.specs.Opcodes.{PUSH-CALLDATA, T-CREATE, T-GET-FIELD, T-SET-FIELD, T-DELETE, S-SAVE, CALL, END-CALL}
 use Rattle.mechanism.specs.Registers.{OnMemory}
 use Rattle.mechanism.specs.declared.Registers.{Registers}
-use Rattle.mechanism.specs.declared.Did.{Did}
-use Rattle.mechanism.specs.declared.Did.the-variants.{Next, Refused}
+use Rattle.mechanism.specs.declared.RegistersResult.{RegistersResult}
+use Rattle.mechanism.specs.declared.RegistersResult.the-variants.{Next, Refused}
 use Rattle.mechanism.specs.Execute.{instruct}
-use Rattle.mechanism.specs.declared.Stepped.{Stepped}
+use Rattle.mechanism.specs.declared.StepsEnd.{StepsEnd}
 use Rattle.mechanism.specs.declared.Halt.{Halt}
 use Rattle.mechanism.specs.declared.Halt.the-variants as halt
 
@@ -21,12 +21,12 @@ is-outer op =
 
 -- where the steps halted, and the stack and the memory then
 pub record Halted : Type 0 where
-  pub at : Stepped
+  pub at : StepsEnd
   pub stack : List ℕ
   pub memory : List ℕ
 
 -- these three together
-abbrev pub stepped : Stepped → List ℕ → List ℕ → Halted
+abbrev pub stepped : StepsEnd → List ℕ → List ℕ → Halted
 stepped at stack memory = record { at = at; stack = stack; memory = memory }
 
 -- halted for a reason, with so much fuel left
@@ -34,7 +34,7 @@ abbrev pub halted : Halt → ℕ → Registers → List ℕ → List ℕ → Hal
 halted reason left registers stack memory = stepped (record { registers = registers; left = left; halt = reason }) stack memory
 
 -- on after an instruction, or halted where it is refused
-unfoldable pub onward : (List ℕ → List ℕ → Registers → Halted) → ℕ → Registers → List ℕ → List ℕ → Did → Halted
+unfoldable pub onward : (List ℕ → List ℕ → Registers → Halted) → ℕ → Registers → List ℕ → List ℕ → RegistersResult → Halted
 onward others fuel registers stack memory (Next next) = others stack memory next
 onward others fuel registers stack memory (Refused refusal) = halted (halt.Refused refusal) fuel registers stack memory
 

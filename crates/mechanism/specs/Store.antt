@@ -29,8 +29,8 @@ use Rattle.mechanism.specs.Stack.{pop-two}
 use Rattle.mechanism.specs.declared.PopTwoResult.{PopTwoResult}
 use Rattle.mechanism.specs.declared.PopTwoResult.the-variants.{PoppedTwo, NotPoppedTwo}
 use Rattle.mechanism.specs.declared.Registers.{Registers}
-use Rattle.mechanism.specs.declared.Did.{Did}
-use Rattle.mechanism.specs.declared.Did.the-variants.{Next, Refused}
+use Rattle.mechanism.specs.declared.RegistersResult.{RegistersResult}
+use Rattle.mechanism.specs.declared.RegistersResult.the-variants.{Next, Refused}
 
 -- a tag and an offset are tested before the full stack
 unfoldable pub full-by : ValueResult → Refusal
@@ -80,14 +80,14 @@ mut-in-use memory used pointer index payload tag =
 
 -- an answer, and the memory after it
 pub record ChangedTo : Type 0 where
-  pub did : Did
+  pub did : RegistersResult
   pub memory : List ℕ
 
-abbrev pub changed-to : Did → List ℕ → ChangedTo
+abbrev pub changed-to : RegistersResult → List ℕ → ChangedTo
 changed-to did memory = record { did = did; memory = memory }
 
 -- on at the next place where the element was changed
-unfoldable pub mutated : Registers → ℕ → ℕ → ChangeResult → Did
+unfoldable pub mutated : Registers → ℕ → ℕ → ChangeResult → RegistersResult
 mutated registers next height Changed = Next (moved registers next height)
 mutated registers next height (NotChanged refusal) = Refused refusal
 

@@ -2,8 +2,8 @@
 ghost use mathlib.Core.Path.{_≡_};
 ghost use Rattle.mechanism.specs.Changes.{keep, put, restate, tasked, refused};
 use crate::Change;
-use crate::Did;
-use crate::Tasked;
+use crate::RegistersAndChange;
+use crate::RegistersResult;
 use errors::Refusal;
 use storage::Task;
 
@@ -44,11 +44,11 @@ pub fn restate(task: Task, state: u32) -> Change
 }
 
 // An answer that changes nothing.
-pub fn refused(task: Task, refusal: Refusal) -> Tasked
+pub fn refused(task: Task, refusal: Refusal) -> RegistersAndChange
     ensures { λ r. ⌜ r ≡ refused task refusal ⌝ }
 {
-    Tasked {
-        did: Did::Refused(refusal),
+    RegistersAndChange {
+        did: RegistersResult::Refused(refusal),
         change: keep(task),
     }
 }

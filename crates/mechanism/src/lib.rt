@@ -10,7 +10,7 @@ use machine::Outcome;
 use storage::Task;
 
 // What an instruction that needs no task, frame or pool changes of the machine: the length of memory in use, the place in the current code, the height of
-// the stack, the open loops. The length that fewest change comes first, where a refusal lies in `Did`: what lies there goes through memory.
+// the stack, the open loops. The length that fewest change comes first, where a refusal lies in `RegistersResult`: what lies there goes through memory.
 pub struct Registers {
     pub memory: usize,
     pub place: usize,
@@ -19,7 +19,7 @@ pub struct Registers {
 }
 
 // What such an instruction answers.
-pub enum Did {
+pub enum RegistersResult {
     Next(Registers),
     Refused(Refusal),
 }
@@ -43,7 +43,7 @@ pub enum Halt {
 }
 
 // Where they halted, and the fuel that is left.
-pub struct Stepped {
+pub struct StepsEnd {
     pub registers: Registers,
     pub left: u64,
     pub halt: Halt,
@@ -58,8 +58,8 @@ pub struct Change {
 }
 
 // What such an instruction answers.
-pub struct Tasked {
-    pub did: Did,
+pub struct RegistersAndChange {
+    pub did: RegistersResult,
     pub change: Change,
 }
 
@@ -70,7 +70,7 @@ pub enum FieldResult {
 }
 
 // A machine on its way, and the fuel that is left: before an instruction that needs a task, a frame or the pool, with its opcode, or at its outcome.
-pub struct Gone {
+pub struct Progress {
     pub machine: Machine,
     pub left: u64,
     pub running: bool,
@@ -79,21 +79,21 @@ pub struct Gone {
 }
 
 // What an instruction that needs a task, a frame or the pool answers.
-pub enum Went {
+pub enum MachineResult {
     Onto(Machine),
     Refused(Refusal),
 }
 
 // The same, with what it changes in the slot that it names.
-pub struct Acted {
-    pub went: Went,
+pub struct MachineAndChange {
+    pub went: MachineResult,
     pub change: Change,
 }
 
 // What an instruction answers that reads or sets the state of a task: whether it needs the whole record after all, and which state it sets.
-pub struct Stated {
+pub struct StateAnswer {
     pub whole: bool,
     pub states: bool,
     pub state: u32,
-    pub went: Went,
+    pub went: MachineResult,
 }

@@ -2,9 +2,9 @@
 ghost use mathlib.Core.Path.{_≡_};
 ghost use Rattle.mechanism.specs.Registers.{on-stack, moved};
 ghost use Rattle.mechanism.specs.Stack.{pop-two, push-value, finish};
-use crate::Did;
 use crate::PopTwoResult;
 use crate::Registers;
+use crate::RegistersResult;
 use inlinevec::HeightResult;
 use inlinevec::PopResult;
 use values::ValueResult;
@@ -52,12 +52,12 @@ pub fn push_value(
     place: usize,
     height: usize,
     value: u64,
-) -> Did
+) -> RegistersResult
     ensures { λ r. ⌜ on-stack r (now (stack .exit)) ≡ push-value (now (stack .entry)) registers place height value ⌝ }
 {
     match inlinevec::push(stack, height, value) {
-        HeightResult::NewHeight(new) => Did::Next(moved(registers, place, new)),
-        HeightResult::NoNewHeight(refusal) => Did::Refused(refusal),
+        HeightResult::NewHeight(new) => RegistersResult::Next(moved(registers, place, new)),
+        HeightResult::NoNewHeight(refusal) => RegistersResult::Refused(refusal),
     }
 }
 
@@ -68,11 +68,11 @@ pub fn finish(
     place: usize,
     height: usize,
     result: ValueResult,
-) -> Did
+) -> RegistersResult
     ensures { λ r. ⌜ on-stack r (now (stack .exit)) ≡ finish (now (stack .entry)) registers place height result ⌝ }
 {
     match result {
         ValueResult::Value(value) => push_value(stack, registers, place, height, value),
-        ValueResult::NoValue(refusal) => Did::Refused(refusal),
+        ValueResult::NoValue(refusal) => RegistersResult::Refused(refusal),
     }
 }

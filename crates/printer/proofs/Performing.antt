@@ -18,33 +18,33 @@ use Rattle.machine.specs.declared.Verb.{Verb}
 use Rattle.machine.specs.Calls.{Reported, reported, call}
 use Rattle.machine.specs.Creation.{machine-of, made, create}
 use Rattle.machine.specs.Reads.{SavedTo, saved-to, host-save}
-use Rattle.printer.specs.declared.Answered.{Answered}
+use Rattle.printer.specs.declared.CallOutcome.{CallOutcome}
 use Rattle.printer.specs.Asked.{verb-at, fuel-at, verb-of, ran, saved, count-of}
-use Rattle.printer.specs.Shows.{Acted, acted, as-run, as-save, performed, left, after-call, after-calls, lent, without-table, played, blank-table, own}
+use Rattle.printer.specs.Shows.{CallOn, acted, as-run, as-save, performed, left, after-call, after-calls, lent, without-table, played, blank-table, own}
 
 -- ---- one call
 
 -- a start or a continue
-pub performs-run : (verb fuel : ℕ) (w : World) {asked : Verb} {report : Report} {t : List Task} {s m p e v : List ℕ} {r : Answered} → ltb verb 2 ≡ true → asked ≡ verb-of verb
+pub performs-run : (verb fuel : ℕ) (w : World) {asked : Verb} {report : Report} {t : List Task} {s m p e v : List ℕ} {r : CallOutcome} → ltb verb 2 ≡ true → asked ≡ verb-of verb
     → reported report t s m p e v ≡ call asked fuel w → r ≡ ran report → acted r t s m p e v ≡ performed verb fuel w
 unfolding performed
 performs-run verb fuel w {asked} {report} {t} {s} {m} {p} {e} {v} {r} runs asks calls answers =
-    ap (λ (a : Answered). acted a t s m p e v) answers
+    ap (λ (a : CallOutcome). acted a t s m p e v) answers
     ∙ ap (λ (x : Reported). as-run x) calls
     ∙ ap (λ (a : Verb). as-run (call a fuel w)) asks
     ∙ sym (simp (runs))
 
 -- a save
-pub performs-save : (verb fuel : ℕ) (w : World) {report : SaveReport} {t : List Task} {s m p e v : List ℕ} {r : Answered} → ltb verb 2 ≡ false
+pub performs-save : (verb fuel : ℕ) (w : World) {report : SaveReport} {t : List Task} {s m p e v : List ℕ} {r : CallOutcome} → ltb verb 2 ≡ false
     → saved-to report t s m p e v ≡ host-save w → r ≡ saved report → acted r t s m p e v ≡ performed verb fuel w
 unfolding performed
 performs-save verb fuel w {report} {t} {s} {m} {p} {e} {v} {r} saves keeps answers =
-    ap (λ (a : Answered). acted a t s m p e v) answers
+    ap (λ (a : CallOutcome). acted a t s m p e v) answers
     ∙ ap (λ (x : SavedTo). as-save x) keeps
     ∙ sym (simp (saves))
 
 -- its number's verb and fuel, the call, and lines that change nothing
-pub turns : (calls : List ℕ) (start number : ℕ) (w : World) {verb fuel : ℕ} {c₁ c₂ : List ℕ} {a : Answered} {t₃ : List Task} {s₃ m₃ p₃ e₃ v₃ s₄ m₄ p₄ e₄ : List ℕ} {t₅ : List Task} {m₆ v₆ : List ℕ} {r : Machine}
+pub turns : (calls : List ℕ) (start number : ℕ) (w : World) {verb fuel : ℕ} {c₁ c₂ : List ℕ} {a : CallOutcome} {t₃ : List Task} {s₃ m₃ p₃ e₃ v₃ s₄ m₄ p₄ e₄ : List ℕ} {t₅ : List Task} {m₆ v₆ : List ℕ} {r : Machine}
     → after verb c₁ ≡ after (verb-at calls start number) calls → after fuel c₂ ≡ after (fuel-at c₁ start number) c₁
     → acted a t₃ s₃ m₃ p₃ e₃ v₃ ≡ performed verb fuel w
     → (s₄ ≡ s₃) × (m₄ ≡ m₃) × (p₄ ≡ p₃) × (e₄ ≡ e₃) → t₅ ≡ t₃ → (m₆ ≡ m₄) × (v₆ ≡ v₃) → r ≡ a .machine
@@ -58,7 +58,7 @@ turns calls start number w {verb} {fuel} {c₁} {c₂} {a} {t₃} {s₃} {m₃} 
     ∙ ap (λ (x : List ℕ). after (world (a .machine) t₃ s₃ m₃ x e₄ v₆) c₂) (answers .2)
     ∙ ap (λ (x : List ℕ). after (world (a .machine) t₃ s₃ m₃ p₃ x v₆) c₂) (answers .3)
     ∙ ap (λ (x : List ℕ). after (world (a .machine) t₃ s₃ m₃ p₃ e₃ x) c₂) (machines .1)
-    ∙ ap (λ (x : Acted). after (left x) c₂) performs
+    ∙ ap (λ (x : CallOn). after (left x) c₂) performs
     ∙ ap (λ (x : After ℕ (List ℕ)). after (left (performed verb (x .answer) w)) (x .lent)) fuels
     ∙ ap (λ (x : After ℕ (List ℕ)). after (left (performed (x .answer) (fuel-at (x .lent) start number) w)) (x .lent)) verbs
 

@@ -2,12 +2,12 @@
 use mathlib.Core.List.{List}
 use mir.Val.{Val}
 use Rattle.lent.proofs.Shut.{Shut, vals, of-struct}
-use Rattle.printer.specs.declared.Answered.{Answered}
-use Rattle.printer.proofs.Answered as answered
-use Rattle.printer.proofs.Answered.Laws as answered-laws
+use Rattle.printer.specs.declared.CallOutcome.{CallOutcome}
+use Rattle.printer.proofs.CallOutcome as answered
+use Rattle.printer.proofs.CallOutcome.Laws as answered-laws
 
 unfoldable pub answered-shut : Shut answered.the-row
 answered-shut = of-struct answered.the-type answered-laws.the-laws answered-laws.the-plain
 
-abbrev pub answered-vals : Answered → List Val
+abbrev pub answered-vals : CallOutcome → List Val
 answered-vals = vals answered-shut

@@ -18,7 +18,7 @@ use Rattle.machine.specs.declared.Report.{Report}
 use Rattle.machine.specs.declared.SaveReport.{SaveReport}
 use Rattle.machine.specs.declared.Verb.{Verb}
 use Rattle.machine.specs.declared.Verb.the-variants.{Start, Continue}
-use Rattle.printer.specs.declared.Answered.{Answered}
+use Rattle.printer.specs.declared.CallOutcome.{CallOutcome}
 
 -- ---- calls as bytes
 
@@ -40,7 +40,7 @@ verb-of number = cond (eqb number 0) Start Continue
 
 -- ---- what came of a call
 
-abbrev pub answered : Machine → Head → Answered
+abbrev pub answered : Machine → Head → CallOutcome
 answered machine head = record { machine = machine; head = head }
 
 -- how a run ended
@@ -49,7 +49,7 @@ ended finished Done = head.Done finished
 ended finished Paused = head.Paused finished
 ended finished (Refused refusal) = head.Refused refusal
 
-unfoldable pub ran : Report → Answered
+unfoldable pub ran : Report → CallOutcome
 ran report = answered (report .machine) (ended (report .finished) (report .outcome))
 
 -- how a save ended
@@ -57,7 +57,7 @@ unfoldable pub kept : SaveResult → Head
 kept (Saved length) = head.Saved length
 kept (NotSaved refusal) = head.Refused refusal
 
-unfoldable pub saved : SaveReport → Answered
+unfoldable pub saved : SaveReport → CallOutcome
 saved report = answered (report .machine) (kept (report .result))
 
 -- ---- before the first call

@@ -10,14 +10,14 @@ use Rattle.machine.specs.World.{World, world}
 use Rattle.machine.specs.Calls.{Reported, call}
 use Rattle.machine.specs.Creation.{machine-of, Made, create}
 use Rattle.machine.specs.Reads.{SavedTo, host-save}
-use Rattle.printer.specs.declared.Answered.{Answered}
+use Rattle.printer.specs.declared.CallOutcome.{CallOutcome}
 use Rattle.printer.specs.Asked.{verb-at, fuel-at, verb-of, ran, saved, count-of}
 
 -- ---- one call
 
 -- what came of a call, and everything lent after it
-pub record Acted : Type 0 where
-  pub answered : Answered
+pub record CallOn : Type 0 where
+  pub answered : CallOutcome
   pub table : List Task
   pub stack : List ℕ
   pub memory : List ℕ
@@ -25,22 +25,22 @@ pub record Acted : Type 0 where
   pub ends : List ℕ
   pub save : List ℕ
 
-abbrev pub acted : Answered → List Task → List ℕ → List ℕ → List ℕ → List ℕ → List ℕ → Acted
+abbrev pub acted : CallOutcome → List Task → List ℕ → List ℕ → List ℕ → List ℕ → List ℕ → CallOn
 acted answered table stack memory pool ends save =
     record { answered = answered; table = table; stack = stack; memory = memory; pool = pool; ends = ends; save = save }
 
-abbrev pub as-run : Reported → Acted
+abbrev pub as-run : Reported → CallOn
 as-run r = acted (ran (r .report)) (r .table) (r .stack) (r .memory) (r .pool) (r .ends) (r .save)
 
-abbrev pub as-save : SavedTo → Acted
+abbrev pub as-save : SavedTo → CallOn
 as-save s = acted (saved (s .report)) (s .table) (s .stack) (s .memory) (s .pool) (s .ends) (s .save)
 
 -- a call by its verb: 0 starts, 1 continues, any other saves
-unfoldable pub performed : ℕ → ℕ → World → Acted
+unfoldable pub performed : ℕ → ℕ → World → CallOn
 performed verb fuel w = cond (ltb verb 2) (as-run (call (verb-of verb) fuel w)) (as-save (host-save w))
 
 -- the machine after it, with everything lent to it
-abbrev pub left : Acted → World
+abbrev pub left : CallOn → World
 left a = world (a .answered .machine) (a .table) (a .stack) (a .memory) (a .pool) (a .ends) (a .save)
 
 -- ---- one call after the other

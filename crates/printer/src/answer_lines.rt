@@ -1,6 +1,6 @@
 // How a call ended, and its values, on standard output. What is printed is no part of a contract.
 ghost use mathlib.Core.Path.{_≡_};
-use crate::Answered;
+use crate::CallOutcome;
 use crate::emit;
 use crate::show_head;
 use crate::show_height;
@@ -48,7 +48,7 @@ fn show_values<'a>(
 }
 
 // How many values are listed: those of a run that is done.
-fn height_of(answered: Answered) -> usize {
+fn height_of(answered: CallOutcome) -> usize {
     let head = answered.head;
     match head {
         Head::Done(_) => answered.machine.height,
@@ -75,7 +75,7 @@ pub(crate) fn show_answer(
     memory: &mut [u8],
     pool: &mut [u8],
     ends: &mut [u32; 1024],
-    answered: Answered,
+    answered: CallOutcome,
     verb: u8,
     fuel: u64,
     everything: bool,

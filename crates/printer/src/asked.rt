@@ -5,7 +5,7 @@ ghost use lib.ListN.{getD};
 ghost use Rattle.storage.specs.Tasks.{after};
 ghost use Rattle.image.specs.Numbers.{number-at};
 ghost use Rattle.printer.specs.Asked.{call-at, verb-at, fuel-at, verb-of, ended, ran, kept, saved, count-of};
-use crate::Answered;
+use crate::CallOutcome;
 use image::SaveResult;
 use listing::Head;
 use machine::CreateResult;
@@ -95,12 +95,12 @@ fn ended(finished: u64, outcome: Outcome) -> Head
 }
 
 // What came of a run.
-pub(crate) fn ran(report: Report) -> Answered
+pub(crate) fn ran(report: Report) -> CallOutcome
     ensures { λ r. ⌜ r ≡ ran report ⌝ }
 {
     let machine = report.machine;
     let outcome = report.outcome;
-    Answered {
+    CallOutcome {
         machine,
         head: ended(report.finished, outcome),
     }
@@ -117,19 +117,19 @@ fn kept(result: SaveResult) -> Head
 }
 
 // What came of a save.
-pub(crate) fn saved(report: SaveReport) -> Answered
+pub(crate) fn saved(report: SaveReport) -> CallOutcome
     ensures { λ r. ⌜ r ≡ saved report ⌝ }
 {
     let machine = report.machine;
     let result = report.result;
-    Answered {
+    CallOutcome {
         machine,
         head: kept(result),
     }
 }
 
 // The machine after a call.
-pub(crate) fn machine_after(answered: Answered) -> Machine
+pub(crate) fn machine_after(answered: CallOutcome) -> Machine
     ensures { λ r. ⌜ r ≡ answered .machine ⌝ }
 {
     answered.machine

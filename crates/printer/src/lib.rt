@@ -15,7 +15,7 @@ use storage::Task;
 use text::LineResult;
 
 // What came of a call: the machine after it, and how it ended.
-pub struct Answered {
+pub struct CallOutcome {
     pub machine: Machine,
     pub head: Head,
 }

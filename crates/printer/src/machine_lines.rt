@@ -1,6 +1,6 @@
 // The machine after a call, on standard output: its loops, its frames, its memory and the image. What is printed is no part of a contract.
 ghost use mathlib.Core.Path.{_≡_};
-use crate::Answered;
+use crate::CallOutcome;
 use crate::emit;
 use crate::show_report;
 use inlinevec::Frames;
@@ -72,7 +72,12 @@ fn show_image(image: &[u8]) {
 }
 
 // Where everything is shown: the machine after a call, its open loops and frames, its memory in use and the image.
-pub(crate) fn show_machine(memory: &mut [u8], save: &mut [u8], answered: Answered, everything: bool)
+pub(crate) fn show_machine(
+    memory: &mut [u8],
+    save: &mut [u8],
+    answered: CallOutcome,
+    everything: bool,
+)
     ensures { λ _. ⌜ (now (memory .exit) ≡ now (memory .entry)) × (now (save .exit) ≡ now (save .entry)) ⌝ }
 {
     if everything {

@@ -3,7 +3,7 @@ ghost use mathlib.Core.Path.{_≡_};
 ghost use Rattle.storage.specs.Tasks.{after};
 ghost use Rattle.machine.specs.World.{world};
 ghost use Rattle.printer.specs.Shows.{acted, performed, after-call, after-calls, lent, own};
-use crate::Answered;
+use crate::CallOutcome;
 use crate::answer_lines::show_answer;
 use crate::asked::count_of;
 use crate::asked::fuel_at;
@@ -45,7 +45,7 @@ fn act(
     machine: Machine,
     verb: u8,
     fuel: u64,
-) -> Answered
+) -> CallOutcome
     ensures { λ r. ⌜ acted r (now (table .exit)) (now (stack .exit)) (now (memory .exit)) (now (pool .exit)) (now (ends .exit)) (now (save .exit)) ≡ performed verb fuel (world machine (now (table .entry)) (now (stack .entry)) (now (memory .entry)) (now (pool .entry)) (now (ends .entry)) (now (save .entry))) ⌝ }
 {
     if verb < 2 {

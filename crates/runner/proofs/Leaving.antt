@@ -21,8 +21,8 @@ use Rattle.mechanism.specs.Act.{on-frames, act-by, act-at, act, bare}
 use Rattle.machine.specs.Machines.{op-at}
 use Rattle.mechanism.specs.Advance.{named-by, named, wanted}
 use Rattle.mechanism.specs.Turns.{turned}
-use Rattle.mechanism.specs.declared.Gone.{Gone}
-use Rattle.mechanism.specs.declared.Went.{Went}
+use Rattle.mechanism.specs.declared.Progress.{Progress}
+use Rattle.mechanism.specs.declared.MachineResult.{MachineResult}
 use Rattle.runner.proofs.Extents.{bare-extent}
 use Rattle.mechanism.proofs.Settled.{on-bool}
 use Rattle.runner.specs.Behind.{next-of}
@@ -65,13 +65,13 @@ module _ (stack memory pool ends : List ℕ) (machine : Machine) (task : Task) w
       simp (lt-leb _ _ here, bare-extent (code-of pool ends machine) (place pool ends machine) here (subst (λ (o : ℕ). bare o ≡ true) (sym at) alone), at)
 
 -- CALL names the slot of the value on top, past the last one where there is none
-names-top : (stack : List ℕ) (gone : Gone) → gone .op ≡ CALL → slot-at stack gone ≡ slot-of-call stack gone
+names-top : (stack : List ℕ) (gone : Progress) → gone .op ≡ CALL → slot-at stack gone ≡ slot-of-call stack gone
 unfolding wanted named named-by pop if-some
 names-top stack gone is = on-bool (eqb (gone .machine .height) 0) (λ none. simp (is, none)) (λ some. simp (is, some))
 
-module _ (table : List Task) (stack memory pool ends : List ℕ) (gone : Gone) (fits : length pool < 2 ^ 64) where
+module _ (table : List Task) (stack memory pool ends : List ℕ) (gone : Progress) (fits : length pool < 2 ^ 64) where
   -- the same turn, its answer and its next place given
-  abbrev with-next : (ℕ → Went) → ℕ → Acting
+  abbrev with-next : (ℕ → MachineResult) → ℕ → Acting
   with-next went next = acting (turned (gone .machine) (gone .left) (went next)) table stack memory pool ends
 
   -- END_CALL
@@ -91,7 +91,7 @@ module _ (table : List Task) (stack memory pool ends : List ℕ) (gone : Gone) (
 
 -- ---- an instruction by its opcode
 
-module _ (table : List Task) (stack memory pool ends : List ℕ) (gone : Gone) where
+module _ (table : List Task) (stack memory pool ends : List ℕ) (gone : Progress) where
   pub at-end-call : eqb (gone .op) END-CALL ≡ true → act-turn table stack memory pool ends gone ≡ acting (returned gone) table stack memory pool ends
   unfolding act-turn
   at-end-call is = simp (is)
@@ -108,11 +108,11 @@ module _ (table : List Task) (stack memory pool ends : List ℕ) (gone : Gone) w
 -- ---- what the calls of the carrier answer, put together
 
 -- the slot named, its task read, and called
-pub call-turns : (table : List Task) (stack ends : List ℕ) (gone : Gone) {slot : ℕ} {stack′ : List ℕ} {task : Task} {table′ : List Task} {r : Gone} {stack″ ends′ : List ℕ}
+pub call-turns : (table : List Task) (stack ends : List ℕ) (gone : Progress) {slot : ℕ} {stack′ : List ℕ} {task : Task} {table′ : List Task} {r : Progress} {stack″ ends′ : List ℕ}
     → after slot stack′ ≡ after (slot-of-call stack gone) stack → after task table′ ≡ after (getD table slot blank) table
     → after (after r stack″) ends′ ≡ after (after (called stack′ ends gone task) stack′) ends → entering r table′ stack″ ends′ ≡ call-turn table stack ends gone
 unfolding call-turn
 call-turns table stack ends gone {slot} {stack′} {task} {table′} names read went =
-    ap (λ (a : After (After Gone (List ℕ)) (List ℕ)). entering (a .answer .answer) table′ (a .answer .lent) (a .lent)) went
+    ap (λ (a : After (After Progress (List ℕ)) (List ℕ)). entering (a .answer .answer) table′ (a .answer .lent) (a .lent)) went
     ∙ ap (λ (a : After Task (List Task)). entering (called stack′ ends gone (a .answer)) (a .lent) stack′ ends) read
     ∙ ap (λ (a : After ℕ (List ℕ)). entering (called (a .lent) ends gone (getD table (a .answer) blank)) table (a .lent) ends) names

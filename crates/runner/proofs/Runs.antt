@@ -13,8 +13,8 @@ use Rattle.storage.specs.declared.Task.{Task}
 use Rattle.storage.specs.Tasks.{blank}
 use Rattle.mechanism.specs.Registers.{OnMemory, on-memory}
 use Rattle.mechanism.specs.declared.Registers.{Registers}
-use Rattle.mechanism.specs.declared.Did.{Did}
-use Rattle.mechanism.specs.declared.Did.the-variants.{Next, Refused}
+use Rattle.mechanism.specs.declared.RegistersResult.{RegistersResult}
+use Rattle.mechanism.specs.declared.RegistersResult.the-variants.{Next, Refused}
 use Rattle.image.specs.Table.{SavedTable, saved-table, Measured, measured, refused as not-measured, saved-as, save-table}
 use Rattle.image.specs.declared.SaveResult.the-variants.{Saved, NotSaved}
 use Rattle.mechanism.specs.Changes.{applied}
@@ -25,7 +25,7 @@ use Rattle.mechanism.specs.declared.Halt.{Halt}
 use Rattle.mechanism.specs.declared.Halt.the-variants as halt
 use Rattle.machine.specs.Machines.{current, code-of}
 use Rattle.mechanism.specs.Registers.{registers-of, settled}
-use Rattle.mechanism.specs.Advance.{GoneOn, ended as outcome-at, at-hand, wanted, halted-at, after-steps, advance}
+use Rattle.mechanism.specs.Advance.{ProgressOn, ended as outcome-at, at-hand, wanted, halted-at, after-steps, advance}
 use Rattle.mechanism.specs.Turns.{turned, save-went}
 use Rattle.runner.specs.Behind.{next-of, save-answered, saved}
 use Rattle.runner.proofs.Leaving.{inside, next-is}
@@ -163,7 +163,7 @@ more fuel _ (refuses refusal left r s m less) = refuses refusal left r s m (omeg
 more fuel _ (waits left r s m less some) = waits left r s m (omega arith) some
 
 module _ (code : List ℕ) (count : ℕ) where
-  onward-spare : (fuel : ℕ) → ((s m : List ℕ) (r : Registers) → Spare fuel (steps fuel s m code r count)) → (registers : Registers) (s m : List ℕ) (did : Did)
+  onward-spare : (fuel : ℕ) → ((s m : List ℕ) (r : Registers) → Spare fuel (steps fuel s m code r count)) → (registers : Registers) (s m : List ℕ) (did : RegistersResult)
       → Spare (suc fuel) (onward (λ s m r. steps fuel s m code r count) (suc fuel) registers s m did)
   unfolding onward
   onward-spare fuel others registers s m (Next reached) = more fuel _ (others s m reached)

@@ -18,9 +18,9 @@ use Rattle.storage.specs.Table.{set-state-at}
 use Rattle.storage.specs.Tasks.{After, after, blank, with-state}
 use Rattle.mechanism.specs.Registers.{OnMemory, on-memory, moved}
 use Rattle.mechanism.specs.Stack.{pushed-to, push-value}
-use Rattle.mechanism.specs.declared.Did.the-variants.{Next}
+use Rattle.mechanism.specs.declared.RegistersResult.the-variants.{Next}
 use Rattle.mechanism.specs.Changes.{keep, restate, tasked, applied}
-use Rattle.mechanism.specs.declared.Tasked.{Tasked}
+use Rattle.mechanism.specs.declared.RegistersAndChange.{RegistersAndChange}
 use Rattle.mechanism.specs.Fields.{if-found, owner-popped, owner, field-popped, field-of, get-field, get-found, op-t-get-field, state-answered, set-state, set-field, set-popped, set-found, op-t-set-field}
 use Rattle.mechanism.specs.declared.FieldResult.the-variants.{Field}
 use Rattle.bytecode.specs.Opcodes.{T-GET-FIELD, T-SET-FIELD, CALL, END-CALL}
@@ -30,11 +30,11 @@ use Rattle.mechanism.specs.Registers.{machine-at}
 use Rattle.mechanism.specs.Act.{OnAll, on-all, acted, went-by, tasked-by, after-memory, on-task, on-frames, act, bare}
 use Rattle.machine.specs.Machines.{op-at}
 use Rattle.mechanism.specs.Turns.{turned}
-use Rattle.mechanism.specs.declared.Gone.{Gone}
-use Rattle.mechanism.specs.declared.Went.the-variants.{Onto}
+use Rattle.mechanism.specs.declared.Progress.{Progress}
+use Rattle.mechanism.specs.declared.MachineResult.the-variants.{Onto}
 use Rattle.runner.specs.Going.{Acting, acting, after-act, task-turn, slot-at, state-turn, act-turn}
 use Rattle.runner.specs.States.{names-state, whole, went-on, got, gets, sets-to, set-third, sets, stated, restated}
-use Rattle.mechanism.specs.declared.Stated.{Stated}
+use Rattle.mechanism.specs.declared.StateAnswer.{StateAnswer}
 use Rattle.runner.proofs.Leaving.{place, inside, next-is, acts-bare, returns-turn, calls-turn, at-end-call, at-call, at-other}
 use Rattle.mechanism.proofs.Settled.{on-bool}
 
@@ -119,11 +119,11 @@ module _ (stack memory : List ℕ) (machine : Machine) (next : ℕ) (task : Task
 
 module _ (stack memory pool ends : List ℕ) (machine : Machine) (task : Task) where
   -- what it leaves, by its answer
-  abbrev leaves : After Stated (List ℕ) → OnAll
+  abbrev leaves : After StateAnswer (List ℕ) → OnAll
   leaves a = on-all (acted (a .answer .went) (cond (a .answer .states) (restate task (a .answer .state)) (keep task))) (a .lent) memory pool ends
 
   -- the state is set
-  abbrev set-to : ℕ → Stated
+  abbrev set-to : ℕ → StateAnswer
   set-to state = record { whole = false; states = true; state = state; went = went-on machine (machine .height - 3) }
 
   module _ (fits : length pool < 2 ^ 64) (named : names-state stack (machine .height) task ≡ true) where
@@ -140,14 +140,14 @@ module _ (stack memory pool ends : List ℕ) (machine : Machine) (task : Task) w
     unfolding on-frames on-task tasked-by went-by bare
     set-acts third has few at =
         acts-bare stack memory pool ends machine task T-SET-FIELD at (λ none. omega arith) refl
-        ∙ ap (λ (t : Tasked). on-all (tasked-by machine t) stack memory pool ends) (set-is stack memory machine (place pool ends machine + 1) task named third has few)
+        ∙ ap (λ (t : RegistersAndChange). on-all (tasked-by machine t) stack memory pool ends) (set-is stack memory machine (place pool ends machine + 1) task named third has few)
         ∙ ap (λ (next : ℕ). on-all (acted (Onto (machine-at machine next (machine .height - 3))) (restate task (to-u32 (getD stack (machine .height - 3) 0)))) stack memory pool ends)
         (sym (next-is pool ends machine fits (inside pool ends machine T-SET-FIELD at (λ none. omega arith))))
 
   -- the answer is that nothing was done, or what the instruction does
   data Answered (op : ℕ) : Type 0 where
     not-done : stated stack machine op task ≡ after (whole machine) stack → Answered op
-    done : {s : Stated} {stack′ : List ℕ} → stated stack machine op task ≡ after s stack′ → s .whole ≡ false → act stack memory pool ends machine task ≡ leaves (after s stack′) → Answered op
+    done : {s : StateAnswer} {stack′ : List ℕ} → stated stack machine op task ≡ after s stack′ → s .whole ≡ false → act stack memory pool ends machine task ≡ leaves (after s stack′) → Answered op
 
   gets-answered : (op : ℕ) → length pool < 2 ^ 64 → op-at pool ends machine ≡ op → eqb op T-GET-FIELD ≡ true → Answered op
   unfolding stated gets got
@@ -175,12 +175,12 @@ module _ (stack memory pool ends : List ℕ) (machine : Machine) (task : Task) w
 -- ---- a turn
 
 -- a state set is the change made
-restates : (table : List Task) (slot : ℕ) (task : Task) (s : Stated) → restated table slot s ≡ applied table slot (cond (s .states) (restate task (s .state)) (keep task))
+restates : (table : List Task) (slot : ℕ) (task : Task) (s : StateAnswer) → restated table slot s ≡ applied table slot (cond (s .states) (restate task (s .state)) (keep task))
 unfolding restated applied
 restates table slot task s = on-bool (s .states) (λ yes. simp (yes)) (λ no. simp (no))
 
 -- without the rest of the record, or with it, it is the turn on the whole one
-module _ (table : List Task) (stack memory pool ends : List ℕ) (gone : Gone) where
+module _ (table : List Task) (stack memory pool ends : List ℕ) (gone : Progress) where
   abbrev slot : ℕ
   slot = slot-at stack gone
 
@@ -191,7 +191,7 @@ module _ (table : List Task) (stack memory pool ends : List ℕ) (gone : Gone) w
   unfolding state-turn
   not-stated = refl
 
-  is-stated : (s : Stated) (stack′ : List ℕ) → s .whole ≡ false → act stack memory pool ends (gone .machine) record-of ≡ leaves stack memory pool ends (gone .machine) record-of (after s stack′)
+  is-stated : (s : StateAnswer) (stack′ : List ℕ) → s .whole ≡ false → act stack memory pool ends (gone .machine) record-of ≡ leaves stack memory pool ends (gone .machine) record-of (after s stack′)
       → state-turn table memory pool ends gone slot (after s stack′) ≡ task-turn table stack memory pool ends gone
   unfolding state-turn task-turn
   is-stated s stack′ small acts =
@@ -209,7 +209,7 @@ module _ (table : List Task) (stack memory pool ends : List ℕ) (gone : Gone) w
 
 -- ---- an instruction by its opcode is the one on the whole record, if its opcode is the one at the place
 
-pub acts-on-record : (table : List Task) (stack memory pool ends : List ℕ) (gone : Gone) → length pool < 2 ^ 64 → op-at pool ends (gone .machine) ≡ gone .op
+pub acts-on-record : (table : List Task) (stack memory pool ends : List ℕ) (gone : Progress) → length pool < 2 ^ 64 → op-at pool ends (gone .machine) ≡ gone .op
     → act-turn table stack memory pool ends gone ≡ task-turn table stack memory pool ends gone
 acts-on-record table stack memory pool ends gone fits at =
     on-bool (eqb (gone .op) END-CALL)
@@ -221,10 +221,10 @@ acts-on-record table stack memory pool ends gone fits at =
 -- ---- what the calls of the carrier answer, put together
 
 -- set, or not
-pub sets-state : (table : List Task) (slot : ℕ) (s : Stated) {answer : StateResult} {table′ : List Task} → s .states ≡ true → after answer table′ ≡ set-state-at table slot (s .state) → table′ ≡ restated table slot s
+pub sets-state : (table : List Task) (slot : ℕ) (s : StateAnswer) {answer : StateResult} {table′ : List Task} → s .states ≡ true → after answer table′ ≡ set-state-at table slot (s .state) → table′ ≡ restated table slot s
 unfolding restated
 sets-state table slot s sets e = ap (λ (a : After StateResult (List Task)). a .lent) e ∙ sym (simp (sets))
 
-pub sets-none : (table : List Task) (slot : ℕ) (s : Stated) → s .states ≡ false → table ≡ restated table slot s
+pub sets-none : (table : List Task) (slot : ℕ) (s : StateAnswer) → s .states ≡ false → table ≡ restated table slot s
 unfolding restated
 sets-none table slot s none = sym (simp (none))

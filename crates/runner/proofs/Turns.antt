@@ -17,15 +17,15 @@ use Rattle.mechanism.specs.Changes.{applied}
 use Rattle.mechanism.specs.declared.Change.{Change}
 use Rattle.machine.specs.declared.Machine.{Machine}
 use Rattle.mechanism.specs.Act.{OnAll, on-all, act}
-use Rattle.mechanism.specs.Advance.{GoneOn, gone-on, advance}
+use Rattle.mechanism.specs.Advance.{ProgressOn, gone-on, advance}
 use Rattle.mechanism.specs.Turns.{begun, turned, ran}
 use Rattle.runner.specs.Behind.{saved}
-use Rattle.mechanism.specs.declared.Acted.{Acted}
-use Rattle.mechanism.specs.declared.Gone.{Gone}
-use Rattle.machine.specs.declared.Ran.{Ran}
+use Rattle.mechanism.specs.declared.MachineAndChange.{MachineAndChange}
+use Rattle.mechanism.specs.declared.Progress.{Progress}
+use Rattle.machine.specs.declared.RunEnd.{RunEnd}
 use Rattle.machine.specs.World.{world}
 use Rattle.machine.specs.Run.{End, ran-to, run}
-use Rattle.mechanism.specs.declared.Stated.{Stated}
+use Rattle.mechanism.specs.declared.StateAnswer.{StateAnswer}
 use Rattle.runner.specs.States.{stated, restated}
 use Rattle.runner.specs.Going.{Going, going, Acting, acting, after-act, task-turn, slot-at, Entering, entering, call-turn, from-entering, returned, state-turn, act-turn, Saving, saving, after-save, save-turn, from-acting, from-saving, turn, beside, begins, goes-on}
 use Rattle.runner.proofs.Leaving.{at-end-call, at-call, at-other}
@@ -52,7 +52,7 @@ module _ (table : List Task) (slot : ℕ) (change : Change) where
 -- ---- an instruction on the record of the slot it names
 
 -- the slot named, its record read, the instruction done, its change made
-pub task-turns : (table : List Task) (stack memory pool ends : List ℕ) (gone : Gone) {slot : ℕ} {stack′ : List ℕ} {task : Task} {table′ table″ : List Task} {acted : Acted} {stack″ memory′ pool′ ends′ : List ℕ} {r : Gone}
+pub task-turns : (table : List Task) (stack memory pool ends : List ℕ) (gone : Progress) {slot : ℕ} {stack′ : List ℕ} {task : Task} {table′ table″ : List Task} {acted : MachineAndChange} {stack″ memory′ pool′ ends′ : List ℕ} {r : Progress}
     → after slot stack′ ≡ after (slot-at stack gone) stack → after task table′ ≡ after (getD table slot blank) table → on-all acted stack″ memory′ pool′ ends′ ≡ act stack′ memory pool ends (gone .machine) task
     → table″ ≡ applied table′ slot (acted .change) → r ≡ turned (gone .machine) (gone .left) (acted .went)
     → acting r table″ stack″ memory′ pool′ ends′ ≡ task-turn table stack memory pool ends gone
@@ -64,18 +64,18 @@ task-turns table stack memory pool ends gone {slot} {stack′} {task} {table′}
 
 -- ---- an instruction by its opcode
 
-module _ (table : List Task) (stack memory pool ends : List ℕ) (gone : Gone) where
+module _ (table : List Task) (stack memory pool ends : List ℕ) (gone : Progress) where
   -- END_CALL
-  pub acts-returning : {r : Gone} → eqb (gone .op) END-CALL ≡ true → r ≡ returned gone → acting r table stack memory pool ends ≡ act-turn table stack memory pool ends gone
-  acts-returning is went = ap (λ (g : Gone). acting g table stack memory pool ends) went ∙ sym (at-end-call table stack memory pool ends gone is)
+  pub acts-returning : {r : Progress} → eqb (gone .op) END-CALL ≡ true → r ≡ returned gone → acting r table stack memory pool ends ≡ act-turn table stack memory pool ends gone
+  acts-returning is went = ap (λ (g : Progress). acting g table stack memory pool ends) went ∙ sym (at-end-call table stack memory pool ends gone is)
 
   -- CALL
-  pub acts-calling : {r : Gone} {table′ : List Task} {stack′ ends′ : List ℕ} → eqb (gone .op) END-CALL ≡ false → eqb (gone .op) CALL ≡ true → entering r table′ stack′ ends′ ≡ call-turn table stack ends gone
+  pub acts-calling : {r : Progress} {table′ : List Task} {stack′ ends′ : List ℕ} → eqb (gone .op) END-CALL ≡ false → eqb (gone .op) CALL ≡ true → entering r table′ stack′ ends′ ≡ call-turn table stack ends gone
       → acting r table′ stack′ memory pool ends′ ≡ act-turn table stack memory pool ends gone
   acts-calling not is made = ap (λ (e : Entering). from-entering e memory pool) made ∙ sym (at-call table stack memory pool ends gone not is)
 
   -- any other: its slot named, its task read, and what it does to a state
-  module _ (not-end : eqb (gone .op) END-CALL ≡ false) (not-call : eqb (gone .op) CALL ≡ false) {slot : ℕ} {stack′ stack″ : List ℕ} {task : Task} {table′ : List Task} {s : Stated}
+  module _ (not-end : eqb (gone .op) END-CALL ≡ false) (not-call : eqb (gone .op) CALL ≡ false) {slot : ℕ} {stack′ stack″ : List ℕ} {task : Task} {table′ : List Task} {s : StateAnswer}
       (names : after slot stack′ ≡ after (slot-at stack gone) stack) (read : after task table′ ≡ after (getD table slot blank) table) (did : after s stack″ ≡ stated stack′ (gone .machine) (gone .op) task) where
     told : state-turn table′ memory pool ends gone slot (after s stack″) ≡ act-turn table stack memory pool ends gone
     told =
@@ -92,7 +92,7 @@ module _ (table : List Task) (stack memory pool ends : List ℕ) (gone : Gone) w
         made ∙ sym with-it ∙ told
 
     -- without it
-    pub acts-stating : {r : Gone} {table″ : List Task} → s .whole ≡ false → table″ ≡ restated table′ slot s → r ≡ turned (gone .machine) (gone .left) (s .went)
+    pub acts-stating : {r : Progress} {table″ : List Task} → s .whole ≡ false → table″ ≡ restated table′ slot s → r ≡ turned (gone .machine) (gone .left) (s .went)
         → acting r table″ stack″ memory pool ends ≡ act-turn table stack memory pool ends gone
     unfolding state-turn
     acts-stating small made went =
@@ -102,7 +102,7 @@ module _ (table : List Task) (stack memory pool ends : List ℕ) (gone : Gone) w
 -- ---- S_SAVE
 
 -- the table saved, its length kept
-pub save-turns : (table : List Task) (pool ends save : List ℕ) (gone : Gone) {result : SaveResult} {table′ : List Task} {pool′ ends′ save′ : List ℕ} {r : Gone}
+pub save-turns : (table : List Task) (pool ends save : List ℕ) (gone : Progress) {result : SaveResult} {table′ : List Task} {pool′ ends′ save′ : List ℕ} {r : Progress}
     → held (saved-table result save′) table′ pool′ ends′ ≡ held (save-table (gone .machine .«next_id») table pool ends (gone .machine .entries) save) table pool ends
     → r ≡ saved (gone .machine) (gone .left) result → saving r table′ pool′ ends′ save′ ≡ save-turn table pool ends save gone
 unfolding save-turn
@@ -111,15 +111,15 @@ save-turns table pool ends save gone {result} {table′} {pool′} {ends′} {sa
 
 -- ---- a turn
 
-module _ (table : List Task) (stack memory pool ends save : List ℕ) (gone : Gone) where
+module _ (table : List Task) (stack memory pool ends save : List ℕ) (gone : Progress) where
   -- one that saves
-  pub turns-saving : {r : Gone} {table′ : List Task} {pool′ ends′ save′ : List ℕ} → eqb (gone .op) S-SAVE ≡ true → saving r table′ pool′ ends′ save′ ≡ save-turn table pool ends save gone
+  pub turns-saving : {r : Progress} {table′ : List Task} {pool′ ends′ save′ : List ℕ} → eqb (gone .op) S-SAVE ≡ true → saving r table′ pool′ ends′ save′ ≡ save-turn table pool ends save gone
       → going r table′ stack memory pool′ ends′ save′ ≡ turn (going gone table stack memory pool ends save)
   unfolding turn
   turns-saving saves e = ap (λ (s : Saving). from-saving s stack memory) e ∙ sym (simp (saves))
 
   -- one that names a slot
-  pub turns-acting : {r : Gone} {table′ : List Task} {stack′ memory′ pool′ ends′ : List ℕ} → eqb (gone .op) S-SAVE ≡ false → gone .running ≡ true → acting r table′ stack′ memory′ pool′ ends′ ≡ act-turn table stack memory pool ends gone
+  pub turns-acting : {r : Progress} {table′ : List Task} {stack′ memory′ pool′ ends′ : List ℕ} → eqb (gone .op) S-SAVE ≡ false → gone .running ≡ true → acting r table′ stack′ memory′ pool′ ends′ ≡ act-turn table stack memory pool ends gone
       → going r table′ stack′ memory′ pool′ ends′ save ≡ turn (going gone table stack memory pool ends save)
   unfolding turn
   turns-acting saves running e = ap (λ (a : Acting). from-acting a save) e ∙ sym (simp (saves, running))
@@ -132,17 +132,17 @@ module _ (table : List Task) (stack memory pool ends save : List ℕ) (gone : Go
 -- ---- the run
 
 -- it begins
-pub begins-same : (machine : Machine) (fuel : ℕ) (table : List Task) (stack memory pool ends save : List ℕ) {r : Gone} → r ≡ begun machine fuel
+pub begins-same : (machine : Machine) (fuel : ℕ) (table : List Task) (stack memory pool ends save : List ℕ) {r : Progress} → r ≡ begun machine fuel
     → comes-to (going r table stack memory pool ends save) ≡ run fuel (world machine table stack memory pool ends save)
 unfolding comes-to
-begins-same machine fuel table stack memory pool ends save e = ap (λ (g : Gone). comes-to (going g table stack memory pool ends save)) e
+begins-same machine fuel table stack memory pool ends save e = ap (λ (g : Progress). comes-to (going g table stack memory pool ends save)) e
 
 -- the current code, and the instruction that it comes to
-pub goes-at : (g : Going) {r r′ : Gone} {table′ : List Task} {stack memory pool ends stack′ memory′ pool′ ends′ save′ : List ℕ}
+pub goes-at : (g : Going) {r r′ : Progress} {table′ : List Task} {stack memory pool ends stack′ memory′ pool′ ends′ save′ : List ℕ}
     → gone-on r stack memory pool ends ≡ advance (g .stack) (g .memory) (g .pool) (g .ends) (g .gone .machine) (g .gone .left)
     → going r′ table′ stack′ memory′ pool′ ends′ save′ ≡ turn (going r (g .table) stack memory pool ends (g .save)) → going r′ table′ stack′ memory′ pool′ ends′ save′ ≡ goes-on g
 unfolding goes-on begins
-goes-at g e f = f ∙ ap (λ (a : GoneOn). turn (beside a (g .table) (g .save))) e
+goes-at g e f = f ∙ ap (λ (a : ProgressOn). turn (beside a (g .table) (g .save))) e
 
 -- it comes to the same end
 pub goes-same : (g : Going) {now : Going} {end : End} → length (g .pool) < 2 ^ 64 → now ≡ goes-on g → g .gone .running ≡ true → comes-to g ≡ end → comes-to now ≡ end
@@ -153,5 +153,5 @@ pub goes-fewer : (g : Going) {now : Going} → length (g .pool) < 2 ^ 64 → now
 goes-fewer g fits e running = subst (λ (h : Going). turns-left h < turns-left g) (sym e) (fewer g fits running)
 
 -- at its outcome
-pub ends-run : (g : Going) {r : Ran} {end : End} → g .gone .running ≡ false → r ≡ ran (g .gone) → comes-to g ≡ end → ran-to r (g .table) (g .stack) (g .memory) (g .pool) (g .ends) (g .save) ≡ end
-ends-run g running e so-far = ap (λ (a : Ran). ran-to a (g .table) (g .stack) (g .memory) (g .pool) (g .ends) (g .save)) e ∙ sym (ended g running) ∙ so-far
+pub ends-run : (g : Going) {r : RunEnd} {end : End} → g .gone .running ≡ false → r ≡ ran (g .gone) → comes-to g ≡ end → ran-to r (g .table) (g .stack) (g .memory) (g .pool) (g .ends) (g .save) ≡ end
+ends-run g running e so-far = ap (λ (a : RunEnd). ran-to a (g .table) (g .stack) (g .memory) (g .pool) (g .ends) (g .save)) e ∙ sym (ended g running) ∙ so-far

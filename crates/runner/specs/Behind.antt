@@ -6,17 +6,17 @@ use Rattle.machine.specs.declared.Machine.{Machine}
 use Rattle.machine.specs.Machines.{current, with-saved}
 use Rattle.mechanism.specs.Registers.{machine-at}
 use Rattle.mechanism.specs.Turns.{turned}
-use Rattle.mechanism.specs.declared.Gone.{Gone}
-use Rattle.mechanism.specs.declared.Went.{Went}
-use Rattle.mechanism.specs.declared.Went.the-variants.{Onto, Refused}
+use Rattle.mechanism.specs.declared.Progress.{Progress}
+use Rattle.mechanism.specs.declared.MachineResult.{MachineResult}
+use Rattle.mechanism.specs.declared.MachineResult.the-variants.{Onto, Refused}
 
 unfoldable pub next-of : Machine → ℕ
 next-of machine = (current (machine .frames) .place + 1) % 2 ^ 64
 
 -- what S_SAVE answers: the length of the image is kept
-unfoldable pub save-answered : Machine → SaveResult → Went
+unfoldable pub save-answered : Machine → SaveResult → MachineResult
 save-answered machine (Saved length) = Onto (with-saved (machine-at machine (next-of machine) (machine .height)) length)
 save-answered machine (NotSaved refusal) = Refused refusal
 
-unfoldable pub saved : Machine → ℕ → SaveResult → Gone
+unfoldable pub saved : Machine → ℕ → SaveResult → Progress
 saved machine left result = turned machine left (save-answered machine result)

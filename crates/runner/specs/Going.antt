@@ -11,18 +11,18 @@ use Rattle.mechanism.specs.Changes.{applied}
 use Rattle.image.specs.Table.{SavedTable, save-table}
 use Rattle.mechanism.specs.Frames.{op-call, op-end-call}
 use Rattle.mechanism.specs.Act.{OnAll, act}
-use Rattle.mechanism.specs.Advance.{GoneOn, named, wanted, advance}
+use Rattle.mechanism.specs.Advance.{ProgressOn, named, wanted, advance}
 use Rattle.mechanism.specs.Turns.{turned}
 use Rattle.runner.specs.Behind.{saved}
-use Rattle.mechanism.specs.declared.Gone.{Gone}
-use Rattle.mechanism.specs.declared.Stated.{Stated}
+use Rattle.mechanism.specs.declared.Progress.{Progress}
+use Rattle.mechanism.specs.declared.StateAnswer.{StateAnswer}
 use Rattle.machine.specs.World.{World, world}
 use Rattle.runner.specs.Behind.{next-of}
 use Rattle.runner.specs.States.{stated, restated}
 
 -- the machine, then what is lent, in the order of each call
 pub record Going : Type 0 where
-  pub gone : Gone
+  pub gone : Progress
   pub table : List Task
   pub stack : List ℕ
   pub memory : List ℕ
@@ -31,7 +31,7 @@ pub record Going : Type 0 where
   pub save : List ℕ
 
 -- these seven together
-abbrev pub going : Gone → List Task → List ℕ → List ℕ → List ℕ → List ℕ → List ℕ → Going
+abbrev pub going : Progress → List Task → List ℕ → List ℕ → List ℕ → List ℕ → List ℕ → Going
 going gone table stack memory pool ends save =
     record { gone = gone; table = table; stack = stack; memory = memory; pool = pool; ends = ends; save = save }
 
@@ -39,53 +39,53 @@ going gone table stack memory pool ends save =
 
 -- without the save buffer
 pub record Acting : Type 0 where
-  pub gone : Gone
+  pub gone : Progress
   pub table : List Task
   pub stack : List ℕ
   pub memory : List ℕ
   pub pool : List ℕ
   pub ends : List ℕ
 
-abbrev pub acting : Gone → List Task → List ℕ → List ℕ → List ℕ → List ℕ → Acting
+abbrev pub acting : Progress → List Task → List ℕ → List ℕ → List ℕ → List ℕ → Acting
 acting gone table stack memory pool ends = record { gone = gone; table = table; stack = stack; memory = memory; pool = pool; ends = ends }
 
-abbrev pub after-act : Gone → ℕ → List Task → OnAll → Acting
+abbrev pub after-act : Progress → ℕ → List Task → OnAll → Acting
 after-act gone slot table after =
     acting (turned (gone .machine) (gone .left) (after .acted .went)) (applied table slot (after .acted .change)) (after .stack) (after .memory) (after .pool) (after .ends)
 
 -- the slot that the instruction at hand names
-abbrev pub slot-at : List ℕ → Gone → ℕ
+abbrev pub slot-at : List ℕ → Progress → ℕ
 slot-at stack gone = wanted stack (gone .machine) (gone .op)
 
-unfoldable pub task-turn : List Task → List ℕ → List ℕ → List ℕ → List ℕ → Gone → Acting
+unfoldable pub task-turn : List Task → List ℕ → List ℕ → List ℕ → List ℕ → Progress → Acting
 task-turn table stack memory pool ends gone =
     after-act gone (slot-at stack gone) table (act stack memory pool ends (gone .machine) (getD table (slot-at stack gone) blank))
 
 -- ---- CALL and END_CALL, which change no slot
 
 -- after END_CALL
-unfoldable pub returned : Gone → Gone
+unfoldable pub returned : Progress → Progress
 returned gone = turned (gone .machine) (gone .left) (op-end-call (gone .machine) (next-of (gone .machine)))
 
 -- after CALL of a task
-unfoldable pub called : List ℕ → List ℕ → Gone → Task → Gone
+unfoldable pub called : List ℕ → List ℕ → Progress → Task → Progress
 called stack ends gone task = turned (gone .machine) (gone .left) (op-call stack ends (gone .machine) (next-of (gone .machine)) task)
 
 -- the slot that it names
-abbrev pub slot-of-call : List ℕ → Gone → ℕ
+abbrev pub slot-of-call : List ℕ → Progress → ℕ
 slot-of-call stack gone = named stack (gone .machine .height)
 
 -- without memory, the pool and the save buffer
 pub record Entering : Type 0 where
-  pub gone : Gone
+  pub gone : Progress
   pub table : List Task
   pub stack : List ℕ
   pub ends : List ℕ
 
-abbrev pub entering : Gone → List Task → List ℕ → List ℕ → Entering
+abbrev pub entering : Progress → List Task → List ℕ → List ℕ → Entering
 entering gone table stack ends = record { gone = gone; table = table; stack = stack; ends = ends }
 
-unfoldable pub call-turn : List Task → List ℕ → List ℕ → Gone → Entering
+unfoldable pub call-turn : List Task → List ℕ → List ℕ → Progress → Entering
 call-turn table stack ends gone = entering (called stack ends gone (getD table (slot-of-call stack gone) blank)) table stack ends
 
 abbrev pub from-entering : Entering → List ℕ → List ℕ → Acting
@@ -94,12 +94,12 @@ from-entering e memory pool = acting (e .gone) (e .table) (e .stack) memory pool
 -- ---- an instruction by its opcode
 
 -- on a state without the rest of a record, or on the whole one
-unfoldable pub state-turn : List Task → List ℕ → List ℕ → List ℕ → Gone → ℕ → After Stated (List ℕ) → Acting
+unfoldable pub state-turn : List Task → List ℕ → List ℕ → List ℕ → Progress → ℕ → After StateAnswer (List ℕ) → Acting
 state-turn table memory pool ends gone slot a =
     cond (a .answer .whole) (task-turn table (a .lent) memory pool ends gone)
     (acting (turned (gone .machine) (gone .left) (a .answer .went)) (restated table slot (a .answer)) (a .lent) memory pool ends)
 
-unfoldable pub act-turn : List Task → List ℕ → List ℕ → List ℕ → List ℕ → Gone → Acting
+unfoldable pub act-turn : List Task → List ℕ → List ℕ → List ℕ → List ℕ → Progress → Acting
 act-turn table stack memory pool ends gone =
     cond (eqb (gone .op) END-CALL) (acting (returned gone) table stack memory pool ends)
     (cond (eqb (gone .op) CALL) (from-entering (call-turn table stack ends gone) memory pool)
@@ -109,19 +109,19 @@ act-turn table stack memory pool ends gone =
 
 -- without the stack and memory
 pub record Saving : Type 0 where
-  pub gone : Gone
+  pub gone : Progress
   pub table : List Task
   pub pool : List ℕ
   pub ends : List ℕ
   pub save : List ℕ
 
-abbrev pub saving : Gone → List Task → List ℕ → List ℕ → List ℕ → Saving
+abbrev pub saving : Progress → List Task → List ℕ → List ℕ → List ℕ → Saving
 saving gone table pool ends save = record { gone = gone; table = table; pool = pool; ends = ends; save = save }
 
-abbrev pub after-save : Gone → List Task → List ℕ → List ℕ → SavedTable → Saving
+abbrev pub after-save : Progress → List Task → List ℕ → List ℕ → SavedTable → Saving
 after-save gone table pool ends after = saving (saved (gone .machine) (gone .left) (after .answer)) table pool ends (after .save)
 
-unfoldable pub save-turn : List Task → List ℕ → List ℕ → List ℕ → Gone → Saving
+unfoldable pub save-turn : List Task → List ℕ → List ℕ → List ℕ → Progress → Saving
 save-turn table pool ends save gone =
     after-save gone table pool ends (save-table (gone .machine .«next_id») table pool ends (gone .machine .entries) save)
 
@@ -140,7 +140,7 @@ turn g =
     (cond (g .gone .running) (from-acting (act-turn (g .table) (g .stack) (g .memory) (g .pool) (g .ends) (g .gone)) (g .save)) g)
 
 -- the run of the current code, with the table and the save buffer beside it
-abbrev pub beside : GoneOn → List Task → List ℕ → Going
+abbrev pub beside : ProgressOn → List Task → List ℕ → Going
 beside a table save = going (a .gone) table (a .stack) (a .memory) (a .pool) (a .ends) save
 
 unfoldable pub begins : ℕ → World → Going

@@ -19,10 +19,10 @@ use bytecode::opcodes::T_SET_FIELD;
 use bytecode::operands::prepare_u16_from_be_checked;
 use errors::Refusal;
 use machine::Machine;
-use mechanism::Acted;
-use mechanism::Did;
-use mechanism::Tasked;
-use mechanism::Went;
+use mechanism::MachineAndChange;
+use mechanism::MachineResult;
+use mechanism::RegistersAndChange;
+use mechanism::RegistersResult;
 use mechanism::changes::keep;
 use mechanism::machines::byte_at;
 use mechanism::machines::code_of;
@@ -100,67 +100,67 @@ fn push_calldata(
     machine: Machine,
     place: usize,
     next: usize,
-) -> Went
+) -> MachineResult
     requires { ⌜ place ≤ 9223372036854775808 ⌝ }
     ensures { λ r. ⌜ on-pool r (now (stack .exit)) (now (pool .exit)) (now (ends .exit)) ≡ push-calldata (now (stack .entry)) (now (pool .entry)) (now (ends .entry)) machine place next ⌝ }
 {
     let height = machine.height;
     if 1000 <= height {
-        return Went::Refused(Refusal::StackOverflow);
+        return MachineResult::Refused(Refusal::StackOverflow);
     }
     match intern_calldata(pool, ends, machine, place) {
-        InternResult::NotInterned(refusal) => Went::Refused(refusal),
+        InternResult::NotInterned(refusal) => MachineResult::Refused(refusal),
         InternResult::Interned { entry, bytes } => {
             stack[height] = values::boxing::to_calldata_val(entry.0);
-            Went::Onto(with_entry(machine, next, entry, bytes))
+            MachineResult::Onto(with_entry(machine, next, entry, bytes))
         }
     }
 }
 
 // The machine after an instruction's registers.
-fn went_by(machine: Machine, did: Did) -> Went
+fn went_by(machine: Machine, did: RegistersResult) -> MachineResult
     ensures { λ r. ⌜ r ≡ went-by machine did ⌝ }
 {
     match did {
-        Did::Next(registers) => Went::Onto(settled(machine, registers)),
-        Did::Refused(refusal) => Went::Refused(refusal),
+        RegistersResult::Next(registers) => MachineResult::Onto(settled(machine, registers)),
+        RegistersResult::Refused(refusal) => MachineResult::Refused(refusal),
     }
 }
 
 // After T_CREATE there is one more id.
-fn created(machine: Machine, did: Did) -> Went
+fn created(machine: Machine, did: RegistersResult) -> MachineResult
     ensures { λ r. ⌜ r ≡ created machine did ⌝ }
 {
     match did {
-        Did::Next(registers) => {
+        RegistersResult::Next(registers) => {
             let mut after = settled(machine, registers);
             after.next_id = std::num::wrapping_add_u32(machine.next_id, 1);
             after.count = storage::ids::len_after(machine.count, machine.next_id);
-            Went::Onto(after)
+            MachineResult::Onto(after)
         }
-        Did::Refused(refusal) => Went::Refused(refusal),
+        RegistersResult::Refused(refusal) => MachineResult::Refused(refusal),
     }
 }
 
 // The machine after an instruction on a task.
-fn tasked_by(machine: Machine, tasked: Tasked) -> Acted
+fn tasked_by(machine: Machine, tasked: RegistersAndChange) -> MachineAndChange
     ensures { λ r. ⌜ r ≡ tasked-by machine tasked ⌝ }
 {
     let did = tasked.did;
     let change = tasked.change;
-    Acted {
+    MachineAndChange {
         went: went_by(machine, did),
         change,
     }
 }
 
 // After T_CREATE.
-fn created_by(machine: Machine, tasked: Tasked) -> Acted
+fn created_by(machine: Machine, tasked: RegistersAndChange) -> MachineAndChange
     ensures { λ r. ⌜ r ≡ created-by machine tasked ⌝ }
 {
     let did = tasked.did;
     let change = tasked.change;
-    Acted {
+    MachineAndChange {
         went: created(machine, did),
         change,
     }
@@ -174,7 +174,7 @@ fn on_task(
     task: Task,
     op: u8,
     next: usize,
-) -> Acted
+) -> MachineAndChange
     ensures { λ r. ⌜ r ≡ on-task (now (stack .entry)) (now (memory .entry)) machine task op next ⌝ }
 {
     let registers = registers_of(machine);
@@ -191,8 +191,8 @@ fn on_task(
     if op == T_DELETE {
         return tasked_by(machine, op_t_delete(stack, registers, next, task));
     }
-    Acted {
-        went: Went::Onto(settled(machine, moved(registers, next, machine.height))),
+    MachineAndChange {
+        went: MachineResult::Onto(settled(machine, moved(registers, next, machine.height))),
         change: keep(task),
     }
 }
@@ -208,31 +208,31 @@ fn on_frames(
     op: u8,
     place: usize,
     next: usize,
-) -> Acted
+) -> MachineAndChange
     requires { ⌜ place ≤ 9223372036854775808 ⌝ }
     ensures { λ r. ⌜ on-all r (now (stack .exit)) (now (memory .exit)) (now (pool .exit)) (now (ends .exit)) ≡ on-frames (now (stack .entry)) (now (memory .entry)) (now (pool .entry)) (now (ends .entry)) machine task op place next ⌝ }
 {
     if op == PUSH_CALLDATA {
-        return Acted {
+        return MachineAndChange {
             went: push_calldata(stack, pool, ends, machine, place, next),
             change: keep(task),
         };
     }
     if op == T_GET_FIELD {
         let did = op_t_get_field(stack, memory, registers_of(machine), next, task);
-        return Acted {
+        return MachineAndChange {
             went: went_by(machine, did),
             change: keep(task),
         };
     }
     if op == CALL {
-        return Acted {
+        return MachineAndChange {
             went: op_call(stack, ends, machine, next, task),
             change: keep(task),
         };
     }
     if op == END_CALL {
-        return Acted {
+        return MachineAndChange {
             went: op_end_call(machine, next),
             change: keep(task),
         };
@@ -267,24 +267,24 @@ fn reach(code: &[u8], place: usize, op: u8) -> Extent
 }
 
 // An instruction that the code's end cuts.
-fn cut(task: Task) -> Acted
+fn cut(task: Task) -> MachineAndChange
     ensures { λ r. ⌜ r ≡ cut task ⌝ }
 {
-    Acted {
-        went: Went::Refused(Refusal::UnexpectedEOB),
+    MachineAndChange {
+        went: MachineResult::Refused(Refusal::UnexpectedEOB),
         change: keep(task),
     }
 }
 
 // The instruction at hand, which cannot save.
-pub fn act(
+pub(crate) fn act(
     stack: &mut [u64; 1000],
     memory: &mut [u8],
     pool: &mut [u8],
     ends: &mut [u32; 1024],
     machine: Machine,
     task: Task,
-) -> Acted
+) -> MachineAndChange
     ensures { λ r. ⌜ on-all r (now (stack .exit)) (now (memory .exit)) (now (pool .exit)) (now (ends .exit)) ≡ act (now (stack .entry)) (now (memory .entry)) (now (pool .entry)) (now (ends .entry)) machine task ⌝ }
 {
     let frame = current(machine.frames);

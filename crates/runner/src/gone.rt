@@ -8,9 +8,9 @@ ghost use Rattle.runner.specs.Going.{returned, called};
 use image::SaveResult;
 use machine::Machine;
 use machine::Outcome;
-use machine::Ran;
-use mechanism::Gone;
-use mechanism::Went;
+use machine::RunEnd;
+use mechanism::MachineResult;
+use mechanism::Progress;
 use mechanism::machines::current;
 use mechanism::machines::registers_of;
 use mechanism::machines::settled;
@@ -18,10 +18,10 @@ use mechanism::stack::moved;
 use storage::Task;
 
 // A run at its beginning.
-pub(crate) fn begun(machine: Machine, fuel: u64) -> Gone
+pub(crate) fn begun(machine: Machine, fuel: u64) -> Progress
     ensures { λ r. ⌜ r ≡ begun machine fuel ⌝ }
 {
-    Gone {
+    Progress {
         machine,
         left: fuel,
         running: true,
@@ -41,18 +41,18 @@ fn spent(left: u64) -> u64
 }
 
 // After an instruction: on its way again, or refused, the machine as before it.
-pub(crate) fn turned(machine: Machine, left: u64, went: Went) -> Gone
+pub(crate) fn turned(machine: Machine, left: u64, went: MachineResult) -> Progress
     ensures { λ r. ⌜ r ≡ turned machine left went ⌝ }
 {
     match went {
-        Went::Onto(after) => Gone {
+        MachineResult::Onto(after) => Progress {
             machine: after,
             left: spent(left),
             running: true,
             op: 0,
             outcome: Outcome::Paused,
         },
-        Went::Refused(refusal) => Gone {
+        MachineResult::Refused(refusal) => Progress {
             machine,
             left,
             running: false,
@@ -71,7 +71,7 @@ pub(crate) fn next_of(machine: Machine) -> usize
 }
 
 // After END_CALL, which needs no slot.
-pub(crate) fn returned(gone: Gone) -> Gone
+pub(crate) fn returned(gone: Progress) -> Progress
     ensures { λ r. ⌜ r ≡ returned gone ⌝ }
 {
     let went = stepper::entering::op_end_call(gone.machine, next_of(gone.machine));
@@ -82,9 +82,9 @@ pub(crate) fn returned(gone: Gone) -> Gone
 pub(crate) fn called(
     stack: &mut [u64; 1000],
     ends: &mut [u32; 1024],
-    gone: Gone,
+    gone: Progress,
     task: Task,
-) -> Gone
+) -> Progress
     ensures { λ r. ⌜ after (after r (now (stack .exit))) (now (ends .exit)) ≡ after (after (called (now (stack .entry)) (now (ends .entry)) gone task) (now (stack .entry))) (now (ends .entry)) ⌝ }
 {
     let went = stepper::entering::op_call(stack, ends, gone.machine, next_of(gone.machine), task);
@@ -92,28 +92,28 @@ pub(crate) fn called(
 }
 
 // After S_SAVE: the length of the image is kept.
-pub(crate) fn saved(machine: Machine, left: u64, result: SaveResult) -> Gone
+pub(crate) fn saved(machine: Machine, left: u64, result: SaveResult) -> Progress
     ensures { λ r. ⌜ r ≡ saved machine left result ⌝ }
 {
     match result {
-        SaveResult::NotSaved(refusal) => turned(machine, left, Went::Refused(refusal)),
+        SaveResult::NotSaved(refusal) => turned(machine, left, MachineResult::Refused(refusal)),
         SaveResult::Saved(length) => {
             let registers = registers_of(machine);
             let next = next_of(machine);
             let mut after = settled(machine, moved(registers, next, machine.height));
             after.saved = length;
-            turned(machine, left, Went::Onto(after))
+            turned(machine, left, MachineResult::Onto(after))
         }
     }
 }
 
 // The end of a run.
-pub(crate) fn ran(gone: Gone) -> Ran
+pub(crate) fn ran(gone: Progress) -> RunEnd
     ensures { λ r. ⌜ r ≡ ran gone ⌝ }
 {
     let machine = gone.machine;
     let outcome = gone.outcome;
-    Ran {
+    RunEnd {
         machine,
         left: gone.left,
         outcome,

@@ -1,5 +1,5 @@
 // The run of a machine over everything lent to it: the functions that carry the lent table of tasks from instruction to instruction.
-pub mod act;
+mod act;
 mod gone;
 mod states;
 mod wanted;
@@ -15,11 +15,11 @@ use bytecode::opcodes::CALL;
 use bytecode::opcodes::END_CALL;
 use bytecode::opcodes::S_SAVE;
 use machine::Machine;
-use machine::Ran;
+use machine::RunEnd;
 use mechanism::Change;
-use mechanism::Gone;
-use mechanism::Stated;
-use mechanism::Went;
+use mechanism::MachineResult;
+use mechanism::Progress;
+use mechanism::StateAnswer;
 use stepper::advance::advance;
 use storage::Task;
 
@@ -44,8 +44,8 @@ fn task_turn(
     memory: &mut [u8],
     pool: &mut [u8],
     ends: &mut [u32; 1024],
-    gone: Gone,
-) -> Gone
+    gone: Progress,
+) -> Progress
     ensures { λ r. ⌜ acting r (now (table .exit)) (now (stack .exit)) (now (memory .exit)) (now (pool .exit)) (now (ends .exit)) ≡ task-turn (now (table .entry)) (now (stack .entry)) (now (memory .entry)) (now (pool .entry)) (now (ends .entry)) gone ⌝ }
 {
     let slot = crate::wanted::slot_of(stack, gone);
@@ -56,7 +56,7 @@ fn task_turn(
 }
 
 // The state that an instruction sets in the slot that it names.
-fn restate(table: &mut [Task], slot: usize, stated: Stated)
+fn restate(table: &mut [Task], slot: usize, stated: StateAnswer)
     ensures { λ _. ⌜ now (table .exit) ≡ restated (now (table .entry)) slot stated ⌝ }
 {
     if stated.states {
@@ -70,8 +70,8 @@ fn call_turn(
     table: &mut [Task],
     stack: &mut [u64; 1000],
     ends: &mut [u32; 1024],
-    gone: Gone,
-) -> Gone
+    gone: Progress,
+) -> Progress
     ensures { λ r. ⌜ entering r (now (table .exit)) (now (stack .exit)) (now (ends .exit)) ≡ call-turn (now (table .entry)) (now (stack .entry)) (now (ends .entry)) gone ⌝ }
 {
     let slot = crate::wanted::slot_of_call(stack, gone);
@@ -86,8 +86,8 @@ fn act_turn(
     memory: &mut [u8],
     pool: &mut [u8],
     ends: &mut [u32; 1024],
-    gone: Gone,
-) -> Gone
+    gone: Progress,
+) -> Progress
     ensures { λ r. ⌜ acting r (now (table .exit)) (now (stack .exit)) (now (memory .exit)) (now (pool .exit)) (now (ends .exit)) ≡ act-turn (now (table .entry)) (now (stack .entry)) (now (memory .entry)) (now (pool .entry)) (now (ends .entry)) gone ⌝ }
 {
     let op = gone.op;
@@ -113,8 +113,8 @@ fn save_turn(
     pool: &mut [u8],
     ends: &mut [u32; 1024],
     save: &mut [u8],
-    gone: Gone,
-) -> Gone
+    gone: Progress,
+) -> Progress
     ensures { λ r. ⌜ saving r (now (table .exit)) (now (pool .exit)) (now (ends .exit)) (now (save .exit)) ≡ save-turn (now (table .entry)) (now (pool .entry)) (now (ends .entry)) (now (save .entry)) gone ⌝ }
 {
     let result = table_image::save_table(
@@ -136,8 +136,8 @@ fn turn(
     pool: &mut [u8],
     ends: &mut [u32; 1024],
     save: &mut [u8],
-    gone: Gone,
-) -> Gone
+    gone: Progress,
+) -> Progress
     ensures { λ r. ⌜ going r (now (table .exit)) (now (stack .exit)) (now (memory .exit)) (now (pool .exit)) (now (ends .exit)) (now (save .exit)) ≡ turn (going gone (now (table .entry)) (now (stack .entry)) (now (memory .entry)) (now (pool .entry)) (now (ends .entry)) (now (save .entry))) ⌝ }
 {
     if gone.op == S_SAVE {
@@ -150,7 +150,7 @@ fn turn(
 }
 
 // The run: at most so many instructions.
-pub fn drive(
+pub fn run(
     table: &mut [Task],
     stack: &mut [u64; 1000],
     memory: &mut [u8],
@@ -159,7 +159,7 @@ pub fn drive(
     save: &mut [u8],
     machine: Machine,
     fuel: u64,
-) -> Ran
+) -> RunEnd
     ensures { λ r. ⌜ ran-to r (now (table .exit)) (now (stack .exit)) (now (memory .exit)) (now (pool .exit)) (now (ends .exit)) (now (save .exit)) ≡ run fuel (world machine (now (table .entry)) (now (stack .entry)) (now (memory .entry)) (now (pool .entry)) (now (ends .entry)) (now (save .entry))) ⌝ }
 {
     let mut gone = crate::gone::begun(machine, fuel);

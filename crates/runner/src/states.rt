@@ -7,8 +7,8 @@ use crate::gone::next_of;
 use bytecode::opcodes::T_GET_FIELD;
 use bytecode::opcodes::T_SET_FIELD;
 use machine::Machine;
-use mechanism::Stated;
-use mechanism::Went;
+use mechanism::MachineResult;
+use mechanism::StateAnswer;
 use mechanism::machines::registers_of;
 use mechanism::machines::settled;
 use mechanism::stack::moved;
@@ -31,27 +31,30 @@ fn names_state(stack: &[u64; 1000], height: usize, task: Task) -> bool
 }
 
 // Nothing is done.
-fn whole(machine: Machine) -> Stated
+fn whole(machine: Machine) -> StateAnswer
     ensures { λ r. ⌜ r ≡ whole machine ⌝ }
 {
-    Stated {
+    StateAnswer {
         whole: true,
         states: false,
         state: 0,
-        went: Went::Onto(machine),
+        went: MachineResult::Onto(machine),
     }
 }
 
 // The state is read.
-fn got(stack: &mut [u64; 1000], machine: Machine, task: Task) -> Stated
+fn got(stack: &mut [u64; 1000], machine: Machine, task: Task) -> StateAnswer
     requires { ⌜ (2 ≤ machine .height) × (machine .height ≤ 1000) ⌝ }
     ensures { λ r. ⌜ after r (now (stack .exit)) ≡ got (now (stack .entry)) machine task ⌝ }
 {
     let height = machine.height;
     stack[height - 2] = values::boxing::to_u32_val(task.state.state as u32);
     let registers = registers_of(machine);
-    let went = Went::Onto(settled(machine, moved(registers, next_of(machine), height - 1)));
-    Stated {
+    let went = MachineResult::Onto(settled(
+        machine,
+        moved(registers, next_of(machine), height - 1),
+    ));
+    StateAnswer {
         whole: false,
         states: false,
         state: 0,
@@ -60,7 +63,7 @@ fn got(stack: &mut [u64; 1000], machine: Machine, task: Task) -> Stated
 }
 
 // The state is read, if one is named.
-fn gets(stack: &mut [u64; 1000], machine: Machine, task: Task) -> Stated
+fn gets(stack: &mut [u64; 1000], machine: Machine, task: Task) -> StateAnswer
     ensures { λ r. ⌜ after r (now (stack .exit)) ≡ gets (now (stack .entry)) machine task ⌝ }
 {
     if names_state(stack, machine.height, task) {
@@ -70,7 +73,7 @@ fn gets(stack: &mut [u64; 1000], machine: Machine, task: Task) -> Stated
 }
 
 // The state is set, if the task has it.
-fn set(stack: &[u64; 1000], machine: Machine, task: Task) -> Stated
+fn set(stack: &[u64; 1000], machine: Machine, task: Task) -> StateAnswer
     requires { ⌜ machine .height ≤ 1000 ⌝ }
     ensures { λ r. ⌜ r ≡ set-third (now (stack .entry)) machine task ⌝ }
 {
@@ -86,8 +89,11 @@ fn set(stack: &[u64; 1000], machine: Machine, task: Task) -> Stated
         return whole(machine);
     }
     let registers = registers_of(machine);
-    let went = Went::Onto(settled(machine, moved(registers, next_of(machine), height - 3)));
-    Stated {
+    let went = MachineResult::Onto(settled(
+        machine,
+        moved(registers, next_of(machine), height - 3),
+    ));
+    StateAnswer {
         whole: false,
         states: true,
         state,
@@ -96,7 +102,7 @@ fn set(stack: &[u64; 1000], machine: Machine, task: Task) -> Stated
 }
 
 // The state is set, if one is named.
-fn sets(stack: &[u64; 1000], machine: Machine, task: Task) -> Stated
+fn sets(stack: &[u64; 1000], machine: Machine, task: Task) -> StateAnswer
     ensures { λ r. ⌜ r ≡ sets (now (stack .entry)) machine task ⌝ }
 {
     if names_state(stack, machine.height, task) {
@@ -106,7 +112,7 @@ fn sets(stack: &[u64; 1000], machine: Machine, task: Task) -> Stated
 }
 
 // An instruction on the task of the slot that it names.
-pub(crate) fn stated(stack: &mut [u64; 1000], machine: Machine, op: u8, task: Task) -> Stated
+pub(crate) fn stated(stack: &mut [u64; 1000], machine: Machine, op: u8, task: Task) -> StateAnswer
     ensures { λ r. ⌜ after r (now (stack .exit)) ≡ stated (now (stack .entry)) machine op task ⌝ }
 {
     if op == T_GET_FIELD {

@@ -7,7 +7,7 @@ use bytecode::opcodes::T_GET_FIELD;
 use bytecode::opcodes::T_SET_FIELD;
 use inlinevec::PopResult;
 use machine::Machine;
-use mechanism::Gone;
+use mechanism::Progress;
 
 // The slot that a value names, with so many values on the stack below it; past the last slot where there is none.
 fn named(stack: &[u64; 1000], height: usize) -> usize
@@ -40,14 +40,14 @@ fn wanted(stack: &[u64; 1000], machine: Machine, op: u8) -> usize
 }
 
 // The slot that CALL names.
-pub(crate) fn slot_of_call(stack: &mut [u64; 1000], gone: Gone) -> usize
+pub(crate) fn slot_of_call(stack: &mut [u64; 1000], gone: Progress) -> usize
     ensures { λ r. ⌜ after r (now (stack .exit)) ≡ after (named (now (stack .entry)) (gone .machine .height)) (now (stack .entry)) ⌝ }
 {
     named(stack, gone.machine.height)
 }
 
 // The slot that the instruction at hand names.
-pub(crate) fn slot_of(stack: &mut [u64; 1000], gone: Gone) -> usize
+pub(crate) fn slot_of(stack: &mut [u64; 1000], gone: Progress) -> usize
     ensures { λ r. ⌜ after r (now (stack .exit)) ≡ after (wanted (now (stack .entry)) (gone .machine) (gone .op)) (now (stack .entry)) ⌝ }
 {
     wanted(stack, gone.machine, gone.op)

@@ -13,8 +13,8 @@ use Rattle.values.specs.Values.{to-u32-val}
 use Rattle.storage.specs.Tasks.{blank}
 use Rattle.image.specs.declared.SaveResult.{SaveResult}
 use Rattle.mechanism.specs.Registers.{moved}
-use Rattle.mechanism.specs.declared.Did.{Did}
-use Rattle.mechanism.specs.declared.Did.the-variants.{Next}
+use Rattle.mechanism.specs.declared.RegistersResult.{RegistersResult}
+use Rattle.mechanism.specs.declared.RegistersResult.the-variants.{Next}
 use Rattle.mechanism.specs.Changes.{keep}
 use Rattle.mechanism.specs.Fields.{op-t-get-field, op-t-set-field}
 use Rattle.mechanism.specs.declared.Change.{Change}
@@ -22,7 +22,7 @@ use Rattle.mechanism.specs.Registers.{registers-of}
 use Rattle.mechanism.specs.Frames.{op-end-call}
 use Rattle.mechanism.specs.Act.{acted, OnAll, on-all, went-by, created, tasked-by, created-by, on-task, on-frames, act-by, act-at, act}
 use Rattle.mechanism.specs.Turns.{save-went}
-use Rattle.mechanism.specs.declared.Went.{Went}
+use Rattle.mechanism.specs.declared.MachineResult.{MachineResult}
 use Rattle.machine.specs.World.{World, place, at-end}
 use Rattle.machine.specs.World as worlds
 use Rattle.mechanism.specs.Step.{acts-went, acted-at, acts, saves-went, saves}
@@ -59,12 +59,12 @@ module _ (w : World) (labels : ℕ → Label) (lent : length (w .stack) ≡ 1000
 
   -- ---- what an instruction's registers leave
 
-  by-registers : {did : Did} {stack : List ℕ} (slot : ℕ) (memory : List ℕ) (change : Change) → Good code labels did stack → StepsBy slot (on-all (acted (went-by (w .machine) did) change) stack memory (w .pool) (w .ends))
+  by-registers : {did : RegistersResult} {stack : List ℕ} (slot : ℕ) (memory : List ℕ) (change : Change) → Good code labels did stack → StepsBy slot (on-all (acted (went-by (w .machine) did) change) stack memory (w .pool) (w .ends))
   unfolding acts-went went-by
   by-registers slot memory change (goes-on {registers = registers} long holds) = steps-to (settles (w .machine) registers _ _ memory (w .pool) (w .ends) (w .save) long main holds)
   by-registers slot memory change (may-end may) = may-stop may
 
-  by-creation : {did : Did} {stack : List ℕ} (slot : ℕ) (memory : List ℕ) (change : Change) → Good code labels did stack → StepsBy slot (on-all (acted (created (w .machine) did) change) stack memory (w .pool) (w .ends))
+  by-creation : {did : RegistersResult} {stack : List ℕ} (slot : ℕ) (memory : List ℕ) (change : Change) → Good code labels did stack → StepsBy slot (on-all (acted (created (w .machine) did) change) stack memory (w .pool) (w .ends))
   unfolding acts-went created
   by-creation {stack = stack} slot memory change (goes-on {registers = registers} long holds) =
       let s = settles (w .machine) registers (w .table) stack memory (w .pool) (w .ends) (w .save) long main holds in
@@ -144,7 +144,7 @@ module _ (w : World) (labels : ℕ → Label) (lent : length (w .stack) ≡ 1000
     pub end-call-acts : (slot : ℕ) → getD code here 0 ≡ END-CALL → Steps code labels (acts w slot)
     unfolding on-frames whole-element plain-element moving-element
     end-call-acts slot e = by-kinds END-CALL Unchanged e refl refl (λ left s a. by-acting END-CALL slot inside e whole-here
-        (subst (λ (went : Went). StepsBy slot (on-all (acted went (keep (getD (w .table) slot blank))) (w .stack) (w .memory) (w .pool) (w .ends))) (sym end-call-is)
+        (subst (λ (went : MachineResult). StepsBy slot (on-all (acted went (keep (getD (w .table) slot blank))) (w .stack) (w .memory) (w .pool) (w .ends))) (sym end-call-is)
         (by-registers slot (w .memory) (keep (getD (w .table) slot blank)) (goes-on lent (starts a (unchanged s kinded) looping)))))
 
     -- PUSH_CALLDATA

@@ -18,8 +18,8 @@ use Rattle.inlinevec.specs.declared.Loops.{Loops}
 use Rattle.mechanism.specs.Registers.{OnStack, OnMemory}
 use Rattle.mechanism.specs.Stack.{pushed-to, push-value, finish}
 use Rattle.mechanism.specs.declared.Registers.{Registers}
-use Rattle.mechanism.specs.declared.Did.{Did}
-use Rattle.mechanism.specs.declared.Did.the-variants.{Next, Refused}
+use Rattle.mechanism.specs.declared.RegistersResult.{RegistersResult}
+use Rattle.mechanism.specs.declared.RegistersResult.the-variants.{Next, Refused}
 use Rattle.labels.specs.declared.Kind.{Kind}
 use Rattle.labels.specs.declared.Kind.the-variants.{Number, Calldata, Text}
 use Rattle.labels.specs.Labels.{Open, opened, Label, label, Start}
@@ -77,7 +77,7 @@ module _ (code : List ℕ) (labels : ℕ → Label) where
         → Holds place height loops stack
 
   -- an instruction goes on to where this holds again, or is refused with what admission leaves possible
-  pub data Good : Did → List ℕ → Type 0 where
+  pub data Good : RegistersResult → List ℕ → Type 0 where
     goes-on : {registers : Registers} {stack : List ℕ} → length stack ≡ 1000 → Holds (registers .place) (registers .height) (registers .loops) stack → Good (Next registers) stack
     may-end : {refusal : Refusal} {stack : List ℕ} → May refusal → Good (Refused refusal) stack
 

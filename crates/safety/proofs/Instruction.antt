@@ -20,7 +20,7 @@ use Rattle.inlinevec.specs.declared.Loops.{Loops}
 use Rattle.mechanism.specs.Registers.{on-memory, moved}
 use Rattle.mechanism.specs.Stack.{pushed-to, push-value, op-push}
 use Rattle.mechanism.specs.declared.Registers.{Registers}
-use Rattle.mechanism.specs.declared.Did.the-variants.{Next}
+use Rattle.mechanism.specs.declared.RegistersResult.the-variants.{Next}
 use Rattle.mechanism.specs.Operated.{with-operand, push-u32, push-u8, muli, jump-if-false, m-st, payload-of, m-sti-of, m-sti}
 use Rattle.mechanism.specs.Execute.{plain, operated, is-equality, execute, by-extent, instruct}
 use Rattle.mechanism.specs.Steps.{is-outer}

@@ -9,7 +9,7 @@ use borrow.Author.Tests.{ne-eqb, eqb-true, eqb-false}
 use Rattle.bytecode.specs.Opcodes.{PUSH-U32, PUSH-STATE, PUSH-CALLDATA, PUSH-TASK-FIELD, PUSH-MAX-STATES, T-CREATE, T-GET-FIELD, T-SET-FIELD, T-DELETE, S-SAVE, S-LEN, DO, LOOP, LOOP-INDEX, CALL, END-CALL, DROP, DUP, SWAP, EQ, NEQ, LT, GT, JUMP-IF-FALSE, M-STI, M-ST, M-MUTA, MULI, MUL}
 use Rattle.mechanism.specs.Registers.{on-memory, moved}
 use Rattle.mechanism.specs.declared.Registers.{Registers}
-use Rattle.mechanism.specs.declared.Did.the-variants.{Next}
+use Rattle.mechanism.specs.declared.RegistersResult.the-variants.{Next}
 use Rattle.mechanism.specs.Execute.{plain, operated, is-equality, execute}
 use Rattle.mechanism.specs.Steps.{is-outer}
 use Rattle.labels.specs.declared.Element.the-variants.{Kinds}

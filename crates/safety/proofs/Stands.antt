@@ -12,7 +12,7 @@ use Rattle.inlinevec.specs.declared.Frame.{Frame}
 use Rattle.inlinevec.specs.declared.Frames.{Frames}
 use Rattle.storage.specs.declared.Task.{Task}
 use Rattle.mechanism.specs.declared.Registers.{Registers}
-use Rattle.mechanism.specs.declared.Did.{Did}
+use Rattle.mechanism.specs.declared.RegistersResult.{RegistersResult}
 use Rattle.machine.specs.declared.Machine.{Machine}
 use Rattle.machine.specs.Machines.{current, with-current, code-of}
 use Rattle.mechanism.specs.Registers.{settled}
@@ -81,7 +81,7 @@ settles {code} {labels} machine registers table stack memory pool ends save lent
 }
 
 -- an instruction that needs no task, frame or pool
-pub inner-steps : {code : List ℕ} {labels : ℕ → Label} {did : Did} {stack : List ℕ} (w : World) (memory : List ℕ) → Main code (w .machine .frames) (w .machine .pool) (w .machine .entries) (w .pool) (w .ends)
+pub inner-steps : {code : List ℕ} {labels : ℕ → Label} {did : RegistersResult} {stack : List ℕ} (w : World) (memory : List ℕ) → Main code (w .machine .frames) (w .machine .pool) (w .machine .entries) (w .pool) (w .ends)
     → Good code labels did stack → Steps code labels (inner-did w stack memory did)
 unfolding inner-did
 inner-steps w memory main (goes-on {registers = registers} lent holds) = steps-to (settles (w .machine) registers (w .table) _ memory (w .pool) (w .ends) (w .save) lent main holds)

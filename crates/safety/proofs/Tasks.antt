@@ -18,7 +18,7 @@ use Rattle.storage.specs.declared.TaskState.{TaskState}
 use Rattle.storage.specs.declared.DefaultResult.{DefaultResult}
 use Rattle.storage.specs.declared.FindResult.{FindResult}
 use Rattle.storage.specs.declared.RoomResult.{RoomResult}
-use Rattle.storage.specs.declared.Stated.{Stated}
+use Rattle.storage.specs.declared.StateChange.{StateChange}
 use Rattle.storage.specs.Storage.{find, room}
 use Rattle.storage.specs.Tasks.{default-state}
 use Rattle.storage.specs.Tasks as records
@@ -26,7 +26,7 @@ use Rattle.inlinevec.specs.declared.Loops.{Loops}
 use Rattle.machine.specs.Titles.{within, title-bytes}
 use Rattle.mechanism.specs.Create.{with-room, if-within, new, if-vector, with-title, titled, with-state, with-two, op-t-create, delete-found, delete-popped, op-t-delete}
 use Rattle.mechanism.specs.Fields.{if-found, owner-popped, owner, field-popped, field-of, get-field, get-found, op-t-get-field, title-within, set-title, title-vector, state-answered, set-state, set-instructions, set-field, set-popped, set-found, op-t-set-field}
-use Rattle.mechanism.specs.declared.Tasked.{Tasked}
+use Rattle.mechanism.specs.declared.RegistersAndChange.{RegistersAndChange}
 use Rattle.labels.specs.declared.Kind.{Kind}
 use Rattle.labels.specs.declared.Kind.the-variants.{Number, Text}
 use Rattle.labels.specs.declared.Exchange.the-variants.{Takes, Creates}
@@ -58,7 +58,7 @@ field-of-is stack h task few e fielded =
 
 module _ (code : List ℕ) (labels : ℕ → Label) (place used next : ℕ) (stack memory : List ℕ) (lent : length stack ≡ 1000) (loops : Loops) (task : Task) where
   -- what an instruction on a task did
-  abbrev GoodTasked : Tasked → Type 0
+  abbrev GoodTasked : RegistersAndChange → Type 0
   GoodTasked t = Good code labels (t .did) stack
 
   -- ---- T_CREATE
@@ -129,8 +129,8 @@ module _ (code : List ℕ) (labels : ℕ → Label) (place used next : ℕ) (sta
       → GoodTasked (set-state (registers-at next height loops used) state task)
   unfolding set-state state-answered records.with-state
   state-set {height} state at kinded looping =
-      either (λ (s : Stated). GoodTasked (state-answered (registers-at next height loops used) state task (s .answer))) (leb (task .state .len) state) _ _ (may-end refl)
-      (either (λ (s : Stated). GoodTasked (state-answered (registers-at next height loops used) state task (s .answer))) (leb 255 state) _ _ (may-end refl) (goes-on lent (starts at kinded looping)))
+      either (λ (s : StateChange). GoodTasked (state-answered (registers-at next height loops used) state task (s .answer))) (leb (task .state .len) state) _ _ (may-end refl)
+      (either (λ (s : StateChange). GoodTasked (state-answered (registers-at next height loops used) state task (s .answer))) (leb 255 state) _ _ (may-end refl) (goes-on lent (starts at kinded looping)))
 
   field-set : {height field : ℕ} {kind : Kind} {kinds : List Kind} {opens : List Open} (m : List ℕ) (value : ℕ) → FieldKind field kind → HasKind kind value → At code labels next kinds opens → Kinded stack height kinds
       → Looping code labels loops opens → GoodTasked (set-field m (registers-at next height loops used) field value task)

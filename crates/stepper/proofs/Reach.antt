@@ -19,8 +19,8 @@ use Rattle.mechanism.specs.Registers.{OnStack, on-stack, on-memory}
 use Rattle.mechanism.specs.Control.{op-jump-if-false}
 use Rattle.mechanism.specs.Equality.{op-eq}
 use Rattle.mechanism.specs.declared.Registers.{Registers}
-use Rattle.mechanism.specs.declared.Did.{Did}
-use Rattle.mechanism.specs.declared.Did.the-variants.{Refused}
+use Rattle.mechanism.specs.declared.RegistersResult.{RegistersResult}
+use Rattle.mechanism.specs.declared.RegistersResult.the-variants.{Refused}
 use Rattle.mechanism.specs.Cut.{cut}
 use Rattle.mechanism.specs.Operated.{with-operand, push-u32, push-u8, muli, jump-if-false}
 use Rattle.mechanism.specs.Execute.{kept, plain, operated, is-equality, execute, by-extent, instruct}
@@ -143,7 +143,7 @@ module _ (code : List ℕ) (place size : ℕ) (known : Operands size (getD code 
 -- ---- what it does
 
 -- an answer over an operand, and the stack beside it
-operand-on-stack : (stack : List ℕ) (onward : ℕ → Did) (read : OperandResult)
+operand-on-stack : (stack : List ℕ) (onward : ℕ → RegistersResult) (read : OperandResult)
     → on-stack (with-operand Refused onward read) stack
     ≡ with-operand (λ refusal. on-stack (Refused refusal) stack) (λ number. on-stack (onward number) stack) read
 unfolding with-operand
@@ -267,7 +267,7 @@ module _ (stack memory code : List ℕ) (registers : Registers) (count : ℕ) wh
     unfolding by-extent stored-by
     other-by (extents.Next next) = sym (executed-other stack memory code registers next op-at count no-plain no-equality no-number no-byte)
     other-by extents.Cut =
-        ap (λ (did : Did). on-memory did stack memory) (sym (cut-other stack memory code registers 0 op-at count no-plain no-equality no-number no-byte))
+        ap (λ (did : RegistersResult). on-memory did stack memory) (sym (cut-other stack memory code registers 0 op-at count no-plain no-equality no-number no-byte))
 
     pub instruct-other : whole-or-cut stack memory code registers op-at ≡ instruct stack memory code registers count
     unfolding instruct whole-or-cut

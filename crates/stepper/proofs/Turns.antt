@@ -10,7 +10,7 @@ use Rattle.mechanism.specs.Execute.{instruct}
 use Rattle.mechanism.specs.Steps.{is-outer, halted, onward, turn, steps}
 use Rattle.errors.specs.declared.Refusal.{Refusal}
 use Rattle.mechanism.specs.Registers.{on-memory}
-use Rattle.mechanism.specs.declared.Did.the-variants.{Next, Refused}
+use Rattle.mechanism.specs.declared.RegistersResult.the-variants.{Next, Refused}
 use Rattle.mechanism.specs.declared.Registers.{Registers}
 use Rattle.mechanism.specs.declared.Halt.the-variants as halt
 

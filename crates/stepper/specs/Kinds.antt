@@ -16,8 +16,8 @@ use Rattle.mechanism.specs.Operated.{with-operand, m-st, m-sti}
 use Rattle.mechanism.specs.Cut.{cut-m-st}
 use Rattle.mechanism.specs.Execute.{changed}
 use Rattle.mechanism.specs.declared.Registers.{Registers}
-use Rattle.mechanism.specs.declared.Did.{Did}
-use Rattle.mechanism.specs.declared.Did.the-variants.{Next, Refused}
+use Rattle.mechanism.specs.declared.RegistersResult.{RegistersResult}
+use Rattle.mechanism.specs.declared.RegistersResult.the-variants.{Next, Refused}
 
 -- an opcode that is one of some
 abbrev pub among : ℕ → List ℕ → Bool
@@ -62,7 +62,7 @@ stored stack memory code registers next op =
     (on-memory (Next (moved registers next (registers .height))) stack memory)))
 
 -- such a one that the code's end cuts
-unfoldable pub cut-stored : List ℕ → Registers → ℕ → Did
+unfoldable pub cut-stored : List ℕ → Registers → ℕ → RegistersResult
 cut-stored stack registers op = cond (eqb op M-ST) (cut-m-st stack registers) (Refused UnexpectedEOB)
 
 unfoldable pub stored-by : List ℕ → List ℕ → List ℕ → Registers → ℕ → Extent → OnMemory

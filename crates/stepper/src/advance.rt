@@ -4,40 +4,40 @@ ghost use Rattle.mechanism.specs.Advance.{halted-at, gone-on, advance};
 use crate::steps;
 use machine::Machine;
 use machine::Outcome;
-use mechanism::Gone;
 use mechanism::Halt;
+use mechanism::Progress;
 use mechanism::machines::byte_at;
 use mechanism::machines::code_of;
 use mechanism::machines::registers_of;
 use mechanism::machines::settled;
 
 // Why the steps halted, and what is at hand.
-fn halted_at(machine: Machine, op: u8, left: u64, halt: Halt) -> Gone
+fn halted_at(machine: Machine, op: u8, left: u64, halt: Halt) -> Progress
     ensures { λ r. ⌜ r ≡ halted-at machine op left halt ⌝ }
 {
     match halt {
-        Halt::AtEnd => Gone {
+        Halt::AtEnd => Progress {
             machine,
             left,
             running: false,
             op: 0,
             outcome: Outcome::Done,
         },
-        Halt::OutOfFuel => Gone {
+        Halt::OutOfFuel => Progress {
             machine,
             left,
             running: false,
             op: 0,
             outcome: Outcome::Paused,
         },
-        Halt::Refused(refusal) => Gone {
+        Halt::Refused(refusal) => Progress {
             machine,
             left,
             running: false,
             op: 0,
             outcome: Outcome::Refused(refusal),
         },
-        Halt::Outer => Gone {
+        Halt::Outer => Progress {
             machine,
             left,
             running: true,
@@ -55,7 +55,7 @@ pub fn advance(
     ends: &mut [u32; 1024],
     machine: Machine,
     fuel: u64,
-) -> Gone
+) -> Progress
     ensures { λ r. ⌜ gone-on r (now (stack .exit)) (now (memory .exit)) (now (pool .exit)) (now (ends .exit)) ≡ advance (now (stack .entry)) (now (memory .entry)) (now (pool .entry)) (now (ends .entry)) machine fuel ⌝ }
 {
     let code = code_of(pool, ends, machine);

@@ -10,9 +10,9 @@ use errors::Refusal;
 use inlinevec::Loop;
 use inlinevec::Loops;
 use inlinevec::LoopsResult;
-use mechanism::Did;
 use mechanism::PopTwoResult;
 use mechanism::Registers;
+use mechanism::RegistersResult;
 use mechanism::stack::pop_two;
 use mechanism::stack::push_value;
 
@@ -29,21 +29,31 @@ fn looping(registers: Registers, place: usize, height: usize, loops: Loops) -> R
 }
 
 // On at a place with one loop more.
-fn opened_to(registers: Registers, place: usize, height: usize, result: LoopsResult) -> Did
+fn opened_to(
+    registers: Registers,
+    place: usize,
+    height: usize,
+    result: LoopsResult,
+) -> RegistersResult
     ensures { λ r. ⌜ r ≡ opened-to registers place height result ⌝ }
 {
     match result {
-        LoopsResult::NewLoops(loops) => Did::Next(looping(registers, place, height, loops)),
-        LoopsResult::NoNewLoops(refusal) => Did::Refused(refusal),
+        LoopsResult::NewLoops(loops) => RegistersResult::Next(looping(
+            registers,
+            place,
+            height,
+            loops,
+        )),
+        LoopsResult::NoNewLoops(refusal) => RegistersResult::Refused(refusal),
     }
 }
 
 // DO: the index is on top, the limit below it.
-pub(crate) fn op_do(stack: &[u64; 1000], registers: Registers, next: usize) -> Did
+pub(crate) fn op_do(stack: &[u64; 1000], registers: Registers, next: usize) -> RegistersResult
     ensures { λ r. ⌜ r ≡ op-do (now (stack .entry)) registers next ⌝ }
 {
     match pop_two(stack, registers.height) {
-        PopTwoResult::NotPoppedTwo(refusal) => Did::Refused(refusal),
+        PopTwoResult::NotPoppedTwo(refusal) => RegistersResult::Refused(refusal),
         PopTwoResult::PoppedTwo {
             first: index,
             second: limit,
@@ -100,7 +110,7 @@ fn next_round(last: Loop) -> Loop
 }
 
 // LOOP: back exactly if index + 1 is below the limit. The inner loop and the outer one have a way each: where they came together, both were loaded and stored.
-pub(crate) fn op_loop(registers: Registers, next: usize) -> Did
+pub(crate) fn op_loop(registers: Registers, next: usize) -> RegistersResult
     ensures { λ r. ⌜ r ≡ op-loop registers next ⌝ }
 {
     let open = registers.loops;
@@ -108,34 +118,58 @@ pub(crate) fn op_loop(registers: Registers, next: usize) -> Did
         if goes_round(open.inner) {
             let mut loops = open;
             loops.inner = next_round(open.inner);
-            return Did::Next(looping(registers, open.inner.place, registers.height, loops));
+            return RegistersResult::Next(looping(
+                registers,
+                open.inner.place,
+                registers.height,
+                loops,
+            ));
         }
-        return Did::Next(looping(registers, next, registers.height, without_innermost(open)));
+        return RegistersResult::Next(looping(
+            registers,
+            next,
+            registers.height,
+            without_innermost(open),
+        ));
     }
     if open.count == 1 {
         if goes_round(open.outer) {
             let mut loops = open;
             loops.outer = next_round(open.outer);
-            return Did::Next(looping(registers, open.outer.place, registers.height, loops));
+            return RegistersResult::Next(looping(
+                registers,
+                open.outer.place,
+                registers.height,
+                loops,
+            ));
         }
-        return Did::Next(looping(registers, next, registers.height, without_innermost(open)));
+        return RegistersResult::Next(looping(
+            registers,
+            next,
+            registers.height,
+            without_innermost(open),
+        ));
     }
     if open.count == 0 {
-        return Did::Refused(Refusal::StackUnderflow);
+        return RegistersResult::Refused(Refusal::StackUnderflow);
     }
-    Did::Refused(Refusal::WrongPhaseOrUnsound)
+    RegistersResult::Refused(Refusal::WrongPhaseOrUnsound)
 }
 
 // LOOP_INDEX.
-pub(crate) fn op_loop_index(stack: &mut [u64; 1000], registers: Registers, next: usize) -> Did
+pub(crate) fn op_loop_index(
+    stack: &mut [u64; 1000],
+    registers: Registers,
+    next: usize,
+) -> RegistersResult
     ensures { λ r. ⌜ on-stack r (now (stack .exit)) ≡ op-loop-index (now (stack .entry)) registers next ⌝ }
 {
     let open = registers.loops;
     if open.count == 0 {
-        return Did::Refused(Refusal::StackUnderflow);
+        return RegistersResult::Refused(Refusal::StackUnderflow);
     }
     if 2 < open.count {
-        return Did::Refused(Refusal::WrongPhaseOrUnsound);
+        return RegistersResult::Refused(Refusal::WrongPhaseOrUnsound);
     }
     let last = innermost(open);
     push_value(

@@ -6,7 +6,7 @@ use inlinevec::FramesResult;
 use inlinevec::PopFrameResult;
 use inlinevec::PopResult;
 use machine::Machine;
-use mechanism::Went;
+use mechanism::MachineResult;
 use mechanism::machines::registers_of;
 use mechanism::machines::settled;
 use mechanism::stack::moved;
@@ -15,21 +15,21 @@ use pools::InstructionsRef;
 use storage::Task;
 
 // A task's instructions begin, where there are any.
-fn enter(ends: &[u32; 1024], caller: Machine, entry: InstructionsRef) -> Went
+fn enter(ends: &[u32; 1024], caller: Machine, entry: InstructionsRef) -> MachineResult
     ensures { λ r. ⌜ r ≡ enter (now (ends .entry)) caller entry ⌝ }
 {
     match pools::bounds(ends, caller.entries, entry) {
-        BoundsResult::NoBounds(refusal) => Went::Refused(refusal),
+        BoundsResult::NoBounds(refusal) => MachineResult::Refused(refusal),
         BoundsResult::Bounds { start, end } => {
             if end <= start {
-                return Went::Onto(caller);
+                return MachineResult::Onto(caller);
             }
             match inlinevec::push_frame(caller.frames, Frame { entry, place: 0 }) {
-                FramesResult::NoNewFrames(refusal) => Went::Refused(refusal),
+                FramesResult::NoNewFrames(refusal) => MachineResult::Refused(refusal),
                 FramesResult::NewFrames(frames) => {
                     let mut entered = caller;
                     entered.frames = frames;
-                    Went::Onto(entered)
+                    MachineResult::Onto(entered)
                 }
             }
         }
@@ -43,36 +43,36 @@ pub fn op_call(
     machine: Machine,
     next: usize,
     task: Task,
-) -> Went
+) -> MachineResult
     ensures { λ r. ⌜ r ≡ op-call (now (stack .entry)) (now (ends .entry)) machine next task ⌝ }
 {
     match inlinevec::pop(stack, machine.height) {
-        PopResult::NotPopped(refusal) => Went::Refused(refusal),
+        PopResult::NotPopped(refusal) => MachineResult::Refused(refusal),
         PopResult::Popped { value: _, height } => {
             let registers = registers_of(machine);
             let caller = settled(machine, moved(registers, next, height));
             if task.living {
                 return enter(ends, caller, task.instructions_ref);
             }
-            Went::Onto(caller)
+            MachineResult::Onto(caller)
         }
     }
 }
 
 // END_CALL.
-pub fn op_end_call(machine: Machine, next: usize) -> Went
+pub fn op_end_call(machine: Machine, next: usize) -> MachineResult
     ensures { λ r. ⌜ r ≡ op-end-call machine next ⌝ }
 {
     if machine.frames.count <= 1 {
         let registers = registers_of(machine);
-        return Went::Onto(settled(machine, moved(registers, next, machine.height)));
+        return MachineResult::Onto(settled(machine, moved(registers, next, machine.height)));
     }
     match inlinevec::pop_frame(machine.frames) {
-        PopFrameResult::NotPoppedFrame(refusal) => Went::Refused(refusal),
+        PopFrameResult::NotPoppedFrame(refusal) => MachineResult::Refused(refusal),
         PopFrameResult::PoppedFrame { last: _, frames } => {
             let mut caller = machine;
             caller.frames = frames;
-            Went::Onto(caller)
+            MachineResult::Onto(caller)
         }
     }
 }

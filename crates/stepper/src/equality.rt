@@ -3,9 +3,9 @@ ghost use mathlib.Core.Path.{_≡_};
 ghost use Rattle.mechanism.specs.Registers.{on-stack};
 ghost use Rattle.mechanism.specs.Equality.{eq-vectors, eq-tagged, eq-values, turned-if, op-eq};
 use errors::Refusal;
-use mechanism::Did;
 use mechanism::PopTwoResult;
 use mechanism::Registers;
+use mechanism::RegistersResult;
 use mechanism::stack::finish;
 use mechanism::stack::pop_two;
 use values::PointerResult;
@@ -71,11 +71,11 @@ pub(crate) fn op_eq(
     registers: Registers,
     next: usize,
     is_eq: bool,
-) -> Did
+) -> RegistersResult
     ensures { λ r. ⌜ on-stack r (now (stack .exit)) ≡ op-eq (now (stack .entry)) (now (memory .entry)) registers next «is_eq» ⌝ }
 {
     match pop_two(stack, registers.height) {
-        PopTwoResult::NotPoppedTwo(refusal) => Did::Refused(refusal),
+        PopTwoResult::NotPoppedTwo(refusal) => RegistersResult::Refused(refusal),
         PopTwoResult::PoppedTwo {
             first: right,
             second: left,

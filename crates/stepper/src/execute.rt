@@ -30,8 +30,8 @@ use bytecode::OperandResult;
 use bytecode::extents::extent;
 use bytecode::opcodes::*;
 use bytecode::operands::prepare_u32_from_be_checked;
-use mechanism::Did;
 use mechanism::Registers;
+use mechanism::RegistersResult;
 use mechanism::stack::moved;
 
 // Over the stack alone. Bytes without an opcode, and S_LOAD, do nothing.
@@ -41,7 +41,7 @@ pub(crate) fn plain(
     next: usize,
     op: u8,
     count: u32,
-) -> Did
+) -> RegistersResult
     ensures { λ r. ⌜ on-stack r (now (stack .exit)) ≡ plain (now (stack .entry)) registers next op count ⌝ }
 {
     if op == MUL {
@@ -74,7 +74,7 @@ pub(crate) fn plain(
     if op == S_LEN {
         return op_push(stack, registers, next, count);
     }
-    Did::Next(moved(registers, next, registers.height))
+    RegistersResult::Next(moved(registers, next, registers.height))
 }
 
 // Nothing behind the opcode, and over the stack alone: S_LEN, DO, LOOP, LOOP_INDEX, DROP, DUP, SWAP, LT, GT, MUL.
@@ -136,7 +136,7 @@ fn with_number(
     next: usize,
     op: u8,
     number: u32,
-) -> Did
+) -> RegistersResult
     ensures { λ r. ⌜ on-stack r (now (stack .exit)) ≡ with-number (now (stack .entry)) registers next op number ⌝ }
 {
     if op == PUSH_U32 {
@@ -149,12 +149,18 @@ fn with_number(
 }
 
 // The same, with the number that stands behind the opcode: it is read in one place, so that its four bytes are loaded as one word.
-fn numbered(stack: &mut [u64; 1000], code: &[u8], registers: Registers, next: usize, op: u8) -> Did
+fn numbered(
+    stack: &mut [u64; 1000],
+    code: &[u8],
+    registers: Registers,
+    next: usize,
+    op: u8,
+) -> RegistersResult
     requires { ⌜ registers .place ≤ 9223372036854775808 ⌝ }
     ensures { λ r. ⌜ on-stack r (now (stack .exit)) ≡ numbered (now (stack .entry)) (now (code .entry)) registers next op ⌝ }
 {
     match prepare_u32_from_be_checked(code, registers.place + 1) {
-        OperandResult::NoOperand(refusal) => Did::Refused(refusal),
+        OperandResult::NoOperand(refusal) => RegistersResult::Refused(refusal),
         OperandResult::Operand(number) => with_number(stack, registers, next, op, number),
     }
 }
@@ -167,7 +173,7 @@ fn stored(
     registers: Registers,
     next: usize,
     op: u8,
-) -> Did
+) -> RegistersResult
     requires { ⌜ registers .place ≤ 9223372036854775808 ⌝ }
     ensures { λ r. ⌜ on-memory r (now (stack .exit)) (now (memory .exit)) ≡ stored (now (stack .entry)) (now (memory .entry)) (now (code .entry)) registers next op ⌝ }
 {
@@ -180,7 +186,7 @@ fn stored(
     if op == M_MUTA {
         return op_m_muta(stack, memory, registers, next);
     }
-    Did::Next(moved(registers, next, registers.height))
+    RegistersResult::Next(moved(registers, next, registers.height))
 }
 
 // The same at its place, whole or cut by the code's end.
@@ -190,7 +196,7 @@ fn whole_or_cut(
     code: &[u8],
     registers: Registers,
     op: u8,
-) -> Did
+) -> RegistersResult
     requires { ⌜ registers .place < length (now code) ⌝ }
     ensures { λ r. ⌜ on-memory r (now (stack .exit)) (now (memory .exit)) ≡ whole-or-cut (now (stack .entry)) (now (memory .entry)) (now (code .entry)) registers op ⌝ }
 {
@@ -208,7 +214,7 @@ pub(crate) fn instruct(
     memory: &mut [u8],
     code: &[u8],
     registers: Registers,
-) -> Did
+) -> RegistersResult
     requires { ⌜ (registers .place < length (now code)) × (is-plain (getD (now code) (registers .place) 0) ≡ false) × (is-outer (getD (now code) (registers .place) 0) ≡ false) ⌝ }
     ensures { λ r. ⌜ on-memory r (now (stack .exit)) (now (memory .exit)) ≡ instruct (now (stack .entry)) (now (memory .entry)) (now (code .entry)) registers 0 ⌝ }
 {

@@ -2,8 +2,8 @@
 ghost use mathlib.Core.Path.{_≡_};
 ghost use Rattle.mechanism.specs.Control.{op-jump-if-false};
 use inlinevec::PopResult;
-use mechanism::Did;
 use mechanism::Registers;
+use mechanism::RegistersResult;
 use mechanism::stack::moved;
 
 // JUMP_IF_FALSE, its operand being there.
@@ -12,16 +12,16 @@ pub(crate) fn op_jump_if_false(
     registers: Registers,
     next: usize,
     target: u32,
-) -> Did
+) -> RegistersResult
     ensures { λ r. ⌜ r ≡ op-jump-if-false (now (stack .entry)) registers next target ⌝ }
 {
     match inlinevec::pop(stack, registers.height) {
-        PopResult::NotPopped(refusal) => Did::Refused(refusal),
+        PopResult::NotPopped(refusal) => RegistersResult::Refused(refusal),
         PopResult::Popped { value, height } => {
             if value == values::boxing::to_bool_val(false) {
-                return Did::Next(moved(registers, target as usize, height));
+                return RegistersResult::Next(moved(registers, target as usize, height));
             }
-            Did::Next(moved(registers, next, height))
+            RegistersResult::Next(moved(registers, next, height))
         }
     }
 }

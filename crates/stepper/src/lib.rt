@@ -1,17 +1,17 @@
 // Instructions one after the other, up to the code's end, the fuel's end, a refusal, or one that needs a task, a frame or the pool.
 pub mod advance;
-pub mod arithmetic;
-pub mod control;
+mod arithmetic;
+mod control;
 mod cut;
 pub mod entering;
-pub mod equality;
+mod equality;
 mod execute;
-pub mod jumps;
-pub mod mutation;
+mod jumps;
+mod mutation;
 mod operated;
-pub mod ordering;
-pub mod pushes;
-pub mod stack;
+mod ordering;
+mod pushes;
+mod stack;
 pub mod store;
 
 ghost use mathlib.Core.Path.{_≡_};
@@ -19,10 +19,10 @@ ghost use Rattle.mechanism.specs.Steps.{is-outer, stepped, steps};
 use crate::execute::instruct;
 use crate::execute::is_plain;
 use crate::execute::plain;
-use mechanism::Did;
 use mechanism::Halt;
 use mechanism::Registers;
-use mechanism::Stepped;
+use mechanism::RegistersResult;
+use mechanism::StepsEnd;
 
 // Whether an opcode needs a task, a frame or the pool: PUSH_CALLDATA, T_CREATE to S_SAVE, CALL, END_CALL.
 fn is_outer(op: u8) -> bool
@@ -42,10 +42,10 @@ fn is_outer(op: u8) -> bool
 }
 
 // Halted for a reason, with so much fuel left.
-fn halted(registers: Registers, left: u64, halt: Halt) -> Stepped
+fn halted(registers: Registers, left: u64, halt: Halt) -> StepsEnd
     ensures { λ r. ⌜ r ≡ record { registers = registers; left = left; halt = halt } ⌝ }
 {
-    Stepped {
+    StepsEnd {
         registers,
         left,
         halt,
@@ -53,14 +53,14 @@ fn halted(registers: Registers, left: u64, halt: Halt) -> Stepped
 }
 
 // The run of one code from its registers on. A plain instruction has its own place here: where all came together, each carried what only DO and LOOP change.
-pub fn steps(
+pub(crate) fn steps(
     stack: &mut [u64; 1000],
     memory: &mut [u8],
     code: &[u8],
     registers: Registers,
     count: u32,
     fuel: u64,
-) -> Stepped
+) -> StepsEnd
     ensures { λ r. ⌜ stepped r (now (stack .exit)) (now (memory .exit)) ≡ steps fuel (now (stack .entry)) (now (memory .entry)) (now (code .entry)) registers count ⌝ }
 {
     let mut at = registers;
@@ -76,21 +76,21 @@ pub fn steps(
         }
         if is_plain(op) {
             match plain(stack, at, place + 1, op, count) {
-                Did::Next(next) => {
+                RegistersResult::Next(next) => {
                     at = next;
                     left -= 1;
                 }
-                Did::Refused(refusal) => {
+                RegistersResult::Refused(refusal) => {
                     return halted(at, left, Halt::Refused(refusal));
                 }
             }
         } else {
             match instruct(stack, memory, code, at) {
-                Did::Next(next) => {
+                RegistersResult::Next(next) => {
                     at = next;
                     left -= 1;
                 }
-                Did::Refused(refusal) => {
+                RegistersResult::Refused(refusal) => {
                     return halted(at, left, Halt::Refused(refusal));
                 }
             }

@@ -2,9 +2,9 @@
 ghost use mathlib.Core.Path.{_≡_};
 ghost use Rattle.mechanism.specs.Store.{changed-in, mut-in-use, changed-to, mutate, op-m-muta};
 use inlinevec::LastResult;
-use mechanism::Did;
 use mechanism::PopTwoResult;
 use mechanism::Registers;
+use mechanism::RegistersResult;
 use mechanism::stack::moved;
 use mechanism::stack::pop_two;
 use memory::ChangeResult;
@@ -39,11 +39,11 @@ fn mutate(
     vector: u64,
     index: ElementIndex,
     payload: u32,
-) -> Did
+) -> RegistersResult
     ensures { λ r. ⌜ changed-to r (now (memory .exit)) ≡ mutate (now (memory .entry)) registers next height vector index payload ⌝ }
 {
     match values::to_fat_pointer(vector) {
-        PointerResult::NoPointer(refusal) => Did::Refused(refusal),
+        PointerResult::NoPointer(refusal) => RegistersResult::Refused(refusal),
         PointerResult::Pointer(pointer) => {
             match mut_in_use(
                 memory,
@@ -53,8 +53,8 @@ fn mutate(
                 payload,
                 values::raw_tag(vector),
             ) {
-                ChangeResult::NotChanged(refusal) => Did::Refused(refusal),
-                ChangeResult::Changed => Did::Next(moved(registers, next, height)),
+                ChangeResult::NotChanged(refusal) => RegistersResult::Refused(refusal),
+                ChangeResult::Changed => RegistersResult::Next(moved(registers, next, height)),
             }
         }
     }
@@ -66,17 +66,17 @@ pub(crate) fn op_m_muta(
     memory: &mut [u8],
     registers: Registers,
     next: usize,
-) -> Did
+) -> RegistersResult
     ensures { λ r. ⌜ changed-to r (now (memory .exit)) ≡ op-m-muta (now (stack .entry)) (now (memory .entry)) registers next ⌝ }
 {
     match pop_two(stack, registers.height) {
-        PopTwoResult::NotPoppedTwo(refusal) => Did::Refused(refusal),
+        PopTwoResult::NotPoppedTwo(refusal) => RegistersResult::Refused(refusal),
         PopTwoResult::PoppedTwo {
             first: payload,
             second: index,
             height,
         } => match inlinevec::last(stack, height) {
-            LastResult::NoLast(refusal) => Did::Refused(refusal),
+            LastResult::NoLast(refusal) => RegistersResult::Refused(refusal),
             LastResult::Last(vector) => {
                 let element = ElementIndex(values::to_u32(index));
                 mutate(

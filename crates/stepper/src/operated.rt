@@ -9,8 +9,8 @@ use crate::store::store;
 use bytecode::OperandResult;
 use bytecode::operands::prepare_u8;
 use bytecode::operands::prepare_u16_from_be_checked;
-use mechanism::Did;
 use mechanism::Registers;
+use mechanism::RegistersResult;
 
 // PUSH_STATE, PUSH_MAX_STATES, PUSH_TASK_FIELD.
 pub(crate) fn push_u8(
@@ -18,12 +18,12 @@ pub(crate) fn push_u8(
     code: &[u8],
     registers: Registers,
     next: usize,
-) -> Did
+) -> RegistersResult
     requires { ⌜ registers .place ≤ 9223372036854775808 ⌝ }
     ensures { λ r. ⌜ on-stack r (now (stack .exit)) ≡ push-u8 (now (stack .entry)) (now (code .entry)) registers next ⌝ }
 {
     match prepare_u8(code, registers.place + 1) {
-        OperandResult::NoOperand(refusal) => Did::Refused(refusal),
+        OperandResult::NoOperand(refusal) => RegistersResult::Refused(refusal),
         OperandResult::Operand(number) => op_push(stack, registers, next, number),
     }
 }
@@ -35,12 +35,12 @@ pub(crate) fn m_st(
     code: &[u8],
     registers: Registers,
     next: usize,
-) -> Did
+) -> RegistersResult
     requires { ⌜ registers .place ≤ 9223372036854775808 ⌝ }
     ensures { λ r. ⌜ on-memory r (now (stack .exit)) (now (memory .exit)) ≡ m-st (now (stack .entry)) (now (memory .entry)) (now (code .entry)) registers next ⌝ }
 {
     match prepare_u8(code, registers.place + 1) {
-        OperandResult::NoOperand(refusal) => Did::Refused(refusal),
+        OperandResult::NoOperand(refusal) => RegistersResult::Refused(refusal),
         OperandResult::Operand(tag) => op_m_st(
             stack,
             memory,
@@ -62,7 +62,7 @@ fn m_sti_of(
     size: u32,
     tag: u32,
     signal: u32,
-) -> Did
+) -> RegistersResult
     requires { ⌜ registers .place ≤ 9223372036854775808 ⌝ }
     ensures { λ r. ⌜ on-memory r (now (stack .exit)) (now (memory .exit)) ≡ m-sti-of (now (stack .entry)) (now (memory .entry)) (now (code .entry)) registers next size tag signal ⌝ }
 {
@@ -100,16 +100,16 @@ pub(crate) fn m_sti(
     code: &[u8],
     registers: Registers,
     next: usize,
-) -> Did
+) -> RegistersResult
     requires { ⌜ registers .place ≤ 9223372036854775808 ⌝ }
     ensures { λ r. ⌜ on-memory r (now (stack .exit)) (now (memory .exit)) ≡ m-sti (now (stack .entry)) (now (memory .entry)) (now (code .entry)) registers next ⌝ }
 {
     match prepare_u16_from_be_checked(code, registers.place + 1) {
-        OperandResult::NoOperand(refusal) => Did::Refused(refusal),
+        OperandResult::NoOperand(refusal) => RegistersResult::Refused(refusal),
         OperandResult::Operand(size) => match prepare_u8(code, registers.place + 3) {
-            OperandResult::NoOperand(refusal) => Did::Refused(refusal),
+            OperandResult::NoOperand(refusal) => RegistersResult::Refused(refusal),
             OperandResult::Operand(tag) => match prepare_u8(code, registers.place + 4) {
-                OperandResult::NoOperand(refusal) => Did::Refused(refusal),
+                OperandResult::NoOperand(refusal) => RegistersResult::Refused(refusal),
                 OperandResult::Operand(signal) => m_sti_of(
                     stack,
                     memory,

@@ -2,9 +2,9 @@
 ghost use mathlib.Core.Path.{_≡_};
 ghost use Rattle.mechanism.specs.Registers.{on-stack};
 ghost use Rattle.mechanism.specs.Stack.{op-compare};
-use mechanism::Did;
 use mechanism::PopTwoResult;
 use mechanism::Registers;
+use mechanism::RegistersResult;
 use mechanism::stack::finish;
 use mechanism::stack::pop_two;
 
@@ -14,11 +14,11 @@ pub(crate) fn op_compare(
     registers: Registers,
     next: usize,
     is_lt: bool,
-) -> Did
+) -> RegistersResult
     ensures { λ r. ⌜ on-stack r (now (stack .exit)) ≡ op-compare (now (stack .entry)) registers next «is_lt» ⌝ }
 {
     match pop_two(stack, registers.height) {
-        PopTwoResult::NotPoppedTwo(refusal) => Did::Refused(refusal),
+        PopTwoResult::NotPoppedTwo(refusal) => RegistersResult::Refused(refusal),
         PopTwoResult::PoppedTwo {
             first: right,
             second: left,

@@ -4,8 +4,8 @@ ghost use Rattle.mechanism.specs.Registers.{on-memory};
 ghost use Rattle.mechanism.specs.Store.{full, store, op-m-st};
 use errors::Refusal;
 use inlinevec::PopResult;
-use mechanism::Did;
 use mechanism::Registers;
+use mechanism::RegistersResult;
 use memory::AllocResult;
 use values::ValueResult;
 
@@ -29,18 +29,18 @@ pub fn store(
     height: usize,
     size: u16,
     tag: u8,
-) -> Did
+) -> RegistersResult
     ensures { λ r. ⌜ on-memory r (now (stack .exit)) (now (memory .exit)) ≡ store (now (stack .entry)) (now (memory .entry)) (now (payload .entry)) registers next height size tag ⌝ }
 {
     if 1000 <= height {
-        return Did::Refused(full(registers.memory, size, tag));
+        return RegistersResult::Refused(full(registers.memory, size, tag));
     }
     match memory::allocation::alloc(memory, payload, registers.memory, size, tag) {
-        AllocResult::NotAllocated(refusal) => Did::Refused(refusal),
+        AllocResult::NotAllocated(refusal) => RegistersResult::Refused(refusal),
         AllocResult::Allocated { value, used } => {
             stack[height] = value;
             let loops = registers.loops;
-            Did::Next(Registers {
+            RegistersResult::Next(Registers {
                 memory: used,
                 place: next,
                 height: height + 1,
@@ -58,15 +58,15 @@ pub(crate) fn op_m_st(
     registers: Registers,
     next: usize,
     tag: u8,
-) -> Did
+) -> RegistersResult
     ensures { λ r. ⌜ on-memory r (now (stack .exit)) (now (memory .exit)) ≡ op-m-st (now (stack .entry)) (now (memory .entry)) (now (none .entry)) registers next tag ⌝ }
 {
     match inlinevec::pop(stack, registers.height) {
-        PopResult::NotPopped(refusal) => Did::Refused(refusal),
+        PopResult::NotPopped(refusal) => RegistersResult::Refused(refusal),
         PopResult::Popped { value, height } => {
             let size = values::to_u32(value);
             if 65535 < size {
-                return Did::Refused(Refusal::MSliceParamOverflow);
+                return RegistersResult::Refused(Refusal::MSliceParamOverflow);
             }
             store(
                 stack,

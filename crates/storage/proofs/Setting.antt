@@ -7,16 +7,16 @@ use lib.ListN.{length, getD, set, List·getD-eq-default}
 use lib.Seq.{set-out}
 use borrow.Author.Tests.{le-leb}
 use Rattle.storage.specs.declared.Task.{Task}
-use Rattle.storage.specs.declared.Stated.{Stated}
+use Rattle.storage.specs.declared.StateChange.{StateChange}
 use Rattle.storage.specs.declared.StateResult.{StateResult}
 use Rattle.storage.specs.Tasks.{blank, no-such-state, with-state, restated, After, after, set-state}
 use Rattle.storage.specs.Table.{set-state-at}
 
 -- what `with_state` says, stored
-pub set-as : (task : Task) (new-state : ℕ) (r : Stated) → r ≡ with-state (task .state) new-state
+pub set-as : (task : Task) (new-state : ℕ) (r : StateChange) → r ≡ with-state (task .state) new-state
     → after (r .answer) (restated task (r .state)) ≡ set-state task new-state
 unfolding set-state
-set-as task new-state r e = ap (λ (s : Stated). after (s .answer) (restated task (s .state))) e
+set-as task new-state r e = ap (λ (s : StateChange). after (s .answer) (restated task (s .state))) e
 
 -- a slot put into a state
 pub set-inside : (table : List Task) (slot new-state : ℕ) (r : StateResult) (task : Task) → after r task ≡ set-state (getD table slot blank) new-state

@@ -13,7 +13,7 @@ use Rattle.storage.specs.Storage.{len-after}
 use Rattle.storage.specs.Table.{set-state-at, sound-slot, sound-slots, sound-counts, sound-table}
 use Rattle.storage.specs.Tasks.{blank, stated, no-such-state, with-state, new-task, set-state}
 use Rattle.storage.specs.declared.StateResult.the-variants.{Set}
-use Rattle.storage.specs.declared.Stated.{Stated}
+use Rattle.storage.specs.declared.StateChange.{StateChange}
 use Rattle.storage.specs.declared.Task.{Task}
 use Rattle.storage.specs.declared.TaskId.{TaskId}
 use Rattle.storage.specs.declared.TaskState.{TaskState}
@@ -152,7 +152,7 @@ state-below : (state : TaskState) (new-state : ℕ) → state .state < state .le
 unfolding with-state
 state-below state new-state below = by (leb (state .len) new-state) (leb 255 new-state) refl
   where
-    refused : Stated
+    refused : StateChange
     refused = stated (state .state) (no-such-state new-state)
 
     by : (none large : Bool) → leb (state .len) new-state ≡ none → cond none refused (cond large refused (stated new-state Set)) .state < state .len

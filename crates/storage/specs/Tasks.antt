@@ -13,7 +13,7 @@ use Rattle.storage.specs.declared.DefaultResult.{DefaultResult}
 use Rattle.storage.specs.declared.DefaultResult.the-variants.{State, NoState}
 use Rattle.storage.specs.declared.StateResult.{StateResult}
 use Rattle.storage.specs.declared.StateResult.the-variants.{Set, NotSet}
-use Rattle.storage.specs.declared.Stated.{Stated}
+use Rattle.storage.specs.declared.StateChange.{StateChange}
 
 -- the 128 title bytes of no title
 unfoldable pub no-title : List ℕ
@@ -35,7 +35,7 @@ unfoldable pub default-state : ℕ → DefaultResult
 default-state len = cond (eqb len 0) (NoState MaxStatesError) (State (record { len = len; state = 0 }))
 
 -- a state byte, and the answer to setting it
-abbrev pub stated : ℕ → StateResult → Stated
+abbrev pub stated : ℕ → StateResult → StateChange
 stated state answer = record { state = state; answer = answer }
 
 -- 11, with the whole number that was asked for
@@ -43,7 +43,7 @@ abbrev pub no-such-state : ℕ → StateResult
 no-such-state new-state = NotSet (InvalidStatus new-state)
 
 -- setting a state: refused where the task has no such state, or it is 255
-unfoldable pub with-state : TaskState → ℕ → Stated
+unfoldable pub with-state : TaskState → ℕ → StateChange
 with-state state new-state =
     cond (leb (state .len) new-state) (stated (state .state) (no-such-state new-state))
     (cond (leb 255 new-state) (stated (state .state) (no-such-state new-state)) (stated new-state Set))

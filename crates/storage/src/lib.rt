@@ -39,7 +39,7 @@ pub enum StateResult {
 }
 
 // The state byte after setting a state, and the answer.
-pub struct Stated {
+pub struct StateChange {
     pub state: u8,
     pub answer: StateResult,
 }

@@ -2,8 +2,8 @@
 ghost use mathlib.Core.Path.{_≡_};
 ghost use Rattle.storage.specs.Tasks.{default-state, no-such-state, with-state, after, set-state};
 use crate::DefaultResult;
+use crate::StateChange;
 use crate::StateResult;
-use crate::Stated;
 use crate::Task;
 use crate::TaskState;
 use errors::Refusal;
@@ -26,10 +26,10 @@ pub fn no_such_state(new_state: u32) -> StateResult
 }
 
 // The state byte that a task has after it was put into a state, and the answer.
-pub fn with_state(state: TaskState, new_state: u32) -> Stated
+pub fn with_state(state: TaskState, new_state: u32) -> StateChange
     ensures { λ r. ⌜ r ≡ with-state state «new_state» ⌝ }
 {
-    let refused = Stated {
+    let refused = StateChange {
         state: state.state,
         answer: no_such_state(new_state),
     };
@@ -39,7 +39,7 @@ pub fn with_state(state: TaskState, new_state: u32) -> Stated
     if 255 <= new_state {
         return refused;
     }
-    Stated {
+    StateChange {
         state: new_state as u8,
         answer: StateResult::Set,
     }

@@ -3,10 +3,10 @@ ghost use mathlib.Core.Path.{_≡_};
 ghost use Rattle.mechanism.specs.Create.{new, titled, op-t-create};
 use crate::titles::within;
 use inlinevec::PopResult;
-use mechanism::Did;
 use mechanism::PopTwoResult;
 use mechanism::Registers;
-use mechanism::Tasked;
+use mechanism::RegistersAndChange;
+use mechanism::RegistersResult;
 use mechanism::changes::put;
 use mechanism::changes::refused;
 use mechanism::stack::moved;
@@ -30,7 +30,7 @@ fn new(
     state: TaskState,
     instructions_ref: InstructionsRef,
     task: Task,
-) -> Tasked
+) -> RegistersAndChange
     ensures { λ r. ⌜ r ≡ new (now (memory .entry)) after pointer id state «instructions_ref» task ⌝ }
 {
     match within(memory, pointer) {
@@ -39,8 +39,8 @@ fn new(
             RoomResult::NoRoom(refusal) => refused(task, refusal),
             RoomResult::Room => {
                 let title = memory::reads::get_slice_bytes(memory, pointer);
-                Tasked {
-                    did: Did::Next(after),
+                RegistersAndChange {
+                    did: RegistersResult::Next(after),
                     change: put(storage::task_types::new_task(id, title, state, instructions_ref)),
                 }
             }
@@ -57,7 +57,7 @@ fn titled(
     state: TaskState,
     instructions_ref: InstructionsRef,
     task: Task,
-) -> Tasked
+) -> RegistersAndChange
     ensures { λ r. ⌜ r ≡ titled (now (stack .entry)) (now (memory .entry)) before id state «instructions_ref» task ⌝ }
 {
     match inlinevec::pop(stack, before.height) {
@@ -85,7 +85,7 @@ pub fn op_t_create(
     next: usize,
     next_id: u32,
     task: Task,
-) -> Tasked
+) -> RegistersAndChange
     ensures { λ r. ⌜ r ≡ op-t-create (now (stack .entry)) (now (memory .entry)) registers next «next_id» task ⌝ }
 {
     match pop_two(stack, registers.height) {

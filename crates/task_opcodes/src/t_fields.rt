@@ -6,10 +6,10 @@ use crate::titles::title_length;
 use crate::titles::within;
 use errors::Refusal;
 use inlinevec::PopResult;
-use mechanism::Did;
 use mechanism::FieldResult;
 use mechanism::Registers;
-use mechanism::Tasked;
+use mechanism::RegistersAndChange;
+use mechanism::RegistersResult;
 use mechanism::changes::put;
 use mechanism::changes::refused;
 use mechanism::changes::restate;
@@ -72,7 +72,7 @@ fn get_field(
     height: usize,
     field: u32,
     task: Task,
-) -> Did
+) -> RegistersResult
     ensures { λ r. ⌜ on-memory r (now (stack .exit)) (now (memory .exit)) ≡ get-field (now (stack .entry)) (now (memory .entry)) registers next height field task ⌝ }
 {
     if field == 0 {
@@ -104,11 +104,11 @@ pub fn op_t_get_field(
     registers: Registers,
     next: usize,
     task: Task,
-) -> Did
+) -> RegistersResult
     ensures { λ r. ⌜ on-memory r (now (stack .exit)) (now (memory .exit)) ≡ op-t-get-field (now (stack .entry)) (now (memory .entry)) registers next task ⌝ }
 {
     match field_of(stack, registers.height, task) {
-        FieldResult::NoField(refusal) => Did::Refused(refusal),
+        FieldResult::NoField(refusal) => RegistersResult::Refused(refusal),
         FieldResult::Field { field, height } => {
             get_field(stack, memory, registers, next, height, field, task)
         }
@@ -116,7 +116,7 @@ pub fn op_t_get_field(
 }
 
 // A title, where the vector lies in the memory in use and is not too long.
-fn set_title(memory: &[u8], after: Registers, pointer: FatPointer, task: Task) -> Tasked
+fn set_title(memory: &[u8], after: Registers, pointer: FatPointer, task: Task) -> RegistersAndChange
     ensures { λ r. ⌜ r ≡ set-title (now (memory .entry)) after pointer task ⌝ }
 {
     match within(memory, pointer) {
@@ -132,8 +132,8 @@ fn set_title(memory: &[u8], after: Registers, pointer: FatPointer, task: Task) -
                 task.state,
                 task.instructions_ref,
             );
-            Tasked {
-                did: Did::Next(after),
+            RegistersAndChange {
+                did: RegistersResult::Next(after),
                 change: put(titled),
             }
         }
@@ -141,34 +141,44 @@ fn set_title(memory: &[u8], after: Registers, pointer: FatPointer, task: Task) -
 }
 
 // A state, where the task has it.
-fn set_state(after: Registers, state: u32, task: Task) -> Tasked
+fn set_state(after: Registers, state: u32, task: Task) -> RegistersAndChange
     ensures { λ r. ⌜ r ≡ set-state after state task ⌝ }
 {
     let stated = storage::states::with_state(task.state, state);
     let answer = stated.answer;
     match answer {
         StateResult::NotSet(refusal) => refused(task, refusal),
-        StateResult::Set => Tasked {
-            did: Did::Next(after),
+        StateResult::Set => RegistersAndChange {
+            did: RegistersResult::Next(after),
             change: restate(task, state),
         },
     }
 }
 
 // Instructions, which are not tested.
-fn set_instructions(after: Registers, instructions_ref: InstructionsRef, task: Task) -> Tasked
+fn set_instructions(
+    after: Registers,
+    instructions_ref: InstructionsRef,
+    task: Task,
+) -> RegistersAndChange
     ensures { λ r. ⌜ r ≡ set-instructions after «instructions_ref» task ⌝ }
 {
     let mut changed = task;
     changed.instructions_ref = instructions_ref;
-    Tasked {
-        did: Did::Next(after),
+    RegistersAndChange {
+        did: RegistersResult::Next(after),
         change: put(changed),
     }
 }
 
 // A field's new value.
-fn set_field(memory: &[u8], after: Registers, field: u32, value: u64, task: Task) -> Tasked
+fn set_field(
+    memory: &[u8],
+    after: Registers,
+    field: u32,
+    value: u64,
+    task: Task,
+) -> RegistersAndChange
     ensures { λ r. ⌜ r ≡ set-field (now (memory .entry)) after field value task ⌝ }
 {
     if field == 0 {
@@ -190,7 +200,7 @@ pub fn op_t_set_field(
     registers: Registers,
     next: usize,
     task: Task,
-) -> Tasked
+) -> RegistersAndChange
     ensures { λ r. ⌜ r ≡ op-t-set-field (now (stack .entry)) (now (memory .entry)) registers next task ⌝ }
 {
     match field_of(stack, registers.height, task) {

@@ -5,12 +5,12 @@ ghost use Rattle.machine.specs.Calls.{may-start, may-continue, fresh, beginning
 ghost use Rattle.machine.specs.World.{world};
 use crate::sound::sound;
 use errors::Refusal;
-use machine::Allowed;
 use machine::Machine;
 use machine::Outcome;
+use machine::Permission;
 use machine::Phase;
-use machine::Ran;
 use machine::Report;
+use machine::RunEnd;
 use machine::Verb;
 use mechanism::machines::registers_of;
 use mechanism::machines::settled;
@@ -52,16 +52,16 @@ fn fresh(machine: Machine) -> Machine
 }
 
 // What a call begins with, where its phase allows it.
-fn beginning(machine: Machine, verb: Verb) -> Allowed
+fn beginning(machine: Machine, verb: Verb) -> Permission
     ensures { λ r. ⌜ r ≡ beginning verb machine ⌝ }
 {
     let phase = machine.phase;
     match verb {
-        Verb::Start => Allowed {
+        Verb::Start => Permission {
             allowed: may_start(phase),
             machine: fresh(machine),
         },
-        Verb::Continue => Allowed {
+        Verb::Continue => Permission {
             allowed: may_continue(phase),
             machine,
         },
@@ -69,13 +69,13 @@ fn beginning(machine: Machine, verb: Verb) -> Allowed
 }
 
 // The same where the record is sound; else no call is allowed.
-fn allowed(machine: Machine, sound: bool, verb: Verb) -> Allowed
+fn allowed(machine: Machine, sound: bool, verb: Verb) -> Permission
     ensures { λ r. ⌜ r ≡ allowed machine sound verb ⌝ }
 {
     if sound {
         return beginning(machine, verb);
     }
-    Allowed {
+    Permission {
         allowed: false,
         machine,
     }
@@ -131,7 +131,7 @@ fn spent(fuel: u64, left: u64) -> u64
 }
 
 // What a run reports.
-fn report(fuel: u64, ran: Ran) -> Report
+fn report(fuel: u64, ran: RunEnd) -> Report
     ensures { λ r. ⌜ r ≡ report fuel ran ⌝ }
 {
     let outcome = ran.outcome;
@@ -170,7 +170,7 @@ pub fn call(
     let good = sound(table, memory, pool, ends, save, machine);
     let begun = allowed(machine, good, verb);
     if begun.allowed {
-        let ran = runner::drive(table, stack, memory, pool, ends, save, begun.machine, fuel);
+        let ran = runner::run(table, stack, memory, pool, ends, save, begun.machine, fuel);
         return report(fuel, ran);
     }
     not_allowed(machine)

@@ -5,7 +5,7 @@ ghost use Rattle.machine.specs.Creation.{prepared, unfit, prepare, created, mad
 use errors::Refusal;
 use machine::CreateResult;
 use machine::Machine;
-use machine::Prepared;
+use machine::Preparation;
 use machine::new_machines::new_machine;
 use pools::InternResult;
 use storage::Task;
@@ -14,10 +14,10 @@ use table_image::creation::CreationResult;
 use table_image::creation::creation_tests;
 
 // A creation that is refused.
-fn unfit(refusal: Refusal) -> Prepared
+fn unfit(refusal: Refusal) -> Preparation
     ensures { λ r. ⌜ r ≡ unfit refusal ⌝ }
 {
-    Prepared {
+    Preparation {
         fits: false,
         refusal,
         machine: new_machine(0, 0, 0, 0),
@@ -32,7 +32,7 @@ fn prepare(
     image: &mut [u8],
     program: &mut [u8],
     slots: usize,
-) -> Prepared
+) -> Preparation
     ensures { λ r. ⌜ prepared r (now (pool .exit)) (now (ends .exit)) (now (image .exit)) (now (program .exit)) ≡ prepare (now (pool .entry)) (now (ends .entry)) (now (image .entry)) (now (program .entry)) slots ⌝ }
 {
     match creation_tests(slots, pool.len(), program, image) {
@@ -43,7 +43,7 @@ fn prepare(
             s_len,
         } => match pools::interning::intern_instructions(pool, ends, 0, 0, program) {
             InternResult::NotInterned(refusal) => unfit(refusal),
-            InternResult::Interned { entry: _, bytes } => Prepared {
+            InternResult::Interned { entry: _, bytes } => Preparation {
                 fits: true,
                 refusal: Refusal::PoolFull,
                 machine: new_machine(bytes, 1, next_id, s_len),
@@ -64,7 +64,7 @@ fn created(machine: Machine, used: InUse) -> CreateResult
 }
 
 // No machine: why a creation is refused.
-fn not_created(ready: Prepared) -> CreateResult
+fn not_created(ready: Preparation) -> CreateResult
     ensures { λ r. ⌜ r ≡ NotCreated (ready .refusal) ⌝ }
 {
     let refusal = ready.refusal;

@@ -46,10 +46,10 @@ use Rattle.lent.proofs.Shut.{Shut}
 use Rattle.storage.specs.declared.Task.{Task}
 use Rattle.storage.specs.Tasks.{blank, after}
 use Rattle.storage.proofs.Records.{R, table-ty, val, makes, typed}
-use Rattle.mechanism.specs.declared.Gone.{Gone}
+use Rattle.mechanism.specs.declared.Progress.{Progress}
 use Rattle.bytecode.specs.Opcodes.{CALL, END-CALL}
 use Rattle.mechanism.specs.Turns.{turned as turned-of}
-use Rattle.mechanism.specs.declared.Stated.{Stated}
+use Rattle.mechanism.specs.declared.StateAnswer.{StateAnswer}
 use Rattle.runner.specs.Going.{acting, task-turn, slot-at, act-turn, returned as returned-of, entering, call-turn}
 use Rattle.runner.specs.States.{stated as stated-of, restated}
 use Rattle.mechanism.proofs.Values.{machine-shut, machine-vals, gone-shut, gone-vals, went-shut, went-vals, stated-shut, stated-vals}
@@ -67,9 +67,9 @@ use Rattle.runner.proofs.act_turn.Key.{name as #this}
 use Rattle.storage.proofs.Task as task
 use Rattle.storage.proofs.Task.Laws as task-laws
 use Rattle.machine.proofs.Machine as machine
-use Rattle.mechanism.proofs.Went as went
-use Rattle.mechanism.proofs.Gone as gone
-use Rattle.mechanism.proofs.Stated as told
+use Rattle.mechanism.proofs.MachineResult as went
+use Rattle.mechanism.proofs.Progress as gone
+use Rattle.mechanism.proofs.StateAnswer as told
 use Rattle.runner.proofs.wanted.slot_of as names
 use Rattle.runner.proofs.wanted.slot_of.Symbol as names-def
 use Rattle.runner.proofs.wanted.slot_of.Met as names-thm
@@ -133,7 +133,7 @@ module _ {M : Type 1} (𝓤 : URA M) (H : Heap 𝓤) (A : Atoms 𝓤) (at-mem : 
   turns-con = tripleOf 𝓤 H A turns.signature (turns.spec 𝓤 H A at-mem run)
 
 module _ {M : Type 1} (𝓤 : URA M) (H : Heap 𝓤) (A : Atoms 𝓤) (W : Given 𝓤 H A) (at-mem : Memory → SProp 𝓤) (run : Routine → Fun 𝓤) (κ₀ κ₁ κ₂ κ₃ κ₄ : Lft) (q₀ q₁ q₂ q₃ q₄ : Share) (b₀ o₀ b₁ o₁ b₂ o₂ b₃ o₃ b₄ o₄ : ℕ) (γ₀ γ₁ γ₂ γ₃ γ₄ : GName)
-    (x₀ : List Task) (x₁ : List ℕ) (x₂ : List ℕ) (x₃ : List ℕ) (x₄ : List ℕ) (g : Gone) where
+    (x₀ : List Task) (x₁ : List ℕ) (x₂ : List ℕ) (x₃ : List ℕ) (x₄ : List ℕ) (g : Progress) where
   abbrev n₀ : ℕ
   n₀ = length x₀
 
@@ -178,7 +178,7 @@ module _ {M : Type 1} (𝓤 : URA M) (H : Heap 𝓤) (A : Atoms 𝓤) (W : Given
   Has ts st me po en Γ = ‵ (have All (ts, (st, (me, (po, (en, tt)))))) ∷ ‵ (tokens All) ∷ Γ
 
   module _ (g₀ : Room R n₀) (g₂ : Room u8 n₂) (g₃ : Room u8 n₃) (g-is : Is gone.the-row g (gone-vals g)) where
-    exits : (r : Gone) (ts : List Task) (st me po en : List ℕ) → Is gone.the-row r (gone-vals r) → length ts ≡ n₀ → length me ≡ n₂ → length po ≡ n₃ → acting r ts st me po en ≡ act-turn x₀ x₁ x₂ x₃ x₄ g → ent 𝓤 (⋆ 𝓤 H A (Has ts st me po en [])) (Post (gone-val r))
+    exits : (r : Progress) (ts : List Task) (st me po en : List ℕ) → Is gone.the-row r (gone-vals r) → length ts ≡ n₀ → length me ≡ n₂ → length po ≡ n₃ → acting r ts st me po en ≡ act-turn x₀ x₁ x₂ x₃ x₄ g → ent 𝓤 (⋆ 𝓤 H A (Has ts st me po en [])) (Post (gone-val r))
     exits r ts st me po en is m₀ m₂ m₃ e =
         qed W (Has ts st me po en []) ∵
         suffices ! _ (ends-at 𝓤 H A f.ended stayed (f.clauses 𝓤 H A at-mem run) W ((κs₀, qs₀, tt, x, at), tt) (gone-val r) r (ts, (st, (me, (po, (en, (tt, tt)))))) (m₀, (tt, (m₂, (m₃, (tt, (tt, tt))))))) $ says ! e $
@@ -200,12 +200,12 @@ module _ {M : Type 1} (𝓤 : URA M) (H : Heap 𝓤) (A : Atoms 𝓤) (W : Given
       abbrev Bare : List (Item 𝓤)
       Bare = rooms 𝓤 H En []
 
-      ends : (r : Gone) (ts : List Task) (st me po en : List ℕ) → Is gone.the-row r (gone-vals r) → length ts ≡ n₀ → length me ≡ n₂ → length po ≡ n₃ → acting r ts st me po en ≡ act-turn x₀ x₁ x₂ x₃ x₄ g → Sq W (Has ts st me po en Bare) (frees En (prop (Post (gone-val r))))
+      ends : (r : Progress) (ts : List Task) (st me po en : List ℕ) → Is gone.the-row r (gone-vals r) → length ts ≡ n₀ → length me ≡ n₂ → length po ≡ n₃ → acting r ts st me po en ≡ act-turn x₀ x₁ x₂ x₃ x₄ g → Sq W (Has ts st me po en Bare) (frees En (prop (Post (gone-val r))))
       ends r ts st me po en is m₀ m₂ m₃ e =
           freed ! $ by ! (exits r ts st me po en is m₀ m₂ m₃ e)
 
       -- with the whole record, or without it
-      whole-or-not : (slot : ℕ) (t : Task) (s : Stated) (ts : List Task) (st st′ : List ℕ) → slot < 2 ^ 64 → Is told.the-row s (stated-vals s) → length ts ≡ n₀ → eqb (g .op) END-CALL ≡ false → eqb (g .op) CALL ≡ false
+      whole-or-not : (slot : ℕ) (t : Task) (s : StateAnswer) (ts : List Task) (st st′ : List ℕ) → slot < 2 ^ 64 → Is told.the-row s (stated-vals s) → length ts ≡ n₀ → eqb (g .op) END-CALL ≡ false → eqb (g .op) CALL ≡ false
           → after slot st ≡ after (slot-at x₁ g) x₁ → after t ts ≡ after (getD x₀ slot blank) x₀ → after s st′ ≡ stated-of st (g .machine) (g .op) t
           → Sq W (Has ts st′ x₂ x₃ x₄ (‵ (froom (sliceTy (tyRef erased mut table-ty)) l₃₀ 0) ∷ ‵ (fdies (sliceTy (tyRef erased mut table-ty)) l₃₀) ∷ ‵ (froom (tyRef erased mut table-ty) l₂₉ 0) ∷ ‵ (fdies (tyRef erased mut table-ty) l₂₉) ∷ ‵ (froom tyUnit l₂₈ 0) ∷ ‵ (fdies tyUnit l₂₈) ∷ ‵ (froom (tyRef erased mut (tyArray (tyInt w32) 1024)) l₂₇ 0) ∷ ‵ (fdies (tyRef erased mut (tyArray (tyInt w32) 1024)) l₂₇) ∷ ‵ (froom (sliceTy (tyRef erased mut (tyInt w8))) l₂₆ 0) ∷ ‵ (fdies (sliceTy (tyRef erased mut (tyInt w8))) l₂₆) ∷ ‵ (froom (tyRef erased mut (tyInt w8)) l₂₅ 0) ∷ ‵ (fdies (tyRef erased mut (tyInt w8)) l₂₅) ∷ ‵ (froom (sliceTy (tyRef erased mut (tyInt w8))) l₂₄ 0) ∷ ‵ (fdies (sliceTy (tyRef erased mut (tyInt w8))) l₂₄) ∷ ‵ (froom (tyRef erased mut (tyInt w8)) l₂₃ 0) ∷ ‵ (fdies (tyRef erased mut (tyInt w8)) l₂₃) ∷ ‵ (froom (tyRef erased mut (tyArray (tyInt w64) 1000)) l₂₂ 0) ∷ ‵ (fdies (tyRef erased mut (tyArray (tyInt w64) 1000)) l₂₂) ∷ ‵ (froom (sliceTy (tyRef erased mut table-ty)) l₂₁ 0) ∷ ‵ (fdies (sliceTy (tyRef erased mut table-ty)) l₂₁) ∷ ‵ (froom (tyRef erased mut table-ty) l₂₀ 0) ∷ ‵ (fdies (tyRef erased mut table-ty) l₂₀) ∷ ‵ (froom (tyRef erased mut (tyArray (tyInt w64) 1000)) l₁₉ 0) ∷ ‵ (fdies (tyRef erased mut (tyArray (tyInt w64) 1000)) l₁₉) ∷ ‵ (froom (sliceTy (tyRef erased mut table-ty)) l₁₈ 0) ∷ ‵ (fdies (sliceTy (tyRef erased mut table-ty)) l₁₈) ∷ ‵ (froom (tyRef erased mut table-ty) l₁₇ 0) ∷ ‵ (fdies (tyRef erased mut table-ty) l₁₇) ∷ ‵ (froom (tyRef erased mut (tyArray (tyInt w64) 1000)) l₁₆ 0) ∷ ‵ (fdies (tyRef erased mut (tyArray (tyInt w64) 1000)) l₁₆) ∷ ‵ (froom (tyRef erased mut (tyArray (tyInt w32) 1024)) l₁₅ 0) ∷ ‵ (fdies (tyRef erased mut (tyArray (tyInt w32) 1024)) l₁₅) ∷ ‵ (froom (tyRef erased mut (tyArray (tyInt w64) 1000)) l₁₄ 0) ∷ ‵ (fdies (tyRef erased mut (tyArray (tyInt w64) 1000)) l₁₄) ∷ ‵ (froom (sliceTy (tyRef erased mut table-ty)) l₁₃ 0) ∷ ‵ (fdies (sliceTy (tyRef erased mut table-ty)) l₁₃) ∷ ‵ (froom (tyRef erased mut table-ty) l₁₂ 0) ∷ ‵ (fdies (tyRef erased mut table-ty) l₁₂) ∷ ‵ (fat fullShare tyBool l₁₁ 0 (vbool (s .whole))) ∷ ‵ (fdies tyBool l₁₁) ∷ ‵ (fat fullShare told-ty l₁₀ 0 (told-val s)) ∷ ‵ (fdies told-ty l₁₀) ∷ ‵ (froom task-laws.mir l₉ 0) ∷ ‵ (fdies task-laws.mir l₉) ∷ ‵ (fat fullShare (tyInt w64) l₈ 0 (vint w64 slot)) ∷ ‵ (fdies (tyInt w64) l₈) ∷ ‵ (fat fullShare (tyInt w8) l₇ 0 (vint w8 (g .op))) ∷ ‵ (fdies (tyInt w8) l₇) ∷ ‵ (fat fullShare gone-ty l₆ 0 (gone-val g)) ∷ ‵ (fdies gone-ty l₆) ∷ ‵ (fat fullShare (tyRef (named 4) mut (tyArray (tyInt w32) 1024)) l₅ 0 (vptr b₄ o₄)) ∷ ‵ (fdies (tyRef (named 4) mut (tyArray (tyInt w32) 1024)) l₅) ∷ ‵ (fat fullShare (sliceTy (tyRef (named 3) mut (tyInt w8))) l₄ 0 (sliceVal (b₃, o₃) n₃)) ∷ ‵ (fdies (sliceTy (tyRef (named 3) mut (tyInt w8))) l₄) ∷ ‵ (fat fullShare (sliceTy (tyRef (named 2) mut (tyInt w8))) l₃ 0 (sliceVal (b₂, o₂) n₂)) ∷ ‵ (fdies (sliceTy (tyRef (named 2) mut (tyInt w8))) l₃) ∷ ‵ (fat fullShare (tyRef (named 1) mut (tyArray (tyInt w64) 1000)) l₂ 0 (vptr b₁ o₁)) ∷ ‵ (fdies (tyRef (named 1) mut (tyArray (tyInt w64) 1000)) l₂) ∷ ‵ (fat fullShare (sliceTy (tyRef (named 0) mut table-ty)) l₁ 0 (sliceVal (b₀, o₀) n₀)) ∷ ‵ (fdies (sliceTy (tyRef (named 0) mut table-ty)) l₁) ∷ ‵ (froom gone-ty l₀ 0) ∷ ‵ (fdies gone-ty l₀) ∷ [])) (runs C Λ En mir.t-14 (atRet En Post))
       whole-or-not slot t s ts st st′ fits s-is m₀ not-end not-call names read did =

@@ -45,7 +45,7 @@ use Rattle.lent.proofs.Shut.{Shut}
 use Rattle.storage.specs.declared.Task.{Task}
 use Rattle.storage.specs.Tasks.{blank, after}
 use Rattle.storage.proofs.Records.{R, table-ty, val, makes, typed}
-use Rattle.mechanism.specs.declared.Gone.{Gone}
+use Rattle.mechanism.specs.declared.Progress.{Progress}
 use Rattle.runner.specs.Going.{slot-of-call, called as called-of, entering, call-turn}
 use Rattle.mechanism.proofs.Values.{gone-shut, gone-vals}
 use Rattle.runner.proofs.Leaving.{call-turns}
@@ -55,7 +55,7 @@ use Rattle.runner.proofs.gone.called.Symbol.{name as #calls}
 use Rattle.runner.proofs.call_turn.Key.{name as #this}
 use Rattle.storage.proofs.Task as task
 use Rattle.storage.proofs.Task.Laws as task-laws
-use Rattle.mechanism.proofs.Gone as gone
+use Rattle.mechanism.proofs.Progress as gone
 use Rattle.runner.proofs.wanted.slot_of_call as names
 use Rattle.runner.proofs.wanted.slot_of_call.Symbol as names-def
 use Rattle.runner.proofs.wanted.slot_of_call.Met as names-thm
@@ -86,7 +86,7 @@ module _ {M : Type 1} (𝓤 : URA M) (H : Heap 𝓤) (A : Atoms 𝓤) (at-mem : 
   calls-con = tripleOf 𝓤 H A calls.signature (calls.spec 𝓤 H A at-mem run)
 
 module _ {M : Type 1} (𝓤 : URA M) (H : Heap 𝓤) (A : Atoms 𝓤) (W : Given 𝓤 H A) (at-mem : Memory → SProp 𝓤) (run : Routine → Fun 𝓤) (κ₀ κ₁ κ₂ : Lft) (q₀ q₁ q₂ : Share) (b₀ o₀ b₁ o₁ b₂ o₂ : ℕ) (γ₀ γ₁ γ₂ : GName)
-    (x₀ : List Task) (x₁ : List ℕ) (x₂ : List ℕ) (g : Gone) where
+    (x₀ : List Task) (x₁ : List ℕ) (x₂ : List ℕ) (g : Progress) where
   abbrev n₀ : ℕ
   n₀ = length x₀
 
@@ -125,7 +125,7 @@ module _ {M : Type 1} (𝓤 : URA M) (H : Heap 𝓤) (A : Atoms 𝓤) (W : Given
   Has ts st en Γ = ‵ (have All (ts, (st, (en, tt)))) ∷ ‵ (tokens All) ∷ Γ
 
   module _ (g₀ : Room R n₀) (g-is : Is gone.the-row g (gone-vals g)) where
-    exits : (r : Gone) (ts : List Task) (st en : List ℕ) → Is gone.the-row r (gone-vals r) → length ts ≡ n₀ → entering r ts st en ≡ call-turn x₀ x₁ x₂ g → ent 𝓤 (⋆ 𝓤 H A (Has ts st en [])) (Post (gone-val r))
+    exits : (r : Progress) (ts : List Task) (st en : List ℕ) → Is gone.the-row r (gone-vals r) → length ts ≡ n₀ → entering r ts st en ≡ call-turn x₀ x₁ x₂ g → ent 𝓤 (⋆ 𝓤 H A (Has ts st en [])) (Post (gone-val r))
     exits r ts st en is m₀ e =
         qed W (Has ts st en []) ∵
         suffices ! _ (ends-at 𝓤 H A f.ended stayed (f.clauses 𝓤 H A at-mem run) W ((κs₀, qs₀, tt, x, at), tt) (gone-val r) r (ts, (st, (en, (tt, tt)))) (m₀, (tt, (tt, (tt, tt))))) $ says ! e $
@@ -147,7 +147,7 @@ module _ {M : Type 1} (𝓤 : URA M) (H : Heap 𝓤) (A : Atoms 𝓤) (W : Given
       abbrev Bare : List (Item 𝓤)
       Bare = rooms 𝓤 H En []
 
-      ends : (r : Gone) (ts : List Task) (st en : List ℕ) → Is gone.the-row r (gone-vals r) → length ts ≡ n₀ → entering r ts st en ≡ call-turn x₀ x₁ x₂ g → Sq W (Has ts st en Bare) (frees En (prop (Post (gone-val r))))
+      ends : (r : Progress) (ts : List Task) (st en : List ℕ) → Is gone.the-row r (gone-vals r) → length ts ≡ n₀ → entering r ts st en ≡ call-turn x₀ x₁ x₂ g → Sq W (Has ts st en Bare) (frees En (prop (Post (gone-val r))))
       ends r ts st en is m₀ e =
           freed ! $ by ! (exits r ts st en is m₀ e)
 

@@ -42,7 +42,7 @@ use Rattle.storage.specs.declared.Task.{Task}
 use Rattle.storage.specs.Tasks.{after}
 use Rattle.storage.specs.Table.{set-state-at}
 use Rattle.storage.proofs.Records.{R, table-ty, val, makes, typed}
-use Rattle.mechanism.specs.declared.Stated.{Stated}
+use Rattle.mechanism.specs.declared.StateAnswer.{StateAnswer}
 use Rattle.runner.specs.States.{restated}
 use Rattle.mechanism.proofs.Values.{stated-shut, stated-vals}
 use Rattle.mechanism.proofs.Fields.{new-state-fits, take-sets, take-new-state, is-true, is-false}
@@ -51,7 +51,7 @@ use Rattle.table.proofs.set_state_at.Symbol.{name as #state}
 use Rattle.runner.proofs.restate.Key.{name as #this}
 use Rattle.storage.proofs.StateResult as answer
 use Rattle.storage.proofs.StateResult.Laws as answer-laws
-use Rattle.mechanism.proofs.Stated as told
+use Rattle.mechanism.proofs.StateAnswer as told
 use Rattle.table.proofs.set_state_at as state
 use Rattle.table.proofs.set_state_at.Symbol as state-def
 use Rattle.table.proofs.set_state_at.Met as state-thm
@@ -70,7 +70,7 @@ module _ {M : Type 1} (𝓤 : URA M) (H : Heap 𝓤) (A : Atoms 𝓤) (at-mem : 
   state-con = tripleOf 𝓤 H A state.signature (state.spec 𝓤 H A at-mem run)
 
 module _ {M : Type 1} (𝓤 : URA M) (H : Heap 𝓤) (A : Atoms 𝓤) (W : Given 𝓤 H A) (at-mem : Memory → SProp 𝓤) (run : Routine → Fun 𝓤) (κ₀ : Lft) (q₀ : Share) (b₀ o₀ : ℕ) (γ₀ : GName)
-    (x₀ : List Task) (slot : ℕ) (c : Stated) where
+    (x₀ : List Task) (slot : ℕ) (c : StateAnswer) where
   abbrev n₀ : ℕ
   n₀ = length x₀
 

@@ -45,7 +45,7 @@ use Rattle.storage.specs.declared.Task.{Task}
 use Rattle.storage.proofs.Records.{R, table-ty, makes, typed}
 use Rattle.image.specs.Table.{saved-table, save-table}
 use Rattle.table_image.specs.Tables.{held}
-use Rattle.mechanism.specs.declared.Gone.{Gone}
+use Rattle.mechanism.specs.declared.Progress.{Progress}
 use Rattle.runner.specs.Behind.{saved as saved-of}
 use Rattle.runner.specs.Going.{saving, save-turn}
 use Rattle.mechanism.proofs.Values.{machine-shut, gone-shut, gone-vals}
@@ -57,7 +57,7 @@ use Rattle.runner.proofs.save_turn.Key.{name as #this}
 use Rattle.image.proofs.SaveResult as saved
 use Rattle.image.proofs.SaveResult.Laws as saved-laws
 use Rattle.machine.proofs.Machine as machine
-use Rattle.mechanism.proofs.Gone as gone
+use Rattle.mechanism.proofs.Progress as gone
 use Rattle.table_image.proofs.save_table as save
 use Rattle.table_image.proofs.save_table.Symbol as save-def
 use Rattle.table_image.proofs.save_table.Met as save-thm
@@ -83,7 +83,7 @@ module _ {M : Type 1} (𝓤 : URA M) (H : Heap 𝓤) (A : Atoms 𝓤) (at-mem : 
   kept-con = tripleOf 𝓤 H A kept.signature (kept.spec 𝓤 H A at-mem run)
 
 module _ {M : Type 1} (𝓤 : URA M) (H : Heap 𝓤) (A : Atoms 𝓤) (W : Given 𝓤 H A) (at-mem : Memory → SProp 𝓤) (run : Routine → Fun 𝓤) (κ₀ κ₁ κ₂ κ₃ : Lft) (q₀ q₁ q₂ q₃ : Share) (b₀ o₀ b₁ o₁ b₂ o₂ b₃ o₃ : ℕ) (γ₀ γ₁ γ₂ γ₃ : GName)
-    (x₀ : List Task) (x₁ : List ℕ) (x₂ : List ℕ) (x₃ : List ℕ) (g : Gone) where
+    (x₀ : List Task) (x₁ : List ℕ) (x₂ : List ℕ) (x₃ : List ℕ) (g : Progress) where
   abbrev n₀ : ℕ
   n₀ = length x₀
 
@@ -116,7 +116,7 @@ module _ {M : Type 1} (𝓤 : URA M) (H : Heap 𝓤) (A : Atoms 𝓤) (W : Given
   Has ts po en sv Γ = ‵ (have All (ts, (po, (en, (sv, tt))))) ∷ ‵ (tokens All) ∷ Γ
 
   module _ (g₀ : Room R n₀) (g₁ : Room u8 n₁) (g₃ : Room u8 n₃) (g-is : Is gone.the-row g (gone-vals g)) where
-    exits : (r : Gone) (ts : List Task) (po en sv : List ℕ) → Is gone.the-row r (gone-vals r) → length ts ≡ n₀ → length po ≡ n₁ → length sv ≡ n₃ → saving r ts po en sv ≡ save-turn x₀ x₁ x₂ x₃ g → ent 𝓤 (⋆ 𝓤 H A (Has ts po en sv [])) (Post (gone-val r))
+    exits : (r : Progress) (ts : List Task) (po en sv : List ℕ) → Is gone.the-row r (gone-vals r) → length ts ≡ n₀ → length po ≡ n₁ → length sv ≡ n₃ → saving r ts po en sv ≡ save-turn x₀ x₁ x₂ x₃ g → ent 𝓤 (⋆ 𝓤 H A (Has ts po en sv [])) (Post (gone-val r))
     exits r ts po en sv is m₀ m₁ m₃ e =
         qed W (Has ts po en sv []) ∵
         suffices ! _ (ends-at 𝓤 H A f.ended stayed (f.clauses 𝓤 H A at-mem run) W ((κs₀, qs₀, tt, x, at), tt) (gone-val r) r (ts, (po, (en, (sv, (tt, tt))))) (m₀, (m₁, (tt, (m₃, (tt, tt)))))) $ says ! e $

@@ -46,8 +46,8 @@ use Rattle.storage.specs.declared.Task.{Task}
 use Rattle.storage.specs.Tasks.{blank, after}
 use Rattle.storage.proofs.Records.{R, table-ty, val, makes, typed}
 use Rattle.mechanism.specs.Changes.{applied}
-use Rattle.mechanism.specs.declared.Acted.{Acted}
-use Rattle.mechanism.specs.declared.Gone.{Gone}
+use Rattle.mechanism.specs.declared.MachineAndChange.{MachineAndChange}
+use Rattle.mechanism.specs.declared.Progress.{Progress}
 use Rattle.mechanism.specs.Act.{on-all, act as act-of}
 use Rattle.mechanism.specs.Turns.{turned as turned-of}
 use Rattle.runner.specs.Going.{acting, slot-at, task-turn}
@@ -64,9 +64,9 @@ use Rattle.storage.proofs.Task as task
 use Rattle.storage.proofs.Task.Laws as task-laws
 use Rattle.machine.proofs.Machine as machine
 use Rattle.mechanism.proofs.Change as change
-use Rattle.mechanism.proofs.Went as went
-use Rattle.mechanism.proofs.Acted as acted
-use Rattle.mechanism.proofs.Gone as gone
+use Rattle.mechanism.proofs.MachineResult as went
+use Rattle.mechanism.proofs.MachineAndChange as acted
+use Rattle.mechanism.proofs.Progress as gone
 use Rattle.runner.proofs.wanted.slot_of as names
 use Rattle.runner.proofs.wanted.slot_of.Symbol as names-def
 use Rattle.runner.proofs.wanted.slot_of.Met as names-thm
@@ -113,7 +113,7 @@ module _ {M : Type 1} (𝓤 : URA M) (H : Heap 𝓤) (A : Atoms 𝓤) (at-mem : 
   turned-con = tripleOf 𝓤 H A turned.signature (turned.spec 𝓤 H A at-mem run)
 
 module _ {M : Type 1} (𝓤 : URA M) (H : Heap 𝓤) (A : Atoms 𝓤) (W : Given 𝓤 H A) (at-mem : Memory → SProp 𝓤) (run : Routine → Fun 𝓤) (κ₀ κ₁ κ₂ κ₃ κ₄ : Lft) (q₀ q₁ q₂ q₃ q₄ : Share) (b₀ o₀ b₁ o₁ b₂ o₂ b₃ o₃ b₄ o₄ : ℕ) (γ₀ γ₁ γ₂ γ₃ γ₄ : GName)
-    (x₀ : List Task) (x₁ : List ℕ) (x₂ : List ℕ) (x₃ : List ℕ) (x₄ : List ℕ) (g : Gone) where
+    (x₀ : List Task) (x₁ : List ℕ) (x₂ : List ℕ) (x₃ : List ℕ) (x₄ : List ℕ) (g : Progress) where
   abbrev n₀ : ℕ
   n₀ = length x₀
 
@@ -158,7 +158,7 @@ module _ {M : Type 1} (𝓤 : URA M) (H : Heap 𝓤) (A : Atoms 𝓤) (W : Given
   Has ts st me po en Γ = ‵ (have All (ts, (st, (me, (po, (en, tt)))))) ∷ ‵ (tokens All) ∷ Γ
 
   module _ (g₀ : Room R n₀) (g₂ : Room u8 n₂) (g₃ : Room u8 n₃) (g-is : Is gone.the-row g (gone-vals g)) where
-    exits : (r : Gone) (ts : List Task) (st me po en : List ℕ) → Is gone.the-row r (gone-vals r) → length ts ≡ n₀ → length me ≡ n₂ → length po ≡ n₃ → acting r ts st me po en ≡ task-turn x₀ x₁ x₂ x₃ x₄ g → ent 𝓤 (⋆ 𝓤 H A (Has ts st me po en [])) (Post (gone-val r))
+    exits : (r : Progress) (ts : List Task) (st me po en : List ℕ) → Is gone.the-row r (gone-vals r) → length ts ≡ n₀ → length me ≡ n₂ → length po ≡ n₃ → acting r ts st me po en ≡ task-turn x₀ x₁ x₂ x₃ x₄ g → ent 𝓤 (⋆ 𝓤 H A (Has ts st me po en [])) (Post (gone-val r))
     exits r ts st me po en is m₀ m₂ m₃ e =
         qed W (Has ts st me po en []) ∵
         suffices ! _ (ends-at 𝓤 H A f.ended stayed (f.clauses 𝓤 H A at-mem run) W ((κs₀, qs₀, tt, x, at), tt) (gone-val r) r (ts, (st, (me, (po, (en, (tt, tt)))))) (m₀, (tt, (m₂, (m₃, (tt, (tt, tt))))))) $ says ! e $
@@ -180,12 +180,12 @@ module _ {M : Type 1} (𝓤 : URA M) (H : Heap 𝓤) (A : Atoms 𝓤) (W : Given
       abbrev Bare : List (Item 𝓤)
       Bare = rooms 𝓤 H En []
 
-      ends : (r : Gone) (ts : List Task) (st me po en : List ℕ) → Is gone.the-row r (gone-vals r) → length ts ≡ n₀ → length me ≡ n₂ → length po ≡ n₃ → acting r ts st me po en ≡ task-turn x₀ x₁ x₂ x₃ x₄ g → Sq W (Has ts st me po en Bare) (frees En (prop (Post (gone-val r))))
+      ends : (r : Progress) (ts : List Task) (st me po en : List ℕ) → Is gone.the-row r (gone-vals r) → length ts ≡ n₀ → length me ≡ n₂ → length po ≡ n₃ → acting r ts st me po en ≡ task-turn x₀ x₁ x₂ x₃ x₄ g → Sq W (Has ts st me po en Bare) (frees En (prop (Post (gone-val r))))
       ends r ts st me po en is m₀ m₂ m₃ e =
           freed ! $ by ! (exits r ts st me po en is m₀ m₂ m₃ e)
 
       -- the slot is changed, and the machine goes on
-      changes : (slot : ℕ) (t : Task) (a : Acted) (ts : List Task) (st st′ me po en : List ℕ) → slot < 2 ^ 64 → Is acted.the-row a (acted-vals a) → length ts ≡ n₀ → length me ≡ n₂ → length po ≡ n₃
+      changes : (slot : ℕ) (t : Task) (a : MachineAndChange) (ts : List Task) (st st′ me po en : List ℕ) → slot < 2 ^ 64 → Is acted.the-row a (acted-vals a) → length ts ≡ n₀ → length me ≡ n₂ → length po ≡ n₃
           → after slot st ≡ after (slot-at x₁ g) x₁ → after t ts ≡ after (getD x₀ slot blank) x₀ → on-all a st′ me po en ≡ act-of st x₂ x₃ x₄ (g .machine) t
           → Sq W (Has ts st′ me po en (‵ (froom (sliceTy (tyRef erased mut table-ty)) l₂₁ 0) ∷ ‵ (fdies (sliceTy (tyRef erased mut table-ty)) l₂₁) ∷ ‵ (froom (tyRef erased mut table-ty) l₂₀ 0) ∷ ‵ (fdies (tyRef erased mut table-ty) l₂₀) ∷ ‵ (froom tyUnit l₁₉ 0) ∷ ‵ (fdies tyUnit l₁₉) ∷ ‵ (froom (tyRef erased mut (tyArray (tyInt w32) 1024)) l₁₈ 0) ∷ ‵ (fdies (tyRef erased mut (tyArray (tyInt w32) 1024)) l₁₈) ∷ ‵ (froom (sliceTy (tyRef erased mut (tyInt w8))) l₁₇ 0) ∷ ‵ (fdies (sliceTy (tyRef erased mut (tyInt w8))) l₁₇) ∷ ‵ (froom (tyRef erased mut (tyInt w8)) l₁₆ 0) ∷ ‵ (fdies (tyRef erased mut (tyInt w8)) l₁₆) ∷ ‵ (froom (sliceTy (tyRef erased mut (tyInt w8))) l₁₅ 0) ∷ ‵ (fdies (sliceTy (tyRef erased mut (tyInt w8))) l₁₅) ∷ ‵ (froom (tyRef erased mut (tyInt w8)) l₁₄ 0) ∷ ‵ (fdies (tyRef erased mut (tyInt w8)) l₁₄) ∷ ‵ (froom (tyRef erased mut (tyArray (tyInt w64) 1000)) l₁₃ 0) ∷ ‵ (fdies (tyRef erased mut (tyArray (tyInt w64) 1000)) l₁₃) ∷ ‵ (froom (sliceTy (tyRef erased mut table-ty)) l₁₂ 0) ∷ ‵ (fdies (sliceTy (tyRef erased mut table-ty)) l₁₂) ∷ ‵ (froom (tyRef erased mut table-ty) l₁₁ 0) ∷ ‵ (fdies (tyRef erased mut table-ty) l₁₁) ∷ ‵ (froom (tyRef erased mut (tyArray (tyInt w64) 1000)) l₁₀ 0) ∷ ‵ (fdies (tyRef erased mut (tyArray (tyInt w64) 1000)) l₁₀) ∷ ‵ (fat fullShare acted-ty l₉ 0 (acted-val a)) ∷ ‵ (fdies acted-ty l₉) ∷ ‵ (froom task-laws.mir l₈ 0) ∷ ‵ (fdies task-laws.mir l₈) ∷ ‵ (fat fullShare (tyInt w64) l₇ 0 (vint w64 slot)) ∷ ‵ (fdies (tyInt w64) l₇) ∷ ‵ (fat fullShare gone-ty l₆ 0 (gone-val g)) ∷ ‵ (fdies gone-ty l₆) ∷ ‵ (fat fullShare (tyRef (named 4) mut (tyArray (tyInt w32) 1024)) l₅ 0 (vptr b₄ o₄)) ∷ ‵ (fdies (tyRef (named 4) mut (tyArray (tyInt w32) 1024)) l₅) ∷ ‵ (fat fullShare (sliceTy (tyRef (named 3) mut (tyInt w8))) l₄ 0 (sliceVal (b₃, o₃) n₃)) ∷ ‵ (fdies (sliceTy (tyRef (named 3) mut (tyInt w8))) l₄) ∷ ‵ (fat fullShare (sliceTy (tyRef (named 2) mut (tyInt w8))) l₃ 0 (sliceVal (b₂, o₂) n₂)) ∷ ‵ (fdies (sliceTy (tyRef (named 2) mut (tyInt w8))) l₃) ∷ ‵ (fat fullShare (tyRef (named 1) mut (tyArray (tyInt w64) 1000)) l₂ 0 (vptr b₁ o₁)) ∷ ‵ (fdies (tyRef (named 1) mut (tyArray (tyInt w64) 1000)) l₂) ∷ ‵ (fat fullShare (sliceTy (tyRef (named 0) mut table-ty)) l₁ 0 (sliceVal (b₀, o₀) n₀)) ∷ ‵ (fdies (sliceTy (tyRef (named 0) mut table-ty)) l₁) ∷ ‵ (froom gone-ty l₀ 0) ∷ ‵ (fdies gone-ty l₀) ∷ [])) (runs C Λ En mir.t-13 (atRet En Post))
       changes slot t a ts st st′ me po en fits a-is m₀ m₂ m₃ names read did =

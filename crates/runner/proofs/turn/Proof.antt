@@ -45,7 +45,7 @@ use Rattle.lent.proofs.Shut.{Shut}
 use Rattle.storage.specs.declared.Task.{Task}
 use Rattle.storage.specs.Tasks.{after}
 use Rattle.storage.proofs.Records.{R, table-ty}
-use Rattle.mechanism.specs.declared.Gone.{Gone}
+use Rattle.mechanism.specs.declared.Progress.{Progress}
 use Rattle.runner.specs.Going.{going, acting, act-turn, saving, save-turn, turn as turn-of}
 use Rattle.mechanism.proofs.Values.{gone-shut, gone-vals}
 use Rattle.mechanism.proofs.Fields.{take-running, take-op, is-true, is-false}
@@ -53,7 +53,7 @@ use Rattle.runner.proofs.Turns.{turns-saving, turns-acting, turns-none}
 use Rattle.runner.proofs.save_turn.Symbol.{name as #saves}
 use Rattle.runner.proofs.act_turn.Symbol.{name as #acts}
 use Rattle.runner.proofs.turn.Key.{name as #this}
-use Rattle.mechanism.proofs.Gone as gone
+use Rattle.mechanism.proofs.Progress as gone
 use Rattle.runner.proofs.save_turn as saves
 use Rattle.runner.proofs.save_turn.Symbol as saves-def
 use Rattle.runner.proofs.save_turn.Met as saves-thm
@@ -78,7 +78,7 @@ module _ {M : Type 1} (𝓤 : URA M) (H : Heap 𝓤) (A : Atoms 𝓤) (at-mem : 
   acts-con = tripleOf 𝓤 H A acts.signature (acts.spec 𝓤 H A at-mem run)
 
 module _ {M : Type 1} (𝓤 : URA M) (H : Heap 𝓤) (A : Atoms 𝓤) (W : Given 𝓤 H A) (at-mem : Memory → SProp 𝓤) (run : Routine → Fun 𝓤) (κ₀ κ₁ κ₂ κ₃ κ₄ κ₅ : Lft) (q₀ q₁ q₂ q₃ q₄ q₅ : Share) (b₀ o₀ b₁ o₁ b₂ o₂ b₃ o₃ b₄ o₄ b₅ o₅ : ℕ) (γ₀ γ₁ γ₂ γ₃ γ₄ γ₅ : GName)
-    (x₀ : List Task) (x₁ : List ℕ) (x₂ : List ℕ) (x₃ : List ℕ) (x₄ : List ℕ) (x₅ : List ℕ) (g : Gone) where
+    (x₀ : List Task) (x₁ : List ℕ) (x₂ : List ℕ) (x₃ : List ℕ) (x₄ : List ℕ) (x₅ : List ℕ) (g : Progress) where
   abbrev n₀ : ℕ
   n₀ = length x₀
 
@@ -128,7 +128,7 @@ module _ {M : Type 1} (𝓤 : URA M) (H : Heap 𝓤) (A : Atoms 𝓤) (W : Given
   Has ts st me po en sv Γ = ‵ (have All (ts, (st, (me, (po, (en, (sv, tt))))))) ∷ ‵ (tokens All) ∷ Γ
 
   module _ (g₀ : Room R n₀) (g₂ : Room u8 n₂) (g₃ : Room u8 n₃) (g₅ : Room u8 n₅) (g-is : Is gone.the-row g (gone-vals g)) where
-    exits : (r : Gone) (ts : List Task) (st me po en sv : List ℕ) → Is gone.the-row r (gone-vals r) → length ts ≡ n₀ → length me ≡ n₂ → length po ≡ n₃ → length sv ≡ n₅ → going r ts st me po en sv ≡ turn-of (going g x₀ x₁ x₂ x₃ x₄ x₅) → ent 𝓤 (⋆ 𝓤 H A (Has ts st me po en sv [])) (Post (gone-val r))
+    exits : (r : Progress) (ts : List Task) (st me po en sv : List ℕ) → Is gone.the-row r (gone-vals r) → length ts ≡ n₀ → length me ≡ n₂ → length po ≡ n₃ → length sv ≡ n₅ → going r ts st me po en sv ≡ turn-of (going g x₀ x₁ x₂ x₃ x₄ x₅) → ent 𝓤 (⋆ 𝓤 H A (Has ts st me po en sv [])) (Post (gone-val r))
     exits r ts st me po en sv is m₀ m₂ m₃ m₅ e =
         qed W (Has ts st me po en sv []) ∵
         suffices ! _ (ends-at 𝓤 H A f.ended stayed (f.clauses 𝓤 H A at-mem run) W ((κs₀, qs₀, tt, x, at), tt) (gone-val r) r (ts, (st, (me, (po, (en, (sv, (tt, tt))))))) (m₀, (tt, (m₂, (m₃, (tt, (m₅, (tt, tt)))))))) $ says ! e $
@@ -150,7 +150,7 @@ module _ {M : Type 1} (𝓤 : URA M) (H : Heap 𝓤) (A : Atoms 𝓤) (W : Given
       abbrev Bare : List (Item 𝓤)
       Bare = rooms 𝓤 H En []
 
-      ends : (r : Gone) (ts : List Task) (st me po en sv : List ℕ) → Is gone.the-row r (gone-vals r) → length ts ≡ n₀ → length me ≡ n₂ → length po ≡ n₃ → length sv ≡ n₅ → going r ts st me po en sv ≡ turn-of (going g x₀ x₁ x₂ x₃ x₄ x₅) → Sq W (Has ts st me po en sv Bare) (frees En (prop (Post (gone-val r))))
+      ends : (r : Progress) (ts : List Task) (st me po en sv : List ℕ) → Is gone.the-row r (gone-vals r) → length ts ≡ n₀ → length me ≡ n₂ → length po ≡ n₃ → length sv ≡ n₅ → going r ts st me po en sv ≡ turn-of (going g x₀ x₁ x₂ x₃ x₄ x₅) → Sq W (Has ts st me po en sv Bare) (frees En (prop (Post (gone-val r))))
       ends r ts st me po en sv is m₀ m₂ m₃ m₅ e =
           freed ! $ by ! (exits r ts st me po en sv is m₀ m₂ m₃ m₅ e)
 

@@ -7,9 +7,9 @@ use Rattle.stepper.proofs.Turns.{ended, exhausted, at-outer, refused, f
 use Rattle.stepper.proofs.steps.Statement.{statement}
 use Rattle.mechanism.specs.Execute.{kept}
 use Rattle.mechanism.specs.Steps.{stepped, steps}
-use Rattle.mechanism.specs.declared.Stepped.{Stepped}
+use Rattle.mechanism.specs.declared.StepsEnd.{StepsEnd}
 use Rattle.mechanism.specs.Registers.{OnStack, on-stack, on-memory}
-use Rattle.mechanism.specs.declared.Did.{Did}
+use Rattle.mechanism.specs.declared.RegistersResult.{RegistersResult}
 use Rattle.stepper.proofs.steps.Tie as tie
 
 abbrev Inv-loop : tie.InvT-loop
@@ -33,7 +33,7 @@ same-length c =
 
 returns : tie.Need-returns Inv-loop μ-loop
 returns c =
-    ap (λ (r : Stepped). stepped r (c .before .before .before .before .loop .stack) (c .before .before .before .before .loop .memory)) (c .halted .ensures) ∙ exhausted _ _ _ _ _ _ (c .before .if2 .taken) (c .before .before .if1 .taken) ∙ c .before .before .before .before .loop .inv .1
+    ap (λ (r : StepsEnd). stepped r (c .before .before .before .before .loop .stack) (c .before .before .before .before .loop .memory)) (c .halted .ensures) ∙ exhausted _ _ _ _ _ _ (c .before .if2 .taken) (c .before .before .if1 .taken) ∙ c .before .before .before .before .loop .inv .1
 
 shared-slice-read-op : tie.Need-shared-slice-read-op Inv-loop μ-loop
 shared-slice-read-op c =
@@ -53,7 +53,7 @@ same-length-2 c =
 
 returns-2 : tie.Need-returns-2 Inv-loop μ-loop
 returns-2 c =
-    ap (λ (r : Stepped). stepped r (c .before .before .before .before .before .before .before .loop .stack) (c .before .before .before .before .before .before .before .loop .memory)) (c .halted2 .ensures) ∙ at-outer _ _ _ _ _ _ (c .before .before .before .before .if2 .left) (c .before .before .before .before .before .if1 .taken) (sym (c .before .before .is-outer .ensures) ∙ c .before .if3 .taken) ∙ c .before .before .before .before .before .before .before .loop .inv .1
+    ap (λ (r : StepsEnd). stepped r (c .before .before .before .before .before .before .before .loop .stack) (c .before .before .before .before .before .before .before .loop .memory)) (c .halted2 .ensures) ∙ at-outer _ _ _ _ _ _ (c .before .before .before .before .if2 .left) (c .before .before .before .before .before .if1 .taken) (sym (c .before .before .is-outer .ensures) ∙ c .before .if3 .taken) ∙ c .before .before .before .before .before .before .before .loop .inv .1
 
 is-plain-requires : tie.Need-is-plain-requires Inv-loop μ-loop
 is-plain-requires c κs =
@@ -86,7 +86,7 @@ loop-again c =
     let given = c .before .before .before .before .before .before .before .before .before .before .before .before .before .before .before .before .args in
     let made = c .before .before .before .plain in
     let did =
-    ap (λ (d : Did). on-memory d (made .last .0) (turn .memory)) (sym (c .before .next .given .1)) ∙ ap (λ (after : OnStack). kept after (turn .memory)) (made .ensures) ∙ instruct-plain (turn .stack) (turn .memory) (given .code .now) (turn .at) (given .count) inside (sym (c .before .before .before .before .before .before .is-plain .ensures) ∙ c .before .before .before .before .before .if4 .taken) in (
+    ap (λ (d : RegistersResult). on-memory d (made .last .0) (turn .memory)) (sym (c .before .next .given .1)) ∙ ap (λ (after : OnStack). kept after (turn .memory)) (made .ensures) ∙ instruct-plain (turn .stack) (turn .memory) (given .code .now) (turn .at) (given .count) inside (sym (c .before .before .before .before .before .before .is-plain .ensures) ∙ c .before .before .before .before .before .if4 .taken) in (
       c .before .before .before .before .before .before .before .before .before .before .before .before .before .loop .inv .0,
       finished _ _ _ _ _ _ _ _ _ _ (c .before .before .before .before .before .before .before .before .before .before .if2 .left) refl inside (sym (c .before .before .before .before .before .before .before .before .is-outer .ensures) ∙ c .before .before .before .before .before .before .before .if3 .left) did ∙ c .before .before .before .before .before .before .before .before .before .before .before .before .before .loop .inv .1,
     )
@@ -110,8 +110,8 @@ returns-3 c =
     let given = c .before .before .before .before .before .before .before .before .before .before .before .before .before .before .before .before .before .args in
     let made = c .before .before .before .before .plain in
     let did =
-    ap (λ (d : Did). on-memory d (made .last .0) (turn .memory)) (sym (c .before .before .refusal .given .1)) ∙ ap (λ (after : OnStack). kept after (turn .memory)) (made .ensures) ∙ instruct-plain (turn .stack) (turn .memory) (given .code .now) (turn .at) (given .count) inside (sym (c .before .before .before .before .before .before .before .is-plain .ensures) ∙ c .before .before .before .before .before .before .if4 .taken) in
-    ap (λ (r : Stepped). stepped r (made .last .0) (turn .memory)) (c .halted3 .ensures) ∙ refused _ _ _ _ _ _ _ _ _ (c .before .before .before .before .before .before .before .before .before .before .before .if2 .left) inside (sym (c .before .before .before .before .before .before .before .before .before .is-outer .ensures) ∙ c .before .before .before .before .before .before .before .before .if3 .left) did ∙ c .before .before .before .before .before .before .before .before .before .before .before .before .before .before .loop .inv .1
+    ap (λ (d : RegistersResult). on-memory d (made .last .0) (turn .memory)) (sym (c .before .before .refusal .given .1)) ∙ ap (λ (after : OnStack). kept after (turn .memory)) (made .ensures) ∙ instruct-plain (turn .stack) (turn .memory) (given .code .now) (turn .at) (given .count) inside (sym (c .before .before .before .before .before .before .before .is-plain .ensures) ∙ c .before .before .before .before .before .before .if4 .taken) in
+    ap (λ (r : StepsEnd). stepped r (made .last .0) (turn .memory)) (c .halted3 .ensures) ∙ refused _ _ _ _ _ _ _ _ _ (c .before .before .before .before .before .before .before .before .before .before .before .if2 .left) inside (sym (c .before .before .before .before .before .before .before .before .before .is-outer .ensures) ∙ c .before .before .before .before .before .before .before .before .if3 .left) did ∙ c .before .before .before .before .before .before .before .before .before .before .before .before .before .before .loop .inv .1
 
 instruct-requires : tie.Need-instruct-requires Inv-loop μ-loop
 instruct-requires c κs = (
@@ -136,7 +136,7 @@ loop-again-2 : tie.Need-loop-again-2 Inv-loop μ-loop
 loop-again-2 c =
     let made = c .before .before .before .before .before .instruct in
     let did =
-    ap (λ (d : Did). on-memory d (made .last .0) (made .last .1 .0)) (sym (c .before .next2 .given .1)) ∙ made .ensures ∙ instruct-uncounted _ _ _ _ _ (sym (c .before .before .before .before .before .before .before .before .before .is-plain .ensures) ∙ c .before .before .before .before .before .before .before .before .if4 .left) in (
+    ap (λ (d : RegistersResult). on-memory d (made .last .0) (made .last .1 .0)) (sym (c .before .next2 .given .1)) ∙ made .ensures ∙ instruct-uncounted _ _ _ _ _ (sym (c .before .before .before .before .before .before .before .before .before .is-plain .ensures) ∙ c .before .before .before .before .before .before .before .before .if4 .left) in (
       made .kept .1 .0 ∙ c .before .before .before .before .before .before .before .before .before .before .before .before .before .before .before .before .loop .inv .0,
       finished _ _ _ _ _ _ _ _ _ _ (c .before .before .before .before .before .before .before .before .before .before .before .before .before .if2 .left) refl (c .before .before .before .before .before .before .before .before .before .before .before .before .before .before .if1 .taken) (sym (c .before .before .before .before .before .before .before .before .before .before .before .is-outer .ensures) ∙ c .before .before .before .before .before .before .before .before .before .before .if3 .left) did ∙ c .before .before .before .before .before .before .before .before .before .before .before .before .before .before .before .before .loop .inv .1,
     )
@@ -157,8 +157,8 @@ returns-4 : tie.Need-returns-4 Inv-loop μ-loop
 returns-4 c =
     let made = c .before .before .before .before .before .before .instruct in
     let did =
-    ap (λ (d : Did). on-memory d (made .last .0) (made .last .1 .0)) (sym (c .before .before .refusal2 .given .1)) ∙ made .ensures ∙ instruct-uncounted _ _ _ _ _ (sym (c .before .before .before .before .before .before .before .before .before .before .is-plain .ensures) ∙ c .before .before .before .before .before .before .before .before .before .if4 .left) in
-    ap (λ (r : Stepped). stepped r (made .last .0) (made .last .1 .0)) (c .halted4 .ensures) ∙ refused _ _ _ _ _ _ _ _ _ (c .before .before .before .before .before .before .before .before .before .before .before .before .before .before .if2 .left) (c .before .before .before .before .before .before .before .before .before .before .before .before .before .before .before .if1 .taken) (sym (c .before .before .before .before .before .before .before .before .before .before .before .before .is-outer .ensures) ∙ c .before .before .before .before .before .before .before .before .before .before .before .if3 .left) did ∙ c .before .before .before .before .before .before .before .before .before .before .before .before .before .before .before .before .before .loop .inv .1
+    ap (λ (d : RegistersResult). on-memory d (made .last .0) (made .last .1 .0)) (sym (c .before .before .refusal2 .given .1)) ∙ made .ensures ∙ instruct-uncounted _ _ _ _ _ (sym (c .before .before .before .before .before .before .before .before .before .before .is-plain .ensures) ∙ c .before .before .before .before .before .before .before .before .before .if4 .left) in
+    ap (λ (r : StepsEnd). stepped r (made .last .0) (made .last .1 .0)) (c .halted4 .ensures) ∙ refused _ _ _ _ _ _ _ _ _ (c .before .before .before .before .before .before .before .before .before .before .before .before .before .before .if2 .left) (c .before .before .before .before .before .before .before .before .before .before .before .before .before .before .before .if1 .taken) (sym (c .before .before .before .before .before .before .before .before .before .before .before .before .is-outer .ensures) ∙ c .before .before .before .before .before .before .before .before .before .before .before .if3 .left) did ∙ c .before .before .before .before .before .before .before .before .before .before .before .before .before .before .before .before .before .loop .inv .1
 
 halted-requires-5 : tie.Need-halted-requires-5 Inv-loop μ-loop
 halted-requires-5 c κs =
@@ -170,7 +170,7 @@ same-length-5 c =
 
 returns-5 : tie.Need-returns-5 Inv-loop μ-loop
 returns-5 c =
-    ap (λ (r : Stepped). stepped r (c .before .before .before .loop .stack) (c .before .before .before .loop .memory)) (c .halted5 .ensures) ∙ ended _ _ _ _ _ _ (c .before .if1 .left) ∙ c .before .before .before .loop .inv .1
+    ap (λ (r : StepsEnd). stepped r (c .before .before .before .loop .stack) (c .before .before .before .loop .memory)) (c .halted5 .ensures) ∙ ended _ _ _ _ _ _ (c .before .if1 .left) ∙ c .before .before .before .loop .inv .1
 
 pub steps-spec : {M : Type 1} → statement M
 steps-spec =

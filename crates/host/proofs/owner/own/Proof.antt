@@ -27,8 +27,8 @@ use denote.Triple.Statement.{Contract, Triple}
 use denote.Triple.Table.{entered, cited}
 use denote.Triple.Walked.{says, Stays, stay-slice, stay-ref, stay-none, walkOf, goes-slice, goes-ref, goes-none, Walks, ends-at, walked, walk-meets}
 use Rattle.lent.proofs.Lent.{Thing, part, whole as whole-of, have, tokens, lent}
-use Rattle.host.specs.declared.hosting.Performed.{Performed}
-use Rattle.host.proofs.hosting.Performed as performed
+use Rattle.host.specs.declared.hosting.RunSummary.{RunSummary}
+use Rattle.host.proofs.hosting.RunSummary as performed
 use lib.ListN.{length, replicate, length-replicate}
 use lib.Dec.{lit<}
 use package.mir.Syntax.{named, tyArray, w64}
@@ -126,7 +126,7 @@ module _ {M : Type 1} (𝓤 : URA M) (H : Heap 𝓤) (A : Atoms 𝓤) (W : Given
   Has v₀ v₁ v₂ v₃ v₄ v₅ v₆ v₇ Γ = ‵ (have All (v₀, (v₁, (v₂, (v₃, (v₄, (v₅, (v₆, (v₇, tt))))))))) ∷ ‵ (tokens All) ∷ Γ
 
   module _ (g₁ : Room u8 n₁) (g₂ : Room u8 n₂) (g₄ : Room u8 n₄) (g₅ : Room u8 n₅) (g₆ : Room u8 n₆) (g₇ : Room u8 n₇) (fuel-is : fuel < 2 ^ 64) where
-    exits : (r : Performed) (v₀ : List ℕ) (v₁ : List ℕ) (v₂ : List ℕ) (v₃ : List ℕ) (v₄ : List ℕ) (v₅ : List ℕ) (v₆ : List ℕ) (v₇ : List ℕ) → Is performed.the-row r (performed-vals r) → length v₁ ≡ n₁ → length v₂ ≡ n₂ → length v₄ ≡ n₄ → length v₅ ≡ n₅ → length v₆ ≡ n₆ → length v₇ ≡ n₇ → owned-of r v₀ v₁ v₂ v₃ v₄ v₅ v₆ v₇ ≡ own-of fuel x₀ x₁ x₂ x₃ x₄ x₅ x₆ x₇ → ent 𝓤 (⋆ 𝓤 H A (Has v₀ v₁ v₂ v₃ v₄ v₅ v₆ v₇ [])) (Post (performed-val r))
+    exits : (r : RunSummary) (v₀ : List ℕ) (v₁ : List ℕ) (v₂ : List ℕ) (v₃ : List ℕ) (v₄ : List ℕ) (v₅ : List ℕ) (v₆ : List ℕ) (v₇ : List ℕ) → Is performed.the-row r (performed-vals r) → length v₁ ≡ n₁ → length v₂ ≡ n₂ → length v₄ ≡ n₄ → length v₅ ≡ n₅ → length v₆ ≡ n₆ → length v₇ ≡ n₇ → owned-of r v₀ v₁ v₂ v₃ v₄ v₅ v₆ v₇ ≡ own-of fuel x₀ x₁ x₂ x₃ x₄ x₅ x₆ x₇ → ent 𝓤 (⋆ 𝓤 H A (Has v₀ v₁ v₂ v₃ v₄ v₅ v₆ v₇ [])) (Post (performed-val r))
     exits r v₀ v₁ v₂ v₃ v₄ v₅ v₆ v₇ is m₁ m₂ m₄ m₅ m₆ m₇ e =
         qed W (Has v₀ v₁ v₂ v₃ v₄ v₅ v₆ v₇ []) ∵
         suffices ! _ (ends-at 𝓤 H A f.ended stayed (f.clauses 𝓤 H A at-mem run) W ((κs₀, qs₀, tt, x, at), tt) (performed-val r) r (v₀, (v₁, (v₂, (v₃, (v₄, (v₅, (v₆, (v₇, (tt, tt))))))))) (tt, (m₁, (m₂, (tt, (m₄, (m₅, (m₆, (m₇, (tt, tt)))))))))) $ says ! e $

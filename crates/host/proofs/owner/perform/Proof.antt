@@ -59,11 +59,11 @@ use Rattle.mechanism.proofs.VmValues.{verb-shut, start-val, start-typed, report
 use Rattle.machine.specs.Calls.{reported, start as start-of}
 use Rattle.machine.specs.Creation.{machine-of, made, create as create-of}
 use Rattle.machine.specs.Reads.{saved-to, host-save}
-use Rattle.host.specs.declared.hosting.Performed.{Performed}
+use Rattle.host.specs.declared.hosting.RunSummary.{RunSummary}
 use Rattle.host.specs.Lines.{task-lines}
 use Rattle.host.specs.Hosting.{to-save, performed-in, perform}
 use Rattle.host.specs.Hosting.{performed as performed-of}
-use Rattle.host.proofs.hosting.Performed as performed
+use Rattle.host.proofs.hosting.RunSummary as performed
 use Rattle.host.proofs.Values.{line-shut, line-vals, performed-shut, performed-vals}
 use Rattle.host.proofs.Performing.{performs}
 use Rattle.vm.proofs.creating.create.Symbol.{name as #creates}
@@ -188,7 +188,7 @@ module _ {M : Type 1} (𝓤 : URA M) (H : Heap 𝓤) (A : Atoms 𝓤) (W : Given
   Has v₀ v₁ v₂ v₃ v₄ v₅ v₆ v₇ v₈ Γ = ‵ (have All (v₀, (v₁, (v₂, (v₃, (v₄, (v₅, (v₆, (v₇, (v₈, tt)))))))))) ∷ ‵ (tokens All) ∷ Γ
 
   module _ (g₀ : Room R n₀) (g₂ : Room u8 n₂) (g₃ : Room u8 n₃) (g₅ : Room u8 n₅) (g₆ : Room u8 n₆) (g₇ : Room u8 n₇) (g₈ : Room u8 n₈) (fuel-is : fuel < 2 ^ 64) where
-    exits : (r : Performed) (v₀ : List Task) (v₁ : List ℕ) (v₂ : List ℕ) (v₃ : List ℕ) (v₄ : List ℕ) (v₅ : List ℕ) (v₆ : List ℕ) (v₇ : List ℕ) (v₈ : List ℕ) → Is performed.the-row r (performed-vals r) → length v₀ ≡ n₀ → length v₂ ≡ n₂ → length v₃ ≡ n₃ → length v₅ ≡ n₅ → length v₆ ≡ n₆ → length v₇ ≡ n₇ → length v₈ ≡ n₈ → performed-in r v₀ v₁ v₂ v₃ v₄ v₅ v₆ v₇ v₈ ≡ perform fuel x₀ x₁ x₂ x₃ x₄ x₅ x₆ x₇ x₈ → ent 𝓤 (⋆ 𝓤 H A (Has v₀ v₁ v₂ v₃ v₄ v₅ v₆ v₇ v₈ [])) (Post (performed-val r))
+    exits : (r : RunSummary) (v₀ : List Task) (v₁ : List ℕ) (v₂ : List ℕ) (v₃ : List ℕ) (v₄ : List ℕ) (v₅ : List ℕ) (v₆ : List ℕ) (v₇ : List ℕ) (v₈ : List ℕ) → Is performed.the-row r (performed-vals r) → length v₀ ≡ n₀ → length v₂ ≡ n₂ → length v₃ ≡ n₃ → length v₅ ≡ n₅ → length v₆ ≡ n₆ → length v₇ ≡ n₇ → length v₈ ≡ n₈ → performed-in r v₀ v₁ v₂ v₃ v₄ v₅ v₆ v₇ v₈ ≡ perform fuel x₀ x₁ x₂ x₃ x₄ x₅ x₆ x₇ x₈ → ent 𝓤 (⋆ 𝓤 H A (Has v₀ v₁ v₂ v₃ v₄ v₅ v₆ v₇ v₈ [])) (Post (performed-val r))
     exits r v₀ v₁ v₂ v₃ v₄ v₅ v₆ v₇ v₈ is m₀ m₂ m₃ m₅ m₆ m₇ m₈ e =
         qed W (Has v₀ v₁ v₂ v₃ v₄ v₅ v₆ v₇ v₈ []) ∵
         suffices ! _ (ends-at 𝓤 H A f.ended stayed (f.clauses 𝓤 H A at-mem run) W ((κs₀, qs₀, tt, x, at), tt) (performed-val r) r (v₀, (v₁, (v₂, (v₃, (v₄, (v₅, (v₆, (v₇, (v₈, (tt, tt)))))))))) (m₀, (tt, (m₂, (m₃, (tt, (m₅, (m₆, (m₇, (m₈, (tt, tt))))))))))) $ says ! e $
@@ -210,7 +210,7 @@ module _ {M : Type 1} (𝓤 : URA M) (H : Heap 𝓤) (A : Atoms 𝓤) (W : Given
       abbrev Bare : List (Item 𝓤)
       Bare = rooms 𝓤 H En []
 
-      ends : (r : Performed) (v₀ : List Task) (v₁ : List ℕ) (v₂ : List ℕ) (v₃ : List ℕ) (v₄ : List ℕ) (v₅ : List ℕ) (v₆ : List ℕ) (v₇ : List ℕ) (v₈ : List ℕ) → Is performed.the-row r (performed-vals r) → length v₀ ≡ n₀ → length v₂ ≡ n₂ → length v₃ ≡ n₃ → length v₅ ≡ n₅ → length v₆ ≡ n₆ → length v₇ ≡ n₇ → length v₈ ≡ n₈ → performed-in r v₀ v₁ v₂ v₃ v₄ v₅ v₆ v₇ v₈ ≡ perform fuel x₀ x₁ x₂ x₃ x₄ x₅ x₆ x₇ x₈ → Sq W (Has v₀ v₁ v₂ v₃ v₄ v₅ v₆ v₇ v₈ Bare) (frees En (prop (Post (performed-val r))))
+      ends : (r : RunSummary) (v₀ : List Task) (v₁ : List ℕ) (v₂ : List ℕ) (v₃ : List ℕ) (v₄ : List ℕ) (v₅ : List ℕ) (v₆ : List ℕ) (v₇ : List ℕ) (v₈ : List ℕ) → Is performed.the-row r (performed-vals r) → length v₀ ≡ n₀ → length v₂ ≡ n₂ → length v₃ ≡ n₃ → length v₅ ≡ n₅ → length v₆ ≡ n₆ → length v₇ ≡ n₇ → length v₈ ≡ n₈ → performed-in r v₀ v₁ v₂ v₃ v₄ v₅ v₆ v₇ v₈ ≡ perform fuel x₀ x₁ x₂ x₃ x₄ x₅ x₆ x₇ x₈ → Sq W (Has v₀ v₁ v₂ v₃ v₄ v₅ v₆ v₇ v₈ Bare) (frees En (prop (Post (performed-val r))))
       ends r v₀ v₁ v₂ v₃ v₄ v₅ v₆ v₇ v₈ is m₀ m₂ m₃ m₅ m₆ m₇ m₈ e =
           freed ! $ by ! (exits r v₀ v₁ v₂ v₃ v₄ v₅ v₆ v₇ v₈ is m₀ m₂ m₃ m₅ m₆ m₇ m₈ e)
 

@@ -56,8 +56,8 @@ use Rattle.machine.proofs.Verb as verb-row
 use Rattle.machine.proofs.Report as report
 use Rattle.machine.proofs.SaveReport as save-report
 use Rattle.mechanism.proofs.VmValues.{verb-shut, verb-vals, report-shut, report-vals, save-report-shut, save-report-vals}
-use Rattle.printer.specs.declared.Answered.{Answered}
-use Rattle.printer.proofs.Answered as answered
+use Rattle.printer.specs.declared.CallOutcome.{CallOutcome}
+use Rattle.printer.proofs.CallOutcome as answered
 use Rattle.printer.proofs.Values.{answered-shut, answered-vals}
 use Rattle.printer.specs.Asked.{verb-of, ran as ran-of, saved as saved-of}
 use Rattle.printer.specs.Shows.{acted, performed}
@@ -150,7 +150,7 @@ module _ {M : Type 1} (𝓤 : URA M) (H : Heap 𝓤) (A : Atoms 𝓤) (W : Given
   Has v₀ v₁ v₂ v₃ v₄ v₅ Γ = ‵ (have All (v₀, (v₁, (v₂, (v₃, (v₄, (v₅, tt))))))) ∷ ‵ (tokens All) ∷ Γ
 
   module _ (g₀ : Room R n₀) (g₂ : Room u8 n₂) (g₃ : Room u8 n₃) (g₅ : Room u8 n₅) (m-is : Is machine.the-row m (machine-val m ∷ [])) (verb-is : verb < 2 ^ 8) (fuel-is : fuel < 2 ^ 64) where
-    exits : (r : Answered) (v₀ : List Task) (v₁ : List ℕ) (v₂ : List ℕ) (v₃ : List ℕ) (v₄ : List ℕ) (v₅ : List ℕ) → Is answered.the-row r (answered-val r ∷ []) → length v₀ ≡ n₀ → length v₂ ≡ n₂ → length v₃ ≡ n₃ → length v₅ ≡ n₅ → acted r v₀ v₁ v₂ v₃ v₄ v₅ ≡ performed verb fuel (world m x₀ x₁ x₂ x₃ x₄ x₅) → ent 𝓤 (⋆ 𝓤 H A (Has v₀ v₁ v₂ v₃ v₄ v₅ [])) (Post (answered-val r))
+    exits : (r : CallOutcome) (v₀ : List Task) (v₁ : List ℕ) (v₂ : List ℕ) (v₃ : List ℕ) (v₄ : List ℕ) (v₅ : List ℕ) → Is answered.the-row r (answered-val r ∷ []) → length v₀ ≡ n₀ → length v₂ ≡ n₂ → length v₃ ≡ n₃ → length v₅ ≡ n₅ → acted r v₀ v₁ v₂ v₃ v₄ v₅ ≡ performed verb fuel (world m x₀ x₁ x₂ x₃ x₄ x₅) → ent 𝓤 (⋆ 𝓤 H A (Has v₀ v₁ v₂ v₃ v₄ v₅ [])) (Post (answered-val r))
     exits r v₀ v₁ v₂ v₃ v₄ v₅ is m₀ m₂ m₃ m₅ e =
         qed W (Has v₀ v₁ v₂ v₃ v₄ v₅ []) ∵
         suffices ! _ (ends-at 𝓤 H A f.ended stayed (f.clauses 𝓤 H A at-mem run) W ((κs₀, qs₀, tt, x, at), tt) (answered-val r) r (v₀, (v₁, (v₂, (v₃, (v₄, (v₅, (tt, (tt, (tt, tt))))))))) (m₀, (tt, (m₂, (m₃, (tt, (m₅, (tt, (tt, (tt, tt)))))))))) $ says ! e $
@@ -172,7 +172,7 @@ module _ {M : Type 1} (𝓤 : URA M) (H : Heap 𝓤) (A : Atoms 𝓤) (W : Given
       abbrev Bare : List (Item 𝓤)
       Bare = rooms 𝓤 H En []
 
-      ends : (r : Answered) (v₀ : List Task) (v₁ : List ℕ) (v₂ : List ℕ) (v₃ : List ℕ) (v₄ : List ℕ) (v₅ : List ℕ) → Is answered.the-row r (answered-val r ∷ []) → length v₀ ≡ n₀ → length v₂ ≡ n₂ → length v₃ ≡ n₃ → length v₅ ≡ n₅ → acted r v₀ v₁ v₂ v₃ v₄ v₅ ≡ performed verb fuel (world m x₀ x₁ x₂ x₃ x₄ x₅) → Sq W (Has v₀ v₁ v₂ v₃ v₄ v₅ Bare) (frees En (prop (Post (answered-val r))))
+      ends : (r : CallOutcome) (v₀ : List Task) (v₁ : List ℕ) (v₂ : List ℕ) (v₃ : List ℕ) (v₄ : List ℕ) (v₅ : List ℕ) → Is answered.the-row r (answered-val r ∷ []) → length v₀ ≡ n₀ → length v₂ ≡ n₂ → length v₃ ≡ n₃ → length v₅ ≡ n₅ → acted r v₀ v₁ v₂ v₃ v₄ v₅ ≡ performed verb fuel (world m x₀ x₁ x₂ x₃ x₄ x₅) → Sq W (Has v₀ v₁ v₂ v₃ v₄ v₅ Bare) (frees En (prop (Post (answered-val r))))
       ends r v₀ v₁ v₂ v₃ v₄ v₅ is m₀ m₂ m₃ m₅ e =
           freed ! $ by ! (exits r v₀ v₁ v₂ v₃ v₄ v₅ is m₀ m₂ m₃ m₅ e)
 

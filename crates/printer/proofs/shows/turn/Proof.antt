@@ -51,7 +51,7 @@ use Rattle.machine.specs.declared.Machine.{Machine}
 use Rattle.machine.proofs.Machine as machine
 use Rattle.machine.specs.World.{world}
 use Rattle.mechanism.proofs.Values.{machine-shut, machine-vals}
-use Rattle.printer.proofs.Answered as answered
+use Rattle.printer.proofs.CallOutcome as answered
 use Rattle.printer.proofs.Values.{answered-shut, answered-vals}
 use Rattle.printer.specs.Asked.{verb-at, fuel-at}
 use Rattle.printer.specs.Shows.{acted, performed, after-call}

@@ -6,11 +6,11 @@ use lib.ListN.{getD}
 use Rattle.mechanism.specs.declared.Registers.{Registers}
 use Rattle.mechanism.specs.Steps.{steps, stepped}
 use Rattle.machine.specs.declared.Machine.{Machine}
-use Rattle.mechanism.specs.declared.Stepped.{Stepped}
+use Rattle.mechanism.specs.declared.StepsEnd.{StepsEnd}
 use Rattle.machine.specs.Machines.{code-of}
 use Rattle.mechanism.specs.Registers.{registers-of, settled}
 use Rattle.mechanism.specs.Advance.{halted-at, gone-on, after-steps, advance}
-use Rattle.mechanism.specs.declared.Gone.{Gone}
+use Rattle.mechanism.specs.declared.Progress.{Progress}
 use borrow.Author.Needs.{needs}
 use Rattle.stepper.proofs.advance.advance.Statement.{statement}
 use Rattle.stepper.proofs.advance.advance.Tie as tie
@@ -24,7 +24,7 @@ use Rattle.mechanism.proofs.machines.settled.Reads as settled-reads
 use Rattle.stepper.proofs.steps.Reads as steps-reads
 
 -- what the calls answer, put together
-advanced : (stack memory pool ends : List ℕ) (machine : Machine) (fuel : ℕ) {code : List ℕ} {registers : Registers} {reached : Stepped} {stack′ memory′ : List ℕ} {op : ℕ} {after : Machine} {r : Gone}
+advanced : (stack memory pool ends : List ℕ) (machine : Machine) (fuel : ℕ) {code : List ℕ} {registers : Registers} {reached : StepsEnd} {stack′ memory′ : List ℕ} {op : ℕ} {after : Machine} {r : Progress}
     → code ≡ code-of pool ends machine → registers ≡ registers-of machine → stepped reached stack′ memory′ ≡ steps fuel stack memory code registers (machine .count)
     → op ≡ getD code (reached .registers .place) 0 → after ≡ settled machine (reached .registers) → r ≡ halted-at after op (reached .left) (reached .halt)
     → gone-on r stack′ memory′ pool ends ≡ advance stack memory pool ends machine fuel

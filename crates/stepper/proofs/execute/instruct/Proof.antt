@@ -6,7 +6,7 @@ use lib.ListN.{length}
 use Rattle.stepper.proofs.Reach.{instruct-equality, instruct-byte, instruct-number, instruct-cut, instruct-other}
 use Rattle.mechanism.specs.Execute.{kept}
 use Rattle.mechanism.specs.Registers.{OnStack, on-memory}
-use Rattle.mechanism.specs.declared.Did.{Did}
+use Rattle.mechanism.specs.declared.RegistersResult.{RegistersResult}
 use borrow.Author.Needs.{needs}
 use Rattle.stepper.proofs.execute.instruct.Statement.{statement}
 use Rattle.stepper.proofs.execute.instruct.Tie as tie
@@ -28,7 +28,7 @@ returns c =
     let start = c .before .before .before .before .before .before .before .before in
     let given = start .args in
     let outside : length (given .code .now) < given .registers .place + 5 = omega (arith, start .pre .0, c .before .before .if2 .taken) in
-    ap (λ (did : Did). on-memory did (given .stack .now) (given .memory .now)) (c .cut .ensures) ∙ instruct-cut (given .stack .now) (given .memory .now) (given .code .now) (given .registers) 0 outside (sym (c .before .before .before .before .has-number .ensures) ∙ c .before .before .before .if1 .taken)
+    ap (λ (did : RegistersResult). on-memory did (given .stack .now) (given .memory .now)) (c .cut .ensures) ∙ instruct-cut (given .stack .now) (given .memory .now) (given .code .now) (given .registers) 0 outside (sym (c .before .before .before .before .has-number .ensures) ∙ c .before .before .before .if1 .taken)
 
 add-numbered : tie.Need-add-numbered
 add-numbered c = search needs

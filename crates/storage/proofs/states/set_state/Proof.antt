@@ -37,7 +37,7 @@ use denote.Exit.{yes}
 use Rattle.lent.proofs.Lent.{lent}
 use Rattle.lent.proofs.Landed.{typed-as, landed}
 use Rattle.storage.specs.declared.Task.{Task}
-use Rattle.storage.specs.declared.Stated.{Stated}
+use Rattle.storage.specs.declared.StateChange.{StateChange}
 use Rattle.storage.specs.Tasks.{with-state, restated}
 use Rattle.storage.proofs.Records.{R, vals, val, tells, makes}
 use Rattle.storage.proofs.Setting.{set-as}
@@ -49,8 +49,8 @@ use Rattle.storage.proofs.Task as task
 use Rattle.storage.proofs.Task.Laws as task-laws
 use Rattle.storage.proofs.TaskState as state
 use Rattle.storage.proofs.TaskState.Laws as state-laws
-use Rattle.storage.proofs.Stated as stated-type
-use Rattle.storage.proofs.Stated.Laws as stated-laws
+use Rattle.storage.proofs.StateChange as stated-type
+use Rattle.storage.proofs.StateChange.Laws as stated-laws
 use Rattle.storage.proofs.StateResult as answer
 use Rattle.storage.proofs.StateResult.Laws as answer-laws
 use Rattle.storage.proofs.states.with_state as with
@@ -71,20 +71,20 @@ with-con 𝓤 H A at-mem run = tripleOf 𝓤 H A with.signature (with.spec 𝓤 
 abbrev state-vals : Task → List Val
 state-vals t = struct.vals state.the-type state-laws.the-laws (t .state)
 
-abbrev stated-vals : Stated → List Val
+abbrev stated-vals : StateChange → List Val
 stated-vals = struct.vals stated-type.the-type stated-laws.the-laws
 
-abbrev answer-val : Stated → Val
+abbrev answer-val : StateChange → Val
 answer-val r = enum.val answer.the-type answer-laws.the-laws (r .answer)
 
 state-is : (t : Task) → Is R t (vals t) → Is state.the-row (t .state) (state-vals t)
 state-is t was = struct.owed task.the-type task-laws.the-laws t (vals t) was .1 .1 .1 .1 .0
 
-answer-is : (r : Stated) → Is stated-type.the-row r (stated-vals r) → Is answer.the-row (r .answer) (enum.vals answer.the-type answer-laws.the-laws (r .answer))
+answer-is : (r : StateChange) → Is stated-type.the-row r (stated-vals r) → Is answer.the-row (r .answer) (enum.vals answer.the-type answer-laws.the-laws (r .answer))
 answer-is r is = struct.owed stated-type.the-type stated-laws.the-laws r (stated-vals r) is .1 .0
 
 -- the record with the answered state byte is one again
-made : (t : Task) (r : Stated) → Is R t (vals t) → Is stated-type.the-row r (stated-vals r) → Is R (restated t (r .state)) (vals (restated t (r .state)))
+made : (t : Task) (r : StateChange) → Is R t (vals t) → Is stated-type.the-row r (stated-vals r) → Is R (restated t (r .state)) (vals (restated t (r .state)))
 made t r was is =
     struct.owes task.the-type task-laws.the-laws (restated t (r .state)) (
       struct.owed task.the-type task-laws.the-laws t (vals t) was .0,
@@ -116,7 +116,7 @@ module _ {M : Type 1} (𝓤 : URA M) (H : Heap 𝓤) (A : Atoms 𝓤) (W : Given
   abbrev Post : Val → SProp 𝓤
   Post = walkOf 𝓤 H A f.ended stayed (f.clauses 𝓤 H A at-mem run) .post (((κ, tt), (q, tt), tt, x, at), tt)
 
-  exits : (r : Stated) → r ≡ with-state (t .state) new → Is answer.the-row (r .answer) (enum.vals answer.the-type answer-laws.the-laws (r .answer))
+  exits : (r : StateChange) → r ≡ with-state (t .state) new → Is answer.the-row (r .answer) (enum.vals answer.the-type answer-laws.the-laws (r .answer))
       → ent 𝓤 (⋆ 𝓤 H A (‵ (fobs γ (R .coded .code (restated t (r .state)))) ∷ ‵ (fbor κ (Body (mem R) b o γ)) ∷ ‵ (flft κ q) ∷ [])) (Post (answer-val r))
   exits r e is =
       qed W (‵ (fobs γ (R .coded .code (restated t (r .state)))) ∷ ‵ (fbor κ (Body (mem R) b o γ)) ∷ ‵ (flft κ q) ∷ []) ∵

@@ -1,4 +1,4 @@
--- `vm::calling::call` meets its contract: a walk of its MIR by hand, which lends five of the six on to `sound`, and all six to `drive`.
+-- `vm::calling::call` meets its contract: a walk of its MIR by hand, which lends five of the six on to `sound`, and all six to `run`.
 use Prim.Native.Nat.{ℕ, _<_, _^_}
 use mathlib.Core.Path.{_≡_, refl}
 use mathlib.Core.Bool.{Bool, false}
@@ -48,17 +48,17 @@ use Rattle.storage.specs.Tasks.{after}
 use Rattle.storage.proofs.Records.{R, table-ty}
 use Rattle.machine.specs.declared.Machine.{Machine}
 use Rattle.machine.proofs.Machine as machine
-use Rattle.machine.proofs.Ran as ran
+use Rattle.machine.proofs.RunEnd as ran
 use Rattle.machine.specs.World.{world}
 use Rattle.machine.specs.Run.{ran-to, run as run-of}
 use Rattle.mechanism.proofs.Values.{machine-shut, machine-vals, ran-shut, ran-vals}
 use Rattle.mechanism.proofs.Fields.{is-true, is-false}
 use Rattle.machine.specs.declared.Verb.{Verb}
 use Rattle.machine.specs.declared.Report.{Report}
-use Rattle.machine.specs.declared.Allowed.{Allowed}
+use Rattle.machine.specs.declared.Permission.{Permission}
 use Rattle.machine.proofs.Verb as verb-row
 use Rattle.machine.proofs.Report as report
-use Rattle.machine.proofs.Allowed as allowed
+use Rattle.machine.proofs.Permission as allowed
 use Rattle.mechanism.proofs.VmValues.{report-shut, report-vals, allowed-shut, allowed-vals, verb-shut, verb-vals}
 use Rattle.machine.specs.Sound.{tested, sound-world}
 use Rattle.machine.specs.Calls.{allowed as allowed-of, report as report-of, not-allowed, reported, call as call-of}
@@ -66,7 +66,7 @@ use Rattle.mechanism.proofs.VmFields.{begun-is, take-allowed, take-begun}
 use Rattle.mechanism.proofs.Answers.{calls-run, calls-none}
 use Rattle.vm.proofs.sound.sound.Symbol.{name as #tests}
 use Rattle.vm.proofs.calling.allowed.Symbol.{name as #allows}
-use Rattle.runner.proofs.drive.Symbol.{name as #drives}
+use Rattle.runner.proofs.run.Symbol.{name as #drives}
 use Rattle.vm.proofs.calling.report.Symbol.{name as #reports}
 use Rattle.vm.proofs.calling.not_allowed.Symbol.{name as #refuses}
 use Rattle.vm.proofs.calling.call.Key.{name as #this}
@@ -76,9 +76,9 @@ use Rattle.vm.proofs.sound.sound.Met as tests-thm
 use Rattle.vm.proofs.calling.allowed as allows
 use Rattle.vm.proofs.calling.allowed.Symbol as allows-def
 use Rattle.vm.proofs.calling.allowed.Met as allows-thm
-use Rattle.runner.proofs.drive as drives
-use Rattle.runner.proofs.drive.Symbol as drives-def
-use Rattle.runner.proofs.drive.Met as drives-thm
+use Rattle.runner.proofs.run as drives
+use Rattle.runner.proofs.run.Symbol as drives-def
+use Rattle.runner.proofs.run.Met as drives-thm
 use Rattle.vm.proofs.calling.report as reports
 use Rattle.vm.proofs.calling.report.Symbol as reports-def
 use Rattle.vm.proofs.calling.report.Met as reports-thm
@@ -183,11 +183,11 @@ module _ {M : Type 1} (𝓤 : URA M) (H : Heap 𝓤) (A : Atoms 𝓤) (W : Given
           freed ! $ by ! (exits r ts st me po en sv is m₀ m₂ m₃ m₅ e)
 
       -- the locals after both tests
-      abbrev With : Bool → Allowed → List (Item 𝓤)
+      abbrev With : Bool → Permission → List (Item 𝓤)
       With good a = ‵ (froom (sliceTy (tyRef erased mut (tyInt w8))) l₃₂ 0) ∷ ‵ (fdies (sliceTy (tyRef erased mut (tyInt w8))) l₃₂) ∷ ‵ (froom (tyRef erased mut (tyInt w8)) l₃₁ 0) ∷ ‵ (fdies (tyRef erased mut (tyInt w8)) l₃₁) ∷ ‵ (froom (tyRef erased mut (tyArray (tyInt w32) 1024)) l₃₀ 0) ∷ ‵ (fdies (tyRef erased mut (tyArray (tyInt w32) 1024)) l₃₀) ∷ ‵ (froom (sliceTy (tyRef erased mut (tyInt w8))) l₂₉ 0) ∷ ‵ (fdies (sliceTy (tyRef erased mut (tyInt w8))) l₂₉) ∷ ‵ (froom (tyRef erased mut (tyInt w8)) l₂₈ 0) ∷ ‵ (fdies (tyRef erased mut (tyInt w8)) l₂₈) ∷ ‵ (froom (sliceTy (tyRef erased mut (tyInt w8))) l₂₇ 0) ∷ ‵ (fdies (sliceTy (tyRef erased mut (tyInt w8))) l₂₇) ∷ ‵ (froom (tyRef erased mut (tyInt w8)) l₂₆ 0) ∷ ‵ (fdies (tyRef erased mut (tyInt w8)) l₂₆) ∷ ‵ (froom (tyRef erased mut (tyArray (tyInt w64) 1000)) l₂₅ 0) ∷ ‵ (fdies (tyRef erased mut (tyArray (tyInt w64) 1000)) l₂₅) ∷ ‵ (froom (sliceTy (tyRef erased mut table-ty)) l₂₄ 0) ∷ ‵ (fdies (sliceTy (tyRef erased mut table-ty)) l₂₄) ∷ ‵ (froom (tyRef erased mut table-ty) l₂₃ 0) ∷ ‵ (fdies (tyRef erased mut table-ty) l₂₃) ∷ ‵ (froom tyBool l₂₂ 0) ∷ ‵ (fdies tyBool l₂₂) ∷ ‵ (froom (sliceTy (tyRef erased mut (tyInt w8))) l₂₁ 0) ∷ ‵ (fdies (sliceTy (tyRef erased mut (tyInt w8))) l₂₁) ∷ ‵ (froom (tyRef erased mut (tyInt w8)) l₂₀ 0) ∷ ‵ (fdies (tyRef erased mut (tyInt w8)) l₂₀) ∷ ‵ (froom (tyRef erased mut (tyArray (tyInt w32) 1024)) l₁₉ 0) ∷ ‵ (fdies (tyRef erased mut (tyArray (tyInt w32) 1024)) l₁₉) ∷ ‵ (froom (sliceTy (tyRef erased mut (tyInt w8))) l₁₈ 0) ∷ ‵ (fdies (sliceTy (tyRef erased mut (tyInt w8))) l₁₈) ∷ ‵ (froom (tyRef erased mut (tyInt w8)) l₁₇ 0) ∷ ‵ (fdies (tyRef erased mut (tyInt w8)) l₁₇) ∷ ‵ (froom (sliceTy (tyRef erased mut (tyInt w8))) l₁₆ 0) ∷ ‵ (fdies (sliceTy (tyRef erased mut (tyInt w8))) l₁₆) ∷ ‵ (froom (tyRef erased mut (tyInt w8)) l₁₅ 0) ∷ ‵ (fdies (tyRef erased mut (tyInt w8)) l₁₅) ∷ ‵ (froom (sliceTy (tyRef erased mut table-ty)) l₁₄ 0) ∷ ‵ (fdies (sliceTy (tyRef erased mut table-ty)) l₁₄) ∷ ‵ (froom (tyRef erased mut table-ty) l₁₃ 0) ∷ ‵ (fdies (tyRef erased mut table-ty) l₁₃) ∷ ‵ (froom ran-ty l₁₂ 0) ∷ ‵ (fdies ran-ty l₁₂) ∷ ‵ (fat fullShare allowed-ty l₁₁ 0 (allowed-val a)) ∷ ‵ (fdies allowed-ty l₁₁) ∷ ‵ (fat fullShare tyBool l₁₀ 0 (vbool good)) ∷ ‵ (fdies tyBool l₁₀) ∷ ‵ (fat fullShare (tyInt w64) l₉ 0 (vint w64 fuel)) ∷ ‵ (fdies (tyInt w64) l₉) ∷ ‵ (fat fullShare verb-ty l₈ 0 (verb-val verb)) ∷ ‵ (fdies verb-ty l₈) ∷ ‵ (fat fullShare machine-ty l₇ 0 (machine-val m)) ∷ ‵ (fdies machine-ty l₇) ∷ ‵ (fat fullShare (sliceTy (tyRef (named 5) mut (tyInt w8))) l₆ 0 (sliceVal (b₅, o₅) n₅)) ∷ ‵ (fdies (sliceTy (tyRef (named 5) mut (tyInt w8))) l₆) ∷ ‵ (fat fullShare (tyRef (named 4) mut (tyArray (tyInt w32) 1024)) l₅ 0 (vptr b₄ o₄)) ∷ ‵ (fdies (tyRef (named 4) mut (tyArray (tyInt w32) 1024)) l₅) ∷ ‵ (fat fullShare (sliceTy (tyRef (named 3) mut (tyInt w8))) l₄ 0 (sliceVal (b₃, o₃) n₃)) ∷ ‵ (fdies (sliceTy (tyRef (named 3) mut (tyInt w8))) l₄) ∷ ‵ (fat fullShare (sliceTy (tyRef (named 2) mut (tyInt w8))) l₃ 0 (sliceVal (b₂, o₂) n₂)) ∷ ‵ (fdies (sliceTy (tyRef (named 2) mut (tyInt w8))) l₃) ∷ ‵ (fat fullShare (tyRef (named 1) mut (tyArray (tyInt w64) 1000)) l₂ 0 (vptr b₁ o₁)) ∷ ‵ (fdies (tyRef (named 1) mut (tyArray (tyInt w64) 1000)) l₂) ∷ ‵ (fat fullShare (sliceTy (tyRef (named 0) mut table-ty)) l₁ 0 (sliceVal (b₀, o₀) n₀)) ∷ ‵ (fdies (sliceTy (tyRef (named 0) mut table-ty)) l₁) ∷ ‵ (froom report-ty l₀ 0) ∷ ‵ (fdies report-ty l₀) ∷ []
 
       -- a call that is not allowed
-      goes-not : (good : Bool) (a : Allowed) (ts : List Task) (me po en sv : List ℕ) → Is allowed.the-row a (allowed-vals a) → length ts ≡ n₀ → length me ≡ n₂ → length po ≡ n₃ → length sv ≡ n₅ → tested good ts me po en sv ≡ tested (sound-world x₀ x₂ x₃ x₄ x₅ m) x₀ x₂ x₃ x₄ x₅ → a ≡ allowed-of m good verb → a .allowed ≡ false
+      goes-not : (good : Bool) (a : Permission) (ts : List Task) (me po en sv : List ℕ) → Is allowed.the-row a (allowed-vals a) → length ts ≡ n₀ → length me ≡ n₂ → length po ≡ n₃ → length sv ≡ n₅ → tested good ts me po en sv ≡ tested (sound-world x₀ x₂ x₃ x₄ x₅ m) x₀ x₂ x₃ x₄ x₅ → a ≡ allowed-of m good verb → a .allowed ≡ false
           → Sq W (Has ts x₁ me po en sv (‵ (froom (sliceTy (tyRef erased mut (tyInt w8))) l₃₂ 0) ∷ ‵ (fdies (sliceTy (tyRef erased mut (tyInt w8))) l₃₂) ∷ ‵ (froom (tyRef erased mut (tyInt w8)) l₃₁ 0) ∷ ‵ (fdies (tyRef erased mut (tyInt w8)) l₃₁) ∷ ‵ (froom (tyRef erased mut (tyArray (tyInt w32) 1024)) l₃₀ 0) ∷ ‵ (fdies (tyRef erased mut (tyArray (tyInt w32) 1024)) l₃₀) ∷ ‵ (froom (sliceTy (tyRef erased mut (tyInt w8))) l₂₉ 0) ∷ ‵ (fdies (sliceTy (tyRef erased mut (tyInt w8))) l₂₉) ∷ ‵ (froom (tyRef erased mut (tyInt w8)) l₂₈ 0) ∷ ‵ (fdies (tyRef erased mut (tyInt w8)) l₂₈) ∷ ‵ (froom (sliceTy (tyRef erased mut (tyInt w8))) l₂₇ 0) ∷ ‵ (fdies (sliceTy (tyRef erased mut (tyInt w8))) l₂₇) ∷ ‵ (froom (tyRef erased mut (tyInt w8)) l₂₆ 0) ∷ ‵ (fdies (tyRef erased mut (tyInt w8)) l₂₆) ∷ ‵ (froom (tyRef erased mut (tyArray (tyInt w64) 1000)) l₂₅ 0) ∷ ‵ (fdies (tyRef erased mut (tyArray (tyInt w64) 1000)) l₂₅) ∷ ‵ (froom (sliceTy (tyRef erased mut table-ty)) l₂₄ 0) ∷ ‵ (fdies (sliceTy (tyRef erased mut table-ty)) l₂₄) ∷ ‵ (froom (tyRef erased mut table-ty) l₂₃ 0) ∷ ‵ (fdies (tyRef erased mut table-ty) l₂₃) ∷ ‵ (fat fullShare tyBool l₂₂ 0 (vbool (a .allowed))) ∷ ‵ (fdies tyBool l₂₂) ∷ ‵ (froom (sliceTy (tyRef erased mut (tyInt w8))) l₂₁ 0) ∷ ‵ (fdies (sliceTy (tyRef erased mut (tyInt w8))) l₂₁) ∷ ‵ (froom (tyRef erased mut (tyInt w8)) l₂₀ 0) ∷ ‵ (fdies (tyRef erased mut (tyInt w8)) l₂₀) ∷ ‵ (froom (tyRef erased mut (tyArray (tyInt w32) 1024)) l₁₉ 0) ∷ ‵ (fdies (tyRef erased mut (tyArray (tyInt w32) 1024)) l₁₉) ∷ ‵ (froom (sliceTy (tyRef erased mut (tyInt w8))) l₁₈ 0) ∷ ‵ (fdies (sliceTy (tyRef erased mut (tyInt w8))) l₁₈) ∷ ‵ (froom (tyRef erased mut (tyInt w8)) l₁₇ 0) ∷ ‵ (fdies (tyRef erased mut (tyInt w8)) l₁₇) ∷ ‵ (froom (sliceTy (tyRef erased mut (tyInt w8))) l₁₆ 0) ∷ ‵ (fdies (sliceTy (tyRef erased mut (tyInt w8))) l₁₆) ∷ ‵ (froom (tyRef erased mut (tyInt w8)) l₁₅ 0) ∷ ‵ (fdies (tyRef erased mut (tyInt w8)) l₁₅) ∷ ‵ (froom (sliceTy (tyRef erased mut table-ty)) l₁₄ 0) ∷ ‵ (fdies (sliceTy (tyRef erased mut table-ty)) l₁₄) ∷ ‵ (froom (tyRef erased mut table-ty) l₁₃ 0) ∷ ‵ (fdies (tyRef erased mut table-ty) l₁₃) ∷ ‵ (froom ran-ty l₁₂ 0) ∷ ‵ (fdies ran-ty l₁₂) ∷ ‵ (fat fullShare allowed-ty l₁₁ 0 (allowed-val a)) ∷ ‵ (fdies allowed-ty l₁₁) ∷ ‵ (fat fullShare tyBool l₁₀ 0 (vbool good)) ∷ ‵ (fdies tyBool l₁₀) ∷ ‵ (fat fullShare (tyInt w64) l₉ 0 (vint w64 fuel)) ∷ ‵ (fdies (tyInt w64) l₉) ∷ ‵ (fat fullShare verb-ty l₈ 0 (verb-val verb)) ∷ ‵ (fdies verb-ty l₈) ∷ ‵ (fat fullShare machine-ty l₇ 0 (machine-val m)) ∷ ‵ (fdies machine-ty l₇) ∷ ‵ (fat fullShare (sliceTy (tyRef (named 5) mut (tyInt w8))) l₆ 0 (sliceVal (b₅, o₅) n₅)) ∷ ‵ (fdies (sliceTy (tyRef (named 5) mut (tyInt w8))) l₆) ∷ ‵ (fat fullShare (tyRef (named 4) mut (tyArray (tyInt w32) 1024)) l₅ 0 (vptr b₄ o₄)) ∷ ‵ (fdies (tyRef (named 4) mut (tyArray (tyInt w32) 1024)) l₅) ∷ ‵ (fat fullShare (sliceTy (tyRef (named 3) mut (tyInt w8))) l₄ 0 (sliceVal (b₃, o₃) n₃)) ∷ ‵ (fdies (sliceTy (tyRef (named 3) mut (tyInt w8))) l₄) ∷ ‵ (fat fullShare (sliceTy (tyRef (named 2) mut (tyInt w8))) l₃ 0 (sliceVal (b₂, o₂) n₂)) ∷ ‵ (fdies (sliceTy (tyRef (named 2) mut (tyInt w8))) l₃) ∷ ‵ (fat fullShare (tyRef (named 1) mut (tyArray (tyInt w64) 1000)) l₂ 0 (vptr b₁ o₁)) ∷ ‵ (fdies (tyRef (named 1) mut (tyArray (tyInt w64) 1000)) l₂) ∷ ‵ (fat fullShare (sliceTy (tyRef (named 0) mut table-ty)) l₁ 0 (sliceVal (b₀, o₀) n₀)) ∷ ‵ (fdies (sliceTy (tyRef (named 0) mut table-ty)) l₁) ∷ ‵ (froom report-ty l₀ 0) ∷ ‵ (fdies report-ty l₀) ∷ [])) (runs C Λ En mir.t-14 (atRet En Post))
       goes-not good a ts me po en sv is m₀ m₂ m₃ m₅ e begun may =
           nothing ! $ nothing ! $
@@ -200,7 +200,7 @@ module _ {M : Type 1} (𝓤 : URA M) (H : Heap 𝓤) (A : Atoms 𝓤) (W : Given
           ends r₁ ts x₁ me po en sv is₁ m₀ m₂ m₃ m₅ (calls-none m x₀ x₁ x₂ x₃ x₄ x₅ e verb fuel begun may e₁))))
 
       -- the run, where it is allowed
-      goes-or-not : (good : Bool) (a : Allowed) (ts : List Task) (me po en sv : List ℕ) → Is allowed.the-row a (allowed-vals a) → length ts ≡ n₀ → length me ≡ n₂ → length po ≡ n₃ → length sv ≡ n₅ → tested good ts me po en sv ≡ tested (sound-world x₀ x₂ x₃ x₄ x₅ m) x₀ x₂ x₃ x₄ x₅ → a ≡ allowed-of m good verb
+      goes-or-not : (good : Bool) (a : Permission) (ts : List Task) (me po en sv : List ℕ) → Is allowed.the-row a (allowed-vals a) → length ts ≡ n₀ → length me ≡ n₂ → length po ≡ n₃ → length sv ≡ n₅ → tested good ts me po en sv ≡ tested (sound-world x₀ x₂ x₃ x₄ x₅ m) x₀ x₂ x₃ x₄ x₅ → a ≡ allowed-of m good verb
           → Sq W (Has ts x₁ me po en sv (With good a)) (runs C Λ En mir.t-12 (atRet En Post))
       goes-or-not good a ts me po en sv is m₀ m₂ m₃ m₅ e begun =
           assigns ! (of-opd ! (take-allowed ! 11 44 a refl refl)) (from ! (stop !)) (init ! 22 refl (tt, tt)) $
@@ -296,6 +296,6 @@ call-spec 𝓤 H 𝓜 𝓖 𝓡 =
     (meets 𝓤 H (𝓖 .A) (givenOf 𝓤 H 𝓜 𝓖) (𝓜 .mem) (𝓡 .run) (tablesOf 𝓤 H 𝓜 (tables 𝓤 H 𝓜 𝓡 code.env))
     (cited 𝓤 H (tests-con 𝓤 H (𝓖 .A) (𝓜 .mem) (𝓡 .run)) 𝓜 𝓡 code.env #tests tests-def.routine code.calls-vm·sound·sound (tests-thm.met 𝓤 H 𝓜 𝓖 𝓡))
     (cited 𝓤 H (allows-con 𝓤 H (𝓖 .A) (𝓜 .mem) (𝓡 .run)) 𝓜 𝓡 code.env #allows allows-def.routine code.calls-vm·calling·allowed (allows-thm.met 𝓤 H 𝓜 𝓖 𝓡))
-    (cited 𝓤 H (drives-con 𝓤 H (𝓖 .A) (𝓜 .mem) (𝓡 .run)) 𝓜 𝓡 code.env #drives drives-def.routine code.calls-runner·drive (drives-thm.met 𝓤 H 𝓜 𝓖 𝓡))
+    (cited 𝓤 H (drives-con 𝓤 H (𝓖 .A) (𝓜 .mem) (𝓡 .run)) 𝓜 𝓡 code.env #drives drives-def.routine code.calls-runner·run (drives-thm.met 𝓤 H 𝓜 𝓖 𝓡))
     (cited 𝓤 H (reports-con 𝓤 H (𝓖 .A) (𝓜 .mem) (𝓡 .run)) 𝓜 𝓡 code.env #reports reports-def.routine code.calls-vm·calling·report (reports-thm.met 𝓤 H 𝓜 𝓖 𝓡))
     (cited 𝓤 H (refuses-con 𝓤 H (𝓖 .A) (𝓜 .mem) (𝓡 .run)) 𝓜 𝓡 code.env #refuses refuses-def.routine code.calls-vm·calling·not-allowed (refuses-thm.met 𝓤 H 𝓜 𝓖 𝓡)))

@@ -52,9 +52,9 @@ use Rattle.table_image.proofs.InUse as used
 use Rattle.table_image.specs.Tables.{in-use, loading}
 use Rattle.mechanism.proofs.Values.{machine-shut}
 use Rattle.mechanism.proofs.Fields.{entries-fit, is-true, is-false}
-use Rattle.machine.specs.declared.Prepared.{Prepared}
+use Rattle.machine.specs.declared.Preparation.{Preparation}
 use Rattle.machine.specs.declared.CreateResult.{CreateResult}
-use Rattle.machine.proofs.Prepared as prepared
+use Rattle.machine.proofs.Preparation as prepared
 use Rattle.machine.proofs.CreateResult as created
 use Rattle.mechanism.proofs.VmValues.{prepared-shut, prepared-vals, created-shut, created-vals, used-shut, used-vals}
 use Rattle.machine.specs.declared.CreateResult.the-variants.{NotCreated}
@@ -176,11 +176,11 @@ module _ {M : Type 1} (𝓤 : URA M) (H : Heap 𝓤) (A : Atoms 𝓤) (W : Given
           freed ! $ by ! (exits r ts po en im pg is m₀ m₁ m₃ m₄ e)
 
       -- the locals after `prepare`
-      abbrev With : Prepared → List (Item 𝓤)
+      abbrev With : Preparation → List (Item 𝓤)
       With p = ‵ (froom (sliceTy (tyRef erased mut (tyInt w8))) l₂₃ 0) ∷ ‵ (fdies (sliceTy (tyRef erased mut (tyInt w8))) l₂₃) ∷ ‵ (froom (tyRef erased mut (tyInt w8)) l₂₂ 0) ∷ ‵ (fdies (tyRef erased mut (tyInt w8)) l₂₂) ∷ ‵ (froom (tyRef erased mut (tyArray (tyInt w32) 1024)) l₂₁ 0) ∷ ‵ (fdies (tyRef erased mut (tyArray (tyInt w32) 1024)) l₂₁) ∷ ‵ (froom (sliceTy (tyRef erased mut (tyInt w8))) l₂₀ 0) ∷ ‵ (fdies (sliceTy (tyRef erased mut (tyInt w8))) l₂₀) ∷ ‵ (froom (tyRef erased mut (tyInt w8)) l₁₉ 0) ∷ ‵ (fdies (tyRef erased mut (tyInt w8)) l₁₉) ∷ ‵ (froom (sliceTy (tyRef erased mut table-ty)) l₁₈ 0) ∷ ‵ (fdies (sliceTy (tyRef erased mut table-ty)) l₁₈) ∷ ‵ (froom (tyRef erased mut table-ty) l₁₇ 0) ∷ ‵ (fdies (tyRef erased mut table-ty) l₁₇) ∷ ‵ (froom tyBool l₁₆ 0) ∷ ‵ (fdies tyBool l₁₆) ∷ ‵ (froom (tyInt w64) l₁₅ 0) ∷ ‵ (fdies (tyInt w64) l₁₅) ∷ ‵ (froom (sliceTy (tyRef erased mut (tyInt w8))) l₁₄ 0) ∷ ‵ (fdies (sliceTy (tyRef erased mut (tyInt w8))) l₁₄) ∷ ‵ (froom (tyRef erased mut (tyInt w8)) l₁₃ 0) ∷ ‵ (fdies (tyRef erased mut (tyInt w8)) l₁₃) ∷ ‵ (froom (sliceTy (tyRef erased mut (tyInt w8))) l₁₂ 0) ∷ ‵ (fdies (sliceTy (tyRef erased mut (tyInt w8))) l₁₂) ∷ ‵ (froom (tyRef erased mut (tyInt w8)) l₁₁ 0) ∷ ‵ (fdies (tyRef erased mut (tyInt w8)) l₁₁) ∷ ‵ (froom (tyRef erased mut (tyArray (tyInt w32) 1024)) l₁₀ 0) ∷ ‵ (fdies (tyRef erased mut (tyArray (tyInt w32) 1024)) l₁₀) ∷ ‵ (froom (sliceTy (tyRef erased mut (tyInt w8))) l₉ 0) ∷ ‵ (fdies (sliceTy (tyRef erased mut (tyInt w8))) l₉) ∷ ‵ (froom (tyRef erased mut (tyInt w8)) l₈ 0) ∷ ‵ (fdies (tyRef erased mut (tyInt w8)) l₈) ∷ ‵ (froom used-ty l₇ 0) ∷ ‵ (fdies used-ty l₇) ∷ ‵ (fat fullShare prepared-ty l₆ 0 (prepared-val p)) ∷ ‵ (fdies prepared-ty l₆) ∷ ‵ (fat fullShare (sliceTy (tyRef (named 4) mut (tyInt w8))) l₅ 0 (sliceVal (b₄, o₄) n₄)) ∷ ‵ (fdies (sliceTy (tyRef (named 4) mut (tyInt w8))) l₅) ∷ ‵ (fat fullShare (sliceTy (tyRef (named 3) mut (tyInt w8))) l₄ 0 (sliceVal (b₃, o₃) n₃)) ∷ ‵ (fdies (sliceTy (tyRef (named 3) mut (tyInt w8))) l₄) ∷ ‵ (fat fullShare (tyRef (named 2) mut (tyArray (tyInt w32) 1024)) l₃ 0 (vptr b₂ o₂)) ∷ ‵ (fdies (tyRef (named 2) mut (tyArray (tyInt w32) 1024)) l₃) ∷ ‵ (fat fullShare (sliceTy (tyRef (named 1) mut (tyInt w8))) l₂ 0 (sliceVal (b₁, o₁) n₁)) ∷ ‵ (fdies (sliceTy (tyRef (named 1) mut (tyInt w8))) l₂) ∷ ‵ (fat fullShare (sliceTy (tyRef (named 0) mut table-ty)) l₁ 0 (sliceVal (b₀, o₀) n₀)) ∷ ‵ (fdies (sliceTy (tyRef (named 0) mut table-ty)) l₁) ∷ ‵ (froom created-ty l₀ 0) ∷ ‵ (fdies created-ty l₀) ∷ []
 
       -- a creation that is refused
-      refuses : (p : Prepared) (po en im pg : List ℕ) → Is prepared.the-row p (prepared-vals p) → length po ≡ n₁ → length im ≡ n₃ → length pg ≡ n₄ → prepared-in p po en im pg ≡ prepare-of x₁ x₂ x₃ x₄ n₀ → p .fits ≡ false
+      refuses : (p : Preparation) (po en im pg : List ℕ) → Is prepared.the-row p (prepared-vals p) → length po ≡ n₁ → length im ≡ n₃ → length pg ≡ n₄ → prepared-in p po en im pg ≡ prepare-of x₁ x₂ x₃ x₄ n₀ → p .fits ≡ false
           → Sq W (Has x₀ po en im pg (‵ (froom (sliceTy (tyRef erased mut (tyInt w8))) l₂₃ 0) ∷ ‵ (fdies (sliceTy (tyRef erased mut (tyInt w8))) l₂₃) ∷ ‵ (froom (tyRef erased mut (tyInt w8)) l₂₂ 0) ∷ ‵ (fdies (tyRef erased mut (tyInt w8)) l₂₂) ∷ ‵ (froom (tyRef erased mut (tyArray (tyInt w32) 1024)) l₂₁ 0) ∷ ‵ (fdies (tyRef erased mut (tyArray (tyInt w32) 1024)) l₂₁) ∷ ‵ (froom (sliceTy (tyRef erased mut (tyInt w8))) l₂₀ 0) ∷ ‵ (fdies (sliceTy (tyRef erased mut (tyInt w8))) l₂₀) ∷ ‵ (froom (tyRef erased mut (tyInt w8)) l₁₉ 0) ∷ ‵ (fdies (tyRef erased mut (tyInt w8)) l₁₉) ∷ ‵ (froom (sliceTy (tyRef erased mut table-ty)) l₁₈ 0) ∷ ‵ (fdies (sliceTy (tyRef erased mut table-ty)) l₁₈) ∷ ‵ (froom (tyRef erased mut table-ty) l₁₇ 0) ∷ ‵ (fdies (tyRef erased mut table-ty) l₁₇) ∷ ‵ (fat fullShare tyBool l₁₆ 0 (vbool (p .fits))) ∷ ‵ (fdies tyBool l₁₆) ∷ ‵ (froom (tyInt w64) l₁₅ 0) ∷ ‵ (fdies (tyInt w64) l₁₅) ∷ ‵ (froom (sliceTy (tyRef erased mut (tyInt w8))) l₁₄ 0) ∷ ‵ (fdies (sliceTy (tyRef erased mut (tyInt w8))) l₁₄) ∷ ‵ (froom (tyRef erased mut (tyInt w8)) l₁₃ 0) ∷ ‵ (fdies (tyRef erased mut (tyInt w8)) l₁₃) ∷ ‵ (froom (sliceTy (tyRef erased mut (tyInt w8))) l₁₂ 0) ∷ ‵ (fdies (sliceTy (tyRef erased mut (tyInt w8))) l₁₂) ∷ ‵ (froom (tyRef erased mut (tyInt w8)) l₁₁ 0) ∷ ‵ (fdies (tyRef erased mut (tyInt w8)) l₁₁) ∷ ‵ (froom (tyRef erased mut (tyArray (tyInt w32) 1024)) l₁₀ 0) ∷ ‵ (fdies (tyRef erased mut (tyArray (tyInt w32) 1024)) l₁₀) ∷ ‵ (froom (sliceTy (tyRef erased mut (tyInt w8))) l₉ 0) ∷ ‵ (fdies (sliceTy (tyRef erased mut (tyInt w8))) l₉) ∷ ‵ (froom (tyRef erased mut (tyInt w8)) l₈ 0) ∷ ‵ (fdies (tyRef erased mut (tyInt w8)) l₈) ∷ ‵ (froom used-ty l₇ 0) ∷ ‵ (fdies used-ty l₇) ∷ ‵ (fat fullShare prepared-ty l₆ 0 (prepared-val p)) ∷ ‵ (fdies prepared-ty l₆) ∷ ‵ (fat fullShare (sliceTy (tyRef (named 4) mut (tyInt w8))) l₅ 0 (sliceVal (b₄, o₄) n₄)) ∷ ‵ (fdies (sliceTy (tyRef (named 4) mut (tyInt w8))) l₅) ∷ ‵ (fat fullShare (sliceTy (tyRef (named 3) mut (tyInt w8))) l₄ 0 (sliceVal (b₃, o₃) n₃)) ∷ ‵ (fdies (sliceTy (tyRef (named 3) mut (tyInt w8))) l₄) ∷ ‵ (fat fullShare (tyRef (named 2) mut (tyArray (tyInt w32) 1024)) l₃ 0 (vptr b₂ o₂)) ∷ ‵ (fdies (tyRef (named 2) mut (tyArray (tyInt w32) 1024)) l₃) ∷ ‵ (fat fullShare (sliceTy (tyRef (named 1) mut (tyInt w8))) l₂ 0 (sliceVal (b₁, o₁) n₁)) ∷ ‵ (fdies (sliceTy (tyRef (named 1) mut (tyInt w8))) l₂) ∷ ‵ (fat fullShare (sliceTy (tyRef (named 0) mut table-ty)) l₁ 0 (sliceVal (b₀, o₀) n₀)) ∷ ‵ (fdies (sliceTy (tyRef (named 0) mut table-ty)) l₁) ∷ ‵ (froom created-ty l₀ 0) ∷ ‵ (fdies created-ty l₀) ∷ [])) (runs C Λ En mir.t-12 (atRet En Post))
       refuses p po en im pg is m₁ m₃ m₄ e fits =
           nothing ! $ nothing ! $
@@ -193,7 +193,7 @@ module _ {M : Type 1} (𝓤 : URA M) (H : Heap 𝓤) (A : Atoms 𝓤) (W : Given
           ends r₁ x₀ po en im pg is₁ refl m₁ m₃ m₄ (creates-none x₀ x₁ x₂ x₃ x₄ e fits e₁))))
 
       -- the image's tasks, where the tests are passed
-      tests : (p : Prepared) (po en im pg : List ℕ) → Is prepared.the-row p (prepared-vals p) → length po ≡ n₁ → length im ≡ n₃ → length pg ≡ n₄ → prepared-in p po en im pg ≡ prepare-of x₁ x₂ x₃ x₄ n₀
+      tests : (p : Preparation) (po en im pg : List ℕ) → Is prepared.the-row p (prepared-vals p) → length po ≡ n₁ → length im ≡ n₃ → length pg ≡ n₄ → prepared-in p po en im pg ≡ prepare-of x₁ x₂ x₃ x₄ n₀
           → Sq W (Has x₀ po en im pg (With p)) (runs C Λ En mir.t-10 (atRet En Post))
       tests p po en im pg is m₁ m₃ m₄ e =
           assigns ! (of-opd ! (take-fits ! 6 36 p refl refl)) (from ! (stop !)) (init ! 16 refl (tt, tt)) $

@@ -1,4 +1,4 @@
--- `runner::drive` meets its contract: a walk of its MIR by hand, with a loop that carries all that is lent from turn to turn.
+-- `runner::run` meets its contract: a walk of its MIR by hand, with a loop that carries all that is lent from turn to turn.
 use Prim.Native.Nat.{ℕ, _<_, _^_, _-_}
 use mathlib.Core.Path.{_≡_, refl, sym, subst}
 use mathlib.Core.Bool.{true, false}
@@ -48,8 +48,8 @@ use Rattle.storage.specs.declared.Task.{Task}
 use Rattle.storage.specs.Tasks.{after}
 use Rattle.storage.proofs.Records.{R, table-ty}
 use Rattle.machine.specs.declared.Machine.{Machine}
-use Rattle.mechanism.specs.declared.Gone.{Gone}
-use Rattle.machine.specs.declared.Ran.{Ran}
+use Rattle.mechanism.specs.declared.Progress.{Progress}
+use Rattle.machine.specs.declared.RunEnd.{RunEnd}
 use Rattle.mechanism.specs.Advance.{gone-on, advance as advance-of}
 use Rattle.mechanism.specs.Turns.{begun as begun-of, ran as ran-of}
 use Rattle.machine.specs.World.{world}
@@ -63,10 +63,10 @@ use Rattle.runner.proofs.gone.begun.Symbol.{name as #begins}
 use Rattle.stepper.proofs.advance.advance.Symbol.{name as #advance}
 use Rattle.runner.proofs.turn.Symbol.{name as #turn}
 use Rattle.runner.proofs.gone.ran.Symbol.{name as #ends}
-use Rattle.runner.proofs.drive.Key.{name as #this}
+use Rattle.runner.proofs.run.Key.{name as #this}
 use Rattle.machine.proofs.Machine as machine
-use Rattle.mechanism.proofs.Gone as gone
-use Rattle.machine.proofs.Ran as ran
+use Rattle.mechanism.proofs.Progress as gone
+use Rattle.machine.proofs.RunEnd as ran
 use Rattle.runner.proofs.gone.begun as begins
 use Rattle.runner.proofs.gone.begun.Symbol as begins-def
 use Rattle.runner.proofs.gone.begun.Met as begins-thm
@@ -79,10 +79,10 @@ use Rattle.runner.proofs.turn.Met as turn-thm
 use Rattle.runner.proofs.gone.ran as ends
 use Rattle.runner.proofs.gone.ran.Symbol as ends-def
 use Rattle.runner.proofs.gone.ran.Met as ends-thm
-use Rattle.runner.proofs.drive as f
-use Rattle.runner.proofs.drive.Statement as stated
-use Rattle.runner.proofs.drive.Code as code
-use Rattle.runner.proofs.drive.Code.Mir as mir
+use Rattle.runner.proofs.run as f
+use Rattle.runner.proofs.run.Statement as stated
+use Rattle.runner.proofs.run.Code as code
+use Rattle.runner.proofs.run.Code.Mir as mir
 open Shut machine-shut using (val as machine-val, ty as machine-ty, tells as machine-tells, makes as machine-makes, typed as machine-typed)
 open Shut gone-shut using (val as gone-val, ty as gone-ty, tells as gone-tells, makes as gone-makes, typed as gone-typed)
 open Shut ran-shut using (val as ran-val, ty as ran-ty, tells as ran-tells, makes as ran-makes, typed as ran-typed)
@@ -106,7 +106,7 @@ module _ {M : Type 1} (𝓤 : URA M) (H : Heap 𝓤) (A : Atoms 𝓤) (at-mem : 
 
 -- a machine before a turn, with all that is lent, and what is known of them
 record State (n₀ n₂ n₃ n₅ : ℕ) (y : End) : Type 0 where
-  g : Gone
+  g : Progress
   ts : List Task
   st : List ℕ
   me : List ℕ
@@ -176,7 +176,7 @@ module _ {M : Type 1} (𝓤 : URA M) (H : Heap 𝓤) (A : Atoms 𝓤) (W : Given
   Parted ts st me po en sv Γ = ‵ (have Four (st, (me, (po, (en, tt))))) ∷ ‵ (tokens Four) ∷ ‵ (have Two (ts, (sv, tt))) ∷ ‵ (tokens Two) ∷ Γ
 
   module _ (g₀ : Room R n₀) (g₂ : Room u8 n₂) (g₃ : Room u8 n₃) (g₅ : Room u8 n₅) (m-is : Is machine.the-row m (machine-vals m)) (fuel-fits : fuel < 2 ^ 64) where
-    exits : (r : Ran) (ts : List Task) (st me po en sv : List ℕ) → Is ran.the-row r (ran-vals r) → length ts ≡ n₀ → length me ≡ n₂ → length po ≡ n₃ → length sv ≡ n₅ → ran-to r ts st me po en sv ≡ y₀ → ent 𝓤 (⋆ 𝓤 H A (Has ts st me po en sv [])) (Post (ran-val r))
+    exits : (r : RunEnd) (ts : List Task) (st me po en sv : List ℕ) → Is ran.the-row r (ran-vals r) → length ts ≡ n₀ → length me ≡ n₂ → length po ≡ n₃ → length sv ≡ n₅ → ran-to r ts st me po en sv ≡ y₀ → ent 𝓤 (⋆ 𝓤 H A (Has ts st me po en sv [])) (Post (ran-val r))
     exits r ts st me po en sv is m₀ m₂ m₃ m₅ e =
         qed W (Has ts st me po en sv []) ∵
         suffices ! _ (ends-at 𝓤 H A f.ended stayed (f.clauses 𝓤 H A at-mem run) W ((κs₀, qs₀, tt, x, at), tt) (ran-val r) r (ts, (st, (me, (po, (en, (sv, (tt, (tt, tt)))))))) (m₀, (tt, (m₂, (m₃, (tt, (m₅, (tt, (tt, tt))))))))) $ says ! e $
@@ -195,7 +195,7 @@ module _ {M : Type 1} (𝓤 : URA M) (H : Heap 𝓤) (A : Atoms 𝓤) (W : Given
       En = (ran-ty, l₀) ∷ (sliceTy (tyRef (named 0) mut table-ty), l₁) ∷ (tyRef (named 1) mut (tyArray (tyInt w64) 1000), l₂) ∷ (sliceTy (tyRef (named 2) mut (tyInt w8)), l₃) ∷ (sliceTy (tyRef (named 3) mut (tyInt w8)), l₄) ∷ (tyRef (named 4) mut (tyArray (tyInt w32) 1024), l₅) ∷ (sliceTy (tyRef (named 5) mut (tyInt w8)), l₆) ∷ (machine-ty, l₇) ∷ (tyInt w64, l₈) ∷ (gone-ty, l₉) ∷ (gone-ty, l₁₀) ∷ (tyBool, l₁₁) ∷ (tyRef erased mut (tyArray (tyInt w64) 1000), l₁₂) ∷ (tyRef erased mut (tyInt w8), l₁₃) ∷ (sliceTy (tyRef erased mut (tyInt w8)), l₁₄) ∷ (tyRef erased mut (tyInt w8), l₁₅) ∷ (sliceTy (tyRef erased mut (tyInt w8)), l₁₆) ∷ (tyRef erased mut (tyArray (tyInt w32) 1024), l₁₇) ∷ (tyRef erased mut table-ty, l₁₈) ∷ (sliceTy (tyRef erased mut table-ty), l₁₉) ∷ (tyRef erased mut (tyArray (tyInt w64) 1000), l₂₀) ∷ (tyRef erased mut (tyInt w8), l₂₁) ∷ (sliceTy (tyRef erased mut (tyInt w8)), l₂₂) ∷ (tyRef erased mut (tyInt w8), l₂₃) ∷ (sliceTy (tyRef erased mut (tyInt w8)), l₂₄) ∷ (tyRef erased mut (tyArray (tyInt w32) 1024), l₂₅) ∷ (tyRef erased mut (tyInt w8), l₂₆) ∷ (sliceTy (tyRef erased mut (tyInt w8)), l₂₇) ∷ []
 
       -- the locals with a machine on its way
-      abbrev With : Gone → List (Item 𝓤)
+      abbrev With : Progress → List (Item 𝓤)
       With g = ‵ (froom (sliceTy (tyRef erased mut (tyInt w8))) l₂₇ 0) ∷ ‵ (fdies (sliceTy (tyRef erased mut (tyInt w8))) l₂₇) ∷ ‵ (froom (tyRef erased mut (tyInt w8)) l₂₆ 0) ∷ ‵ (fdies (tyRef erased mut (tyInt w8)) l₂₆) ∷ ‵ (froom (tyRef erased mut (tyArray (tyInt w32) 1024)) l₂₅ 0) ∷ ‵ (fdies (tyRef erased mut (tyArray (tyInt w32) 1024)) l₂₅) ∷ ‵ (froom (sliceTy (tyRef erased mut (tyInt w8))) l₂₄ 0) ∷ ‵ (fdies (sliceTy (tyRef erased mut (tyInt w8))) l₂₄) ∷ ‵ (froom (tyRef erased mut (tyInt w8)) l₂₃ 0) ∷ ‵ (fdies (tyRef erased mut (tyInt w8)) l₂₃) ∷ ‵ (froom (sliceTy (tyRef erased mut (tyInt w8))) l₂₂ 0) ∷ ‵ (fdies (sliceTy (tyRef erased mut (tyInt w8))) l₂₂) ∷ ‵ (froom (tyRef erased mut (tyInt w8)) l₂₁ 0) ∷ ‵ (fdies (tyRef erased mut (tyInt w8)) l₂₁) ∷ ‵ (froom (tyRef erased mut (tyArray (tyInt w64) 1000)) l₂₀ 0) ∷ ‵ (fdies (tyRef erased mut (tyArray (tyInt w64) 1000)) l₂₀) ∷ ‵ (froom (sliceTy (tyRef erased mut table-ty)) l₁₉ 0) ∷ ‵ (fdies (sliceTy (tyRef erased mut table-ty)) l₁₉) ∷ ‵ (froom (tyRef erased mut table-ty) l₁₈ 0) ∷ ‵ (fdies (tyRef erased mut table-ty) l₁₈) ∷ ‵ (froom (tyRef erased mut (tyArray (tyInt w32) 1024)) l₁₇ 0) ∷ ‵ (fdies (tyRef erased mut (tyArray (tyInt w32) 1024)) l₁₇) ∷ ‵ (froom (sliceTy (tyRef erased mut (tyInt w8))) l₁₆ 0) ∷ ‵ (fdies (sliceTy (tyRef erased mut (tyInt w8))) l₁₆) ∷ ‵ (froom (tyRef erased mut (tyInt w8)) l₁₅ 0) ∷ ‵ (fdies (tyRef erased mut (tyInt w8)) l₁₅) ∷ ‵ (froom (sliceTy (tyRef erased mut (tyInt w8))) l₁₄ 0) ∷ ‵ (fdies (sliceTy (tyRef erased mut (tyInt w8))) l₁₄) ∷ ‵ (froom (tyRef erased mut (tyInt w8)) l₁₃ 0) ∷ ‵ (fdies (tyRef erased mut (tyInt w8)) l₁₃) ∷ ‵ (froom (tyRef erased mut (tyArray (tyInt w64) 1000)) l₁₂ 0) ∷ ‵ (fdies (tyRef erased mut (tyArray (tyInt w64) 1000)) l₁₂) ∷ ‵ (froom tyBool l₁₁ 0) ∷ ‵ (fdies tyBool l₁₁) ∷ ‵ (froom gone-ty l₁₀ 0) ∷ ‵ (fdies gone-ty l₁₀) ∷ ‵ (fat fullShare gone-ty l₉ 0 (gone-val g)) ∷ ‵ (fdies gone-ty l₉) ∷ ‵ (fat fullShare (tyInt w64) l₈ 0 (vint w64 fuel)) ∷ ‵ (fdies (tyInt w64) l₈) ∷ ‵ (fat fullShare machine-ty l₇ 0 (machine-val m)) ∷ ‵ (fdies machine-ty l₇) ∷ ‵ (fat fullShare (sliceTy (tyRef (named 5) mut (tyInt w8))) l₆ 0 (sliceVal (b₅, o₅) n₅)) ∷ ‵ (fdies (sliceTy (tyRef (named 5) mut (tyInt w8))) l₆) ∷ ‵ (fat fullShare (tyRef (named 4) mut (tyArray (tyInt w32) 1024)) l₅ 0 (vptr b₄ o₄)) ∷ ‵ (fdies (tyRef (named 4) mut (tyArray (tyInt w32) 1024)) l₅) ∷ ‵ (fat fullShare (sliceTy (tyRef (named 3) mut (tyInt w8))) l₄ 0 (sliceVal (b₃, o₃) n₃)) ∷ ‵ (fdies (sliceTy (tyRef (named 3) mut (tyInt w8))) l₄) ∷ ‵ (fat fullShare (sliceTy (tyRef (named 2) mut (tyInt w8))) l₃ 0 (sliceVal (b₂, o₂) n₂)) ∷ ‵ (fdies (sliceTy (tyRef (named 2) mut (tyInt w8))) l₃) ∷ ‵ (fat fullShare (tyRef (named 1) mut (tyArray (tyInt w64) 1000)) l₂ 0 (vptr b₁ o₁)) ∷ ‵ (fdies (tyRef (named 1) mut (tyArray (tyInt w64) 1000)) l₂) ∷ ‵ (fat fullShare (sliceTy (tyRef (named 0) mut table-ty)) l₁ 0 (sliceVal (b₀, o₀) n₀)) ∷ ‵ (fdies (sliceTy (tyRef (named 0) mut table-ty)) l₁) ∷ ‵ (froom ran-ty l₀ 0) ∷ ‵ (fdies ran-ty l₀) ∷ []
 
       abbrev At : State n₀ n₂ n₃ n₅ y₀ → List (Item 𝓤)
@@ -225,7 +225,7 @@ module _ {M : Type 1} (𝓤 : URA M) (H : Heap 𝓤) (A : Atoms 𝓤) (W : Given
       pool-fits s = subst (λ (n : ℕ). n < 2 ^ 64) (sym (s .po-len)) (g₃ .0)
 
       -- the instruction that the code comes to
-      takes-turn : (s : State n₀ n₂ n₃ n₅ y₀) (r : Gone) (st me po en : List ℕ) → s .g .running ≡ true → Is gone.the-row r (gone-vals r) → length me ≡ n₂ → length po ≡ n₃ → gone-on r st me po en ≡ advance-of (s .st) (s .me) (s .po) (s .en) (s .g .machine) (s .g .left)
+      takes-turn : (s : State n₀ n₂ n₃ n₅ y₀) (r : Progress) (st me po en : List ℕ) → s .g .running ≡ true → Is gone.the-row r (gone-vals r) → length me ≡ n₂ → length po ≡ n₃ → gone-on r st me po en ≡ advance-of (s .st) (s .me) (s .po) (s .en) (s .g .machine) (s .g .left)
           → Sq W (Has (s .ts) st me po en (s .sv) (With r)) (runs C Λ En (past 9 mir.turn-1) (anyQ (Turned s)))
       unfolding afterTurn
       takes-turn s r st me po en more is m₂ m₃ e =
@@ -330,9 +330,9 @@ module _ {M : Type 1} (𝓤 : URA M) (H : Heap 𝓤) (A : Atoms 𝓤) (W : Given
       walk-meets 𝓤 H A f.ended stayed W (goes-slice 𝓤 H A W 6 0 tt (plain (λ _. R)), (goes-ref 𝓤 H A W 6 1 tt (plain (λ _. Array u64 1000)), (goes-slice 𝓤 H A W 6 2 tt (plain (λ _. u8)), (goes-slice 𝓤 H A W 6 3 tt (plain (λ _. u8)), (goes-ref 𝓤 H A W 6 4 tt (plain (λ _. Array u32 1024)), (goes-slice 𝓤 H A W 6 5 tt (plain (λ _. u8)), (goes-none 𝓤 H A W 6 (λ _. machine.the-row) yes (λ κs x f. refl), (goes-none 𝓤 H A W 6 (λ _. u64) yes (λ κs x f. refl), tt)))))))) (f.clauses 𝓤 H A at-mem run)
       (WpFn 𝓤 H (𝓣 .C) (𝓣 .Λ) code.function) (WpFn-mono 𝓤 H (W .laws) 𝓣 code.function) walks
 
-pub drive-spec : {M : Type 1} → stated.statement M
+pub run-spec : {M : Type 1} → stated.statement M
 unfolding code.routine tablesOf
-drive-spec 𝓤 H 𝓜 𝓖 𝓡 =
+run-spec 𝓤 H 𝓜 𝓖 𝓡 =
     entered 𝓤 H (tripleOf 𝓤 H (𝓖 .A) f.signature (f.spec 𝓤 H (𝓖 .A) (𝓜 .mem) (𝓡 .run)))
     (tables 𝓤 H 𝓜 𝓡 code.env .C) (tables 𝓤 H 𝓜 𝓡 code.env .Λ) #this code.function (code.unfolded 𝓤 H 𝓜 𝓡)
     (meets 𝓤 H (𝓖 .A) (givenOf 𝓤 H 𝓜 𝓖) (𝓜 .mem) (𝓡 .run) (tablesOf 𝓤 H 𝓜 (tables 𝓤 H 𝓜 𝓡 code.env))
