@@ -2,7 +2,7 @@
 use Prim.Native.Nat.{ℕ}
 use mathlib.Core.List.{List, [], _∷_}
 use mathlib.Core.Path.{_≡_, refl}
-use Rattle.bytecode.specs.Opcodes.{PUSH-CALLDATA}
+use Rattle.bytecode.specs.Opcodes.{PUSH-STATE, PUSH-CALLDATA}
 use Rattle.bytecode.specs.Opcodes as bytecode-opcodes
 use Rattle.bytecode.specs.Operands as bytecode-operands
 use Rattle.inlinevec.specs.Stacks as stacks
@@ -33,17 +33,20 @@ pub record Examples : Type 0 where
   pub end-before-fuel : advancing 5 C1 .gone .outcome ≡ Done
   -- no fuel before the third instruction
   pub without-fuel : advancing 2 C1 .gone .outcome ≡ Paused
-  -- PUSH_CALLDATA needs the pool, and is at hand
-  pub at-hand : advancing 9 Calldata .gone .op ≡ PUSH-CALLDATA
+  -- all of it is spent
+  pub without-fuel-left : advancing 2 C1 .gone .left ≡ 0
+  -- PUSH_CALLDATA needs the pool, and is at hand behind one value
+  pub at-hand : advancing 9 (PUSH-STATE ∷ 0 ∷ Calldata) .gone .op ≡ PUSH-CALLDATA
   -- it is not finished, so it costs no fuel
   pub at-hand-left : advancing 9 Calldata .gone .left ≡ 9
 
 pub examples : Examples
-unfolding bytecode-opcodes.operand-size bytecode-operands.big-endian bytecode-operands.operand bytecode-operands.data-size bytecode-operands.behind bytecode-operands.extent stacks.if-room stacks.if-some stacks.push stacks.pop stacks.push-two stacks.last-two stacks.pop-two stacks.change-two stacks.push-loop stacks.pop-loop values.make-scalar-tagged values.to-u32 pools.end-of pools.start-of pools.entry-of machines.current machines.with-current machines.code-of registers.registers-of registers.settled stack.pop-second stack.pop-first stack.pop-two stack.pushed-to stack.push-value stack.op-push control.opened-to control.do-two control.op-do control.looped control.op-loop operated.with-operand operated.push-u32 executing.plain executing.operated executing.is-equality executing.execute executing.by-extent executing.instruct steps.is-outer steps.onward steps.turn steps.steps halted-at after-steps advance
+unfolding bytecode-opcodes.operand-size bytecode-operands.big-endian bytecode-operands.operand bytecode-operands.data-size bytecode-operands.behind bytecode-operands.extent stacks.if-room stacks.if-some stacks.push stacks.pop stacks.push-two stacks.last-two stacks.pop-two stacks.change-two stacks.push-loop stacks.pop-loop values.make-scalar-tagged values.to-u32 pools.end-of pools.start-of pools.entry-of machines.current machines.with-current machines.code-of registers.registers-of registers.settled stack.pop-second stack.pop-first stack.pop-two stack.pushed-to stack.push-value stack.op-push control.opened-to control.do-two control.op-do control.looped control.op-loop operated.with-operand operated.push-u32 operated.push-u8 executing.plain executing.operated executing.is-equality executing.execute executing.by-extent executing.instruct steps.is-outer steps.onward steps.turn steps.steps halted-at after-steps advance
 examples = record {
   to-the-end = refl;
   end-before-fuel = refl;
   without-fuel = refl;
+  without-fuel-left = refl;
   at-hand = refl;
   at-hand-left = refl;
 }

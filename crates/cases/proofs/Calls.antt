@@ -20,7 +20,7 @@ use Rattle.image.specs.declared.SaveResult.the-variants.{Saved, NotSaved}
 use Rattle.memory.specs.declared.unbox.Return.the-variants.{U32, CallData, NoReturn}
 use Rattle.machine.specs.declared.CreateResult.the-variants.{Created, NotCreated}
 use Rattle.machine.specs.declared.TaskResult.the-variants.{Readable, NotReadable}
-use Rattle.machine.specs.Machines.{placed, with-frames}
+use Rattle.machine.specs.Machines.{with-frames}
 use Rattle.machine.specs.World.{World, world, moved}
 use Rattle.machine.specs.Run.{run}
 use Rattle.machine.specs.Calls.{Reported, is-sound, start, go-on}
@@ -28,7 +28,7 @@ use Rattle.machine.specs.World.{with-machine}
 use Rattle.machine.specs.Creation.{Made, new-machine, create}
 use Rattle.machine.specs.Reads.{SavedTo, value-read, task-read, host-save}
 use Rattle.roundtrips.proofs.Cases.{I1}
-use Rattle.cases.proofs.Table.{fresh, C1}
+use Rattle.cases.proofs.Table.{fresh, raised, C1}
 use Rattle.bytecode.specs.Opcodes as bytecode-opcodes
 use Rattle.bytecode.specs.Operands as bytecode-operands
 use Rattle.inlinevec.specs.Stacks as inlinevec-stacks
@@ -82,7 +82,7 @@ after r = world (r .report .machine) (r .table) (r .stack) (r .memory) (r .pool)
 
 -- a machine of C1 whose stack has this height
 abbrev high : ℕ → World
-high height = with-machine (fresh C1) (placed (fresh C1 .machine) 0 height)
+high height = raised height C1
 
 -- one in a task, whose frame names this entry
 abbrev in-task : ℕ → World

@@ -14,7 +14,7 @@ use Rattle.values.specs.Values.{to-u32-val, to-vec-val, to-bool-val, value-eq}
 use Rattle.values.specs.declared.ValueResult.the-variants.{Value}
 use Rattle.image.specs.Image.{sound, read-image}
 use Rattle.roundtrips.proofs.Cases.{I1, Ab, I1-loads}
-use Rattle.machine.specs.World.{World, world}
+use Rattle.machine.specs.World.{World, world, moved}
 use Rattle.machine.specs.Run.{End, run}
 use Rattle.bytecode.specs.Opcodes as bytecode-opcodes
 use Rattle.bytecode.specs.Operands as bytecode-operands
@@ -95,11 +95,11 @@ abbrev No-title : List ℕ
 No-title = 0x06 ∷ 0x00 ∷ 0x04 ∷ 0x00 ∷ 0x00 ∷ 0x07 ∷ []
 
 -- 1b 0001 04 01 41 03 01 04 0000 07: task 0, "A", with 1 state and no instructions
-abbrev A : List ℕ
+abbrev pub A : List ℕ
 A = 0x1b ∷ 0x00 ∷ 0x01 ∷ 0x04 ∷ 0x01 ∷ 0x41 ∷ 0x03 ∷ 0x01 ∷ 0x04 ∷ 0x00 ∷ 0x00 ∷ 0x07 ∷ []
 
 -- 03 00 05 03 08
-abbrev Field-3 : List ℕ
+abbrev pub Field-3 : List ℕ
 Field-3 = 0x03 ∷ 0x00 ∷ 0x05 ∷ 0x03 ∷ 0x08 ∷ []
 
 -- 03 00 05 00 08
@@ -111,19 +111,19 @@ abbrev State-1 : List ℕ
 State-1 = 0x03 ∷ 0x01 ∷ 0x03 ∷ 0x00 ∷ 0x05 ∷ 0x01 ∷ 0x09 ∷ []
 
 -- 1b 0001 04 01 42 03 00 05 00 09
-abbrev Retitle : List ℕ
+abbrev pub Retitle : List ℕ
 Retitle = 0x1b ∷ 0x00 ∷ 0x01 ∷ 0x04 ∷ 0x01 ∷ 0x42 ∷ 0x03 ∷ 0x00 ∷ 0x05 ∷ 0x00 ∷ 0x09 ∷ []
 
 -- 03 00 11
-abbrev Call : List ℕ
+abbrev pub Call : List ℕ
 Call = 0x03 ∷ 0x00 ∷ 0x11 ∷ []
 
 -- 12 0d
-abbrev End-call : List ℕ
+abbrev pub End-call : List ℕ
 End-call = 0x12 ∷ 0x0d ∷ []
 
 -- 1b 0000 04 01 03 01 04 0001 12 07: task 0, whose instructions are END_CALL
-abbrev Returning : List ℕ
+abbrev pub Returning : List ℕ
 Returning = 0x1b ∷ 0x00 ∷ 0x00 ∷ 0x04 ∷ 0x01 ∷ 0x03 ∷ 0x01 ∷ 0x04 ∷ 0x00 ∷ 0x01 ∷ 0x12 ∷ 0x07 ∷ []
 
 -- 03 00 1a
@@ -135,7 +135,7 @@ abbrev Save : List ℕ
 Save = 0x0b ∷ []
 
 -- 03 00 0a
-abbrev Delete : List ℕ
+abbrev pub Delete : List ℕ
 Delete = 0x03 ∷ 0x00 ∷ 0x0a ∷ []
 
 -- ---- their runs
@@ -160,8 +160,12 @@ lent save program =
 abbrev pub fresh : List ℕ → World
 fresh program = lent [] program
 
--- the end of a run of it
-abbrev after : List ℕ → End
+-- one whose stack has this height
+abbrev pub raised : ℕ → List ℕ → World
+raised height program = moved (fresh program) 0 height
+
+-- the end of a run of one
+abbrev pub after : List ℕ → End
 after program = run 100 (fresh program)
 
 -- the table
