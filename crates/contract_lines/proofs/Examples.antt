@@ -11,10 +11,7 @@ use Rattle.text.specs.Lines.{parted, hex-part, lined, put-line}
 use Rattle.listing.specs.declared.Head.the-variants.{Refused}
 use Rattle.listing.specs.Listing.{line-of-head}
 use Rattle.memory.specs.declared.unbox.Return.the-variants.{U32}
-use Rattle.mechanism.specs.declared.Halt.the-variants.{OutOfFuel}
-use Rattle.mechanism.specs.Steps.{steps}
 use Rattle.machine.specs.declared.Outcome.the-variants.{Done}
-use Rattle.mechanism.specs.Registers.{registers-of}
 use Rattle.machine.specs.World.{World, world}
 use Rattle.machine.specs.Run.{run}
 use Rattle.image.specs.declared.SaveResult.the-variants.{NotSaved}
@@ -30,7 +27,6 @@ use Rattle.cases.proofs.Table.{fresh, C1, instructions}
 use Rattle.cases.proofs.Calls.{examples}
 use Rattle.text.proofs as text
 use Rattle.listing.proofs.head_line as head-line
-use Rattle.stepper.proofs as stepping
 use Rattle.runner.proofs as runner
 use Rattle.vm.proofs.sound as sound
 use Rattle.vm.proofs.creating as creating

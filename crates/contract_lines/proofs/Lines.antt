@@ -11,11 +11,9 @@ use Rattle.image.specs.Reading
 use Rattle.image.specs.Reading.{read-record}
 use Rattle.image.specs.Table.{saved-table, save-table}
 use Rattle.table_image.specs.Tables.{held}
-use Rattle.mechanism.specs.Steps.{stepped, steps}
 use Rattle.mechanism.specs.Registers.{on-memory}
 use Rattle.mechanism.specs.Fields.{op-t-get-field, op-t-set-field}
 use Rattle.mechanism.specs.Frames.{op-call, op-end-call}
-use Rattle.mechanism.specs.Act.{on-all, act}
 use Rattle.machine.specs.World.{world}
 use Rattle.machine.specs.Run.{ran-to, run}
 use Rattle.machine.specs.Sound.{tested, sound-world}
@@ -32,10 +30,8 @@ use Rattle.printer.specs.Shows
 use Rattle.printer.specs.Shows.{lent}
 use Rattle.text.proofs as text
 use Rattle.image.proofs as image
-use Rattle.stepper.proofs as stepping
 use Rattle.task_opcodes.proofs.t_fields as t-fields
 use Rattle.stepper.proofs.entering as entering
-use Rattle.runner.proofs.act as act
 use Rattle.table_image.proofs as tables
 use Rattle.runner.proofs as runner
 use Rattle.vm.proofs.sound as sound
@@ -47,7 +43,6 @@ use Rattle.vm.proofs.task_reading as task-reading
 use Rattle.listing.proofs.head_line as head-line
 use Rattle.listing.proofs.value_line as value-line
 use Rattle.admission.proofs as admission
-use Rattle.host.proofs.hosting as hosting
 use Rattle.host.proofs.owner as hosting-owner
 use Rattle.host.proofs.answering as answering
 use Rattle.host.proofs as host
