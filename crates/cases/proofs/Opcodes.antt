@@ -123,7 +123,7 @@ with-less-memory used count program = run 1 (with-machine (stepped count program
 abbrev roomy : List ℕ → World
 roomy program = with-memory (fresh program) (replicate 256 0) 0
 
--- the table
+-- the table; PUSH_CALLDATA stands in Calls, S_SAVE, END_CALL in a task, and titles read and set in Table
 pub record Opcodes : Type 0 where
   -- PUSH_U32 pushes its operand, whose highest byte comes first
   pub push-u32 : values Wide ≡ to-u32-val 258 ∷ []
