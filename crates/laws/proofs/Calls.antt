@@ -18,17 +18,12 @@ use Rattle.machine.specs.declared.Verb.{Verb}
 use Rattle.machine.specs.declared.Verb.the-variants.{Start, Continue}
 use Rattle.machine.specs.declared.Permission.{Permission}
 use Rattle.laws.specs.Sound.{Sound}
-use Rattle.laws.specs.After.{world-after}
+use Rattle.laws.specs.After.{world-after, Together}
 use Rattle.laws.proofs.SoundnessCalls.{call-sound}
-use Rattle.laws.proofs.Finished.{Ends, is-done, is-paused, is-refused, finished}
+use Rattle.laws.proofs.Finished.{finished}
+use Rattle.laws.specs.Finished.{Ends, is-done, is-paused, is-refused}
 use Rattle.laws.proofs.Fuel.{outcome-number, fuel}
 use Rattle.laws.proofs.Phases.{rephased, end-as, run-phase}
-
--- a second call ends as a whole one does, and the finished instructions of both are those of the whole one
-pub record Together (first second whole : Reported) : Type 0 where
-  pub same-world : world-after second ≡ world-after whole
-  pub same-outcome : second .report .outcome ≡ whole .report .outcome
-  pub added : first .report .finished + second .report .finished ≡ whole .report .finished
 
 -- ---- the end of a run
 

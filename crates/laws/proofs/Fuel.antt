@@ -9,7 +9,8 @@ use Rattle.machine.specs.World.{World, at-end}
 use Rattle.machine.specs.Words.{next}
 use Rattle.machine.specs.Step.{step}
 use Rattle.machine.specs.Run.{End, end-at, follow, run}
-use Rattle.laws.proofs.Finished.{Reaches, here, onto, Ends, is-done, is-paused, is-refused, steps-to, finished}
+use Rattle.laws.proofs.Finished.{steps-to, finished}
+use Rattle.laws.specs.Finished.{Reaches, here, onto, Ends, is-done, is-paused, is-refused}
 
 none-more : (b : ℕ) → 0 + b ≡ b
 none-more b = omega arith

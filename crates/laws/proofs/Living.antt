@@ -1,8 +1,8 @@
 -- The number of living tasks: those loaded, plus the finished T_CREATEs, less the finished T_DELETEs, over instructions, runs and calls.
-use Prim.Native.Nat.{ℕ, suc, _+_}
+use Prim.Native.Nat.{ℕ, zero, suc, _+_, _-_}
 use mathlib.Core.Bool.{Bool, true, false, cond}
 use mathlib.Core.List.{List}
-use mathlib.Core.Path.{_≡_, refl, ap}
+use mathlib.Core.Path.{_≡_, refl, ap, subst}
 use native.Mathlib.Omega.{arith}
 use lib.ListN.{length}
 use Rattle.storage.specs.declared.Task.{Task}
@@ -10,8 +10,11 @@ use Rattle.storage.specs.Table.{living-of}
 use Rattle.image.specs.Image.{task-count}
 use Rattle.machine.specs.declared.Machine.{Machine}
 use Rattle.machine.specs.World.{World, world}
-use Rattle.machine.specs.World.{op}
-use Rattle.machine.specs.Run.{End, run}
+use Rattle.machine.specs.World.{op, at-end}
+use Rattle.machine.specs.declared.Outcome.the-variants.{Done}
+use Rattle.machine.specs.Words.{StepResult, next, refused}
+use Rattle.machine.specs.Step.{step}
+use Rattle.machine.specs.Run.{End, end-at, follow, run}
 use Rattle.mechanism.proofs.Either.{either}
 use Rattle.machine.specs.Calls.{spent, allowed, is-sound, call-with, call}
 use Rattle.machine.specs.World.{with-machine}
@@ -21,83 +24,48 @@ use Rattle.machine.specs.declared.Verb.{Verb}
 use Rattle.machine.specs.declared.Permission.{Permission}
 use Rattle.machine.specs.declared.CreateResult.the-variants.{Created}
 use Rattle.laws.specs.Sound.{Sound}
-use Rattle.laws.specs.Counted.{creates, deletes}
+use Rattle.laws.specs.Counted.{creates, deletes, with-others, run-creates, run-deletes, allowance, call-creates, call-deletes}
+use Rattle.laws.specs.History.{History, new, called, saved}
 use Rattle.laws.specs.After.{world-after, world-saved}
 use Rattle.laws.proofs.Step.{step-sound, step-living}
 use Rattle.laws.proofs.SoundnessCalls.{allowed-sound, call-sound, save-sound}
 use Rattle.laws.proofs.Creation.{create-sound, create-living}
-use Rattle.laws.proofs.Finished.{Reaches, here, onto, Ends, is-done, is-paused, is-refused, finished}
-
--- ---- instructions
-
--- the finished T_CREATEs of a way, and its finished T_DELETEs
-unfoldable pub creates-of : {n : ℕ} {w v : World} → Reaches n w v → ℕ
-creates-of (here w) = 0
-creates-of (onto n w v u inside s way) = creates (op w) + creates-of way
-
-unfoldable pub deletes-of : {n : ℕ} {w v : World} → Reaches n w v → ℕ
-deletes-of (here w) = 0
-deletes-of (onto n w v u inside s way) = deletes (op w) + deletes-of way
-
--- the living tasks after some finished instructions, and those deleted, are the living ones before, and those created
-pub living : (n : ℕ) (w v : World) (way : Reaches n w v) → Sound w → living-of (v .table) + deletes-of way ≡ living-of (w .table) + creates-of way
-unfolding creates-of deletes-of
-living n w _ (here _) sound = refl
-living (suc n) w u (onto _ _ v _ inside s way) sound =
-    let one = step-living w v sound s in
-    let rest = living n v u way (step-sound w v sound s) in
-    omega (arith, one, rest)
+use Rattle.laws.proofs.Finished.{finished}
+use Rattle.laws.specs.Finished.{Reaches, here, onto, Ends, is-done, is-paused, is-refused}
 
 -- ---- runs
 
--- the finished instructions from one world to another
-pub record Way (w v : World) : Type 0 where
-  pub instructions : ℕ
-  pub reaches : Reaches instructions w v
+-- the finished instructions that a run reports lead to its end
+pub finished-told : (fuel : ℕ) (w : World) → Reaches (spent fuel (run fuel w .left)) w (run fuel w .world)
+finished-told fuel w = told fuel w (run fuel w) (finished fuel w)
+  where
+    told : (fuel : ℕ) (w : World) (e : End) → Ends fuel w e → Reaches (spent fuel (e .left)) w (e .world)
+    told fuel w _ (is-done n left v sum way over) = subst (λ (k : ℕ). Reaches k w v) (let z : n ≡ fuel - left = omega (arith, sum) in z) way
+    told fuel w _ (is-paused v way over) = subst (λ (k : ℕ). Reaches k w v) (let z : fuel ≡ fuel - 0 = omega arith in z) way
+    told fuel w _ (is-refused n left v refusal sum way over refuses) = subst (λ (k : ℕ). Reaches k w v) (let z : n ≡ fuel - left = omega (arith, sum) in z) way
 
--- the way of an end
-unfoldable pub ended-way : (fuel : ℕ) (w : World) (e : End) → Ends fuel w e → Way w (e .world)
-ended-way fuel w _ (is-done n left v sum way over) = record { instructions = n; reaches = way }
-ended-way fuel w _ (is-paused v way over) = record { instructions = fuel; reaches = way }
-ended-way fuel w _ (is-refused n left v refusal sum way over refuses) = record { instructions = n; reaches = way }
+-- the living tasks after a run, and those deleted, are the living ones before, and those created
+followed : (fuel : ℕ) (w : World) → Sound w → ((v : World) → Sound v → living-of (run fuel v .world .table) + run-deletes fuel v ≡ living-of (v .table) + run-creates fuel v) → (s : StepResult) → step w ≡ s
+    → living-of (follow (λ v. run fuel v) w (suc fuel) s .world .table) + with-others (deletes (op w)) (λ v. run-deletes fuel v) s ≡ living-of (w .table) + with-others (creates (op w)) (λ v. run-creates fuel v) s
+unfolding follow with-others
+followed fuel w sound others (next v) s =
+    let one = step-living w v sound s in
+    let rest = others v (step-sound w v sound s) in
+    omega (arith, one, rest)
+followed fuel w sound others (refused refusal) s = refl
 
--- the way of a run
-unfoldable pub way-of : (fuel : ℕ) (w : World) → Way w (run fuel w .world)
-way-of fuel w = ended-way fuel w (run fuel w) (finished fuel w)
+turn : (fuel : ℕ) (w : World) → Sound w → ((v : World) → Sound v → living-of (run fuel v .world .table) + run-deletes fuel v ≡ living-of (v .table) + run-creates fuel v) → (b : Bool)
+    → living-of (cond b (end-at w (suc fuel) Done) (follow (λ v. run fuel v) w (suc fuel) (step w)) .world .table) + cond b 0 (with-others (deletes (op w)) (λ v. run-deletes fuel v) (step w))
+    ≡ living-of (w .table) + cond b 0 (with-others (creates (op w)) (λ v. run-creates fuel v) (step w))
+turn fuel w sound others true = refl
+turn fuel w sound others false = followed fuel w sound others (step w) refl
 
-counted : (fuel : ℕ) (w : World) (e : End) (ends : Ends fuel w e) → spent fuel (e .left) ≡ ended-way fuel w e ends .instructions
-unfolding ended-way
-counted fuel w _ (is-done n left v sum way over) = omega (arith, sum)
-counted fuel w _ (is-paused v way over) = omega arith
-counted fuel w _ (is-refused n left v refusal sum way over refuses) = omega (arith, sum)
-
--- the finished instructions that a run reports are those of its way
-pub finished-told : (fuel : ℕ) (w : World) → spent fuel (run fuel w .left) ≡ way-of fuel w .instructions
-unfolding way-of
-finished-told fuel w = counted fuel w (run fuel w) (finished fuel w)
-
--- the finished T_CREATEs of a run, and its finished T_DELETEs
-abbrev pub run-creates : ℕ → World → ℕ
-run-creates fuel w = creates-of (way-of fuel w .reaches)
-
-abbrev pub run-deletes : ℕ → World → ℕ
-run-deletes fuel w = deletes-of (way-of fuel w .reaches)
-
--- the same of a run
 pub living-after-run : (fuel : ℕ) (w : World) → Sound w → living-of (run fuel w .world .table) + run-deletes fuel w ≡ living-of (w .table) + run-creates fuel w
-living-after-run fuel w sound = living (way-of fuel w .instructions) w (run fuel w .world) (way-of fuel w .reaches) sound
+unfolding run run-creates run-deletes
+living-after-run zero w sound = either (λ (e : End). living-of (e .world .table) + 0 ≡ living-of (w .table) + 0) (at-end w) _ _ refl refl
+living-after-run (suc fuel) w sound = turn fuel w sound (living-after-run fuel) (at-end w)
 
 -- ---- calls
-
--- those of a call's run; a call that is not allowed runs nothing
-abbrev pub allowance : Verb → World → Permission
-allowance verb w = allowed (w .machine) (is-sound w) verb
-
-unfoldable pub call-creates : Verb → ℕ → World → ℕ
-call-creates verb fuel w = cond (allowance verb w .allowed) (run-creates fuel (with-machine w (allowance verb w .machine))) 0
-
-unfoldable pub call-deletes : Verb → ℕ → World → ℕ
-call-deletes verb fuel w = cond (allowance verb w .allowed) (run-deletes fuel (with-machine w (allowance verb w .machine))) 0
 
 with-living : (b : Bool) (fuel : ℕ) (w : World) (a : Permission) → a .allowed ≡ b → Sound w → Sound (with-machine w (a .machine))
     → living-of (call-with fuel w a .table) + cond (a .allowed) (run-deletes fuel (with-machine w (a .machine))) 0 ≡ living-of (w .table) + cond (a .allowed) (run-creates fuel (with-machine w (a .machine))) 0
@@ -112,13 +80,6 @@ unfolding call call-creates call-deletes
 living-after-call verb fuel w sound = with-living (allowance verb w .allowed) fuel w (allowance verb w) refl sound (allowed-sound w (is-sound w) verb sound)
 
 -- ---- from creation on
-
--- what a host does with a machine, with the finished T_CREATEs and T_DELETEs so far: starts and continues, and saves between them
-pub data History (first : World) : ℕ → ℕ → World → Type 0 where
-  new : History first 0 0 first
-  called : (created deleted : ℕ) (w : World) (verb : Verb) (fuel : ℕ) → History first created deleted w
-      → History first (created + call-creates verb fuel w) (deleted + call-deletes verb fuel w) (world-after (call verb fuel w))
-  saved : (created deleted : ℕ) (w : World) → History first created deleted w → History first created deleted (world-saved (host-save w))
 
 -- a machine stays sound
 pub history-sound : (first w : World) (created deleted : ℕ) → Sound first → History first created deleted w → Sound w

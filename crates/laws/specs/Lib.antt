@@ -1,3 +1,5 @@
 pub mod Sound
-pub mod Counted
+pub mod Finished
 pub mod After
+pub mod Counted
+pub mod History

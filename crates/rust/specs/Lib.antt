@@ -9,3 +9,4 @@ pub mod Storage
 pub mod Vm
 pub mod Run
 pub mod Unbox
+pub mod Cases

@@ -15,7 +15,8 @@ use Rattle.machine.specs.World.{World, place, at-end}
 use Rattle.machine.specs.World as worlds
 use Rattle.machine.specs.Words.{StepResult, next, refused}
 use Rattle.machine.specs.Run.{End, end-at, run}
-use Rattle.laws.proofs.Finished.{Reaches, here, onto, Ends, is-done, is-paused, is-refused, finished}
+use Rattle.laws.proofs.Finished.{finished}
+use Rattle.laws.specs.Finished.{Reaches, here, onto, Ends, is-done, is-paused, is-refused}
 use Rattle.labels.specs.declared.Kind.{Kind}
 use Rattle.labels.specs.declared.Kind.the-variants.{Number}
 use Rattle.labels.specs.Labels.{Open, Label, label, kinds-of, loops-of, Start, zeroth, follow, Labelling, Labelled}

@@ -353,7 +353,7 @@ attempt-spec 𝓤 H 𝓜 𝓖 𝓡 =
     (tables 𝓤 H 𝓜 𝓡 code.env .C) (tables 𝓤 H 𝓜 𝓡 code.env .Λ) #this code.function (code.unfolded 𝓤 H 𝓜 𝓡)
     (meets 𝓤 H (𝓖 .A) (givenOf 𝓤 H 𝓜 𝓖) (𝓜 .mem) (𝓡 .run) (tablesOf 𝓤 H 𝓜 (tables 𝓤 H 𝓜 𝓡 code.env))
     (cited 𝓤 H (creates-con 𝓤 H (𝓖 .A) (𝓜 .mem) (𝓡 .run)) 𝓜 𝓡 code.env #creates creates-def.routine code.calls-vm·creating·create (creates-thm.met 𝓤 H 𝓜 𝓖 𝓡))
-    (cited 𝓤 H (begins-con 𝓤 H (𝓖 .A) (𝓜 .mem) (𝓡 .run)) 𝓜 𝓡 code.env #begins begins-def.routine code.calls-machine·vm-machines·machine-of (begins-thm.met 𝓤 H 𝓜 𝓖 𝓡))
+    (cited 𝓤 H (begins-con 𝓤 H (𝓖 .A) (𝓜 .mem) (𝓡 .run)) 𝓜 𝓡 code.env #begins begins-def.routine code.calls-machine·new-machines·machine-of (begins-thm.met 𝓤 H 𝓜 𝓖 𝓡))
     (cited 𝓤 H (forges-con 𝓤 H (𝓖 .A) (𝓜 .mem) (𝓡 .run)) 𝓜 𝓡 code.env #forges forges-def.routine code.calls-unsound·forged-machine (forges-thm.met 𝓤 H 𝓜 𝓖 𝓡))
     (cited 𝓤 H (slots-of-con 𝓤 H (𝓖 .A) (𝓜 .mem) (𝓡 .run)) 𝓜 𝓡 code.env #slots-of slots-of-def.routine code.calls-unsound·forged-slot (slots-of-thm.met 𝓤 H 𝓜 𝓖 𝓡))
     (cited 𝓤 H (gets-con 𝓤 H (𝓖 .A) (𝓜 .mem) (𝓡 .run)) 𝓜 𝓡 code.env #gets gets-def.routine code.calls-table·get (gets-thm.met 𝓤 H 𝓜 𝓖 𝓡))

@@ -324,7 +324,7 @@ perform-spec 𝓤 H 𝓜 𝓖 𝓡 =
     (tables 𝓤 H 𝓜 𝓡 code.env .C) (tables 𝓤 H 𝓜 𝓡 code.env .Λ) #this code.function (code.unfolded 𝓤 H 𝓜 𝓡)
     (meets 𝓤 H (𝓖 .A) (givenOf 𝓤 H 𝓜 𝓖) (𝓜 .mem) (𝓡 .run) (tablesOf 𝓤 H 𝓜 (tables 𝓤 H 𝓜 𝓡 code.env))
     (cited 𝓤 H (creates-con 𝓤 H (𝓖 .A) (𝓜 .mem) (𝓡 .run)) 𝓜 𝓡 code.env #creates creates-def.routine code.calls-vm·creating·create (creates-thm.met 𝓤 H 𝓜 𝓖 𝓡))
-    (cited 𝓤 H (begins-con 𝓤 H (𝓖 .A) (𝓜 .mem) (𝓡 .run)) 𝓜 𝓡 code.env #begins begins-def.routine code.calls-machine·vm-machines·machine-of (begins-thm.met 𝓤 H 𝓜 𝓖 𝓡))
+    (cited 𝓤 H (begins-con 𝓤 H (𝓖 .A) (𝓜 .mem) (𝓡 .run)) 𝓜 𝓡 code.env #begins begins-def.routine code.calls-machine·new-machines·machine-of (begins-thm.met 𝓤 H 𝓜 𝓖 𝓡))
     (cited 𝓤 H (starts-con 𝓤 H (𝓖 .A) (𝓜 .mem) (𝓡 .run)) 𝓜 𝓡 code.env #starts starts-def.routine code.calls-vm·calling·call (starts-thm.met 𝓤 H 𝓜 𝓖 𝓡))
     (cited 𝓤 H (chooses-con 𝓤 H (𝓖 .A) (𝓜 .mem) (𝓡 .run)) 𝓜 𝓡 code.env #chooses chooses-def.routine code.calls-host·outcomes·to-save (chooses-thm.met 𝓤 H 𝓜 𝓖 𝓡))
     (cited 𝓤 H (saves-con 𝓤 H (𝓖 .A) (𝓜 .mem) (𝓡 .run)) 𝓜 𝓡 code.env #saves saves-def.routine code.calls-vm·saving·save (saves-thm.met 𝓤 H 𝓜 𝓖 𝓡))

@@ -276,6 +276,6 @@ own-spec 𝓤 H 𝓜 𝓖 𝓡 =
     (cited 𝓤 H (blanks-con 𝓤 H (𝓖 .A) (𝓜 .mem) (𝓡 .run)) 𝓜 𝓡 code.env #blanks blanks-def.routine code.calls-storage·task-types·blank (blanks-thm.met 𝓤 H 𝓜 𝓖 𝓡))
     (cited 𝓤 H (creates-con 𝓤 H (𝓖 .A) (𝓜 .mem) (𝓡 .run)) 𝓜 𝓡 code.env #creates creates-def.routine code.calls-vm·creating·create (creates-thm.met 𝓤 H 𝓜 𝓖 𝓡))
     (cited 𝓤 H (shows-creation-con 𝓤 H (𝓖 .A) (𝓜 .mem) (𝓡 .run)) 𝓜 𝓡 code.env #shows-creation shows-creation-def.routine code.calls-printer·show-creation (shows-creation-thm.met 𝓤 H 𝓜 𝓖 𝓡))
-    (cited 𝓤 H (begins-con 𝓤 H (𝓖 .A) (𝓜 .mem) (𝓡 .run)) 𝓜 𝓡 code.env #begins begins-def.routine code.calls-machine·vm-machines·machine-of (begins-thm.met 𝓤 H 𝓜 𝓖 𝓡))
+    (cited 𝓤 H (begins-con 𝓤 H (𝓖 .A) (𝓜 .mem) (𝓡 .run)) 𝓜 𝓡 code.env #begins begins-def.routine code.calls-machine·new-machines·machine-of (begins-thm.met 𝓤 H 𝓜 𝓖 𝓡))
     (cited 𝓤 H (allows-con 𝓤 H (𝓖 .A) (𝓜 .mem) (𝓡 .run)) 𝓜 𝓡 code.env #allows allows-def.routine code.calls-printer·asked·count-of (allows-thm.met 𝓤 H 𝓜 𝓖 𝓡))
     (cited 𝓤 H (plays-con 𝓤 H (𝓖 .A) (𝓜 .mem) (𝓡 .run)) 𝓜 𝓡 code.env #plays plays-def.routine code.calls-printer·shows·play (plays-thm.met 𝓤 H 𝓜 𝓖 𝓡)))
