@@ -17,7 +17,8 @@ use Rattle.image.specs.Image as image
 use Rattle.image.specs.Image.{ImageTask, Image, Fine, Rising, sound, read-image}
 use Rattle.image.specs.Reading.{s-len, instruction-bytes, read-record}
 use Rattle.image.specs.Slots.{loaded-task}
-use Rattle.image.specs.Table.{Loading, load-slot, load-tasks, load-record, load-records, placed, next-reference, instructions-of}
+use Rattle.image.specs.Table.{Loading, load-slot, load-tasks, next-reference}
+use Rattle.table_image.specs.Loops.{load-record, load-records, placed, instructions-of}
 use Rattle.table_image.specs.Tables.{loading, in-use}
 use Rattle.pools.specs.Pool.{Pooled, pooled, new-entry, has-room, interned, entry-of, entries-of, end-to-end, start-of, never-fall}
 use Rattle.pools.specs.declared.InternResult.the-variants.{NotInterned}
@@ -39,7 +40,8 @@ use Rattle.machine.specs.Calls.{may-start}
 use Rattle.machine.specs.Creation.{new-machine, with-program, unfit, prepare-fit, prepare, create-as, create, Made, made, loaded}
 use Rattle.machine.specs.declared.CreateResult.{CreateResult}
 use Rattle.machine.specs.declared.CreateResult.the-variants.{Created, NotCreated}
-use Rattle.laws.proofs.Creation.{loads-tasks, create-sound, create-new}
+use Rattle.laws.proofs.Creation.{create-sound, create-new}
+use Rattle.table_image.proofs.Loads.{load-table-tasks}
 use Rattle.rust.specs.Errors.{Out, ok}
 use Rattle.rust.specs.InlineVec as inlinevec
 use Rattle.rust.specs.Instructions as instructions
@@ -263,7 +265,7 @@ module _ (table : List Task) (pool ends bytes program : List ℕ) (next-id count
   }
 
   whole-is : whole ≡ load-tasks (found .tasks) first
-  whole-is = records-told f table (sets pool 0 program) (set ends 0 (0 + length program)) (in-use (0 + length program) 1) ∙ loads-tasks bytes found (loading table (sets pool 0 program) (set ends 0 (0 + length program)) (in-use (0 + length program) 1)) (f .image .read)
+  whole-is = records-told f table (sets pool 0 program) (set ends 0 (0 + length program)) (in-use (0 + length program) 1) ∙ load-table-tasks bytes found (loading table (sets pool 0 program) (set ends 0 (0 + length program)) (in-use (0 + length program) 1)) (f .image .read)
 
   from-tasks-is : {B : Type 0} (onward : List (Option TaskVM) → List (List ℕ) → Out B)
       → storage.from-tasks (map rust.stored-task (found .tasks)) [] (program ∷ []) onward ≡ onward (shown-tasks len whole) (shown-pool whole)

@@ -15,12 +15,13 @@ use Rattle.utf8.specs.Utf8.{valid}
 use Rattle.image.specs.Numbers.{Bytes}
 use Rattle.image.specs.Image.{framed, body, records, header, written}
 use Rattle.image.specs.Reading.{on}
-use Rattle.image.specs.Slots.{saved-task}
-use Rattle.image.specs.Writing.{task-in, size-of, sized, measure}
-use Rattle.image.specs.Table.{Measured, measured, refused, added, measure-slot, count-slot, grown, measures, SavedTable, saved-as, save-table}
+use Rattle.image.specs.Slots.{saved-task, task-in}
+use Rattle.image.specs.Writing.{size-of, sized, measure, added, measure-slot}
+use Rattle.image.specs.Table.{SavedTable}
+use Rattle.table_image.specs.Loops.{Measured, measured, refused, count-slot, grown, measures, saved-as, save-by-slots}
 use Rattle.image.specs.declared.SizeResult.{SizeResult}
 use Rattle.image.specs.declared.SizeResult.the-variants.{Size}
-use Rattle.roundtrips.proofs.Saves.{header-length}
+use Rattle.table_image.proofs.Saves.{header-length, save-table-is}
 use Rattle.inlinevec.specs.Stacks.{values-of}
 use Rattle.pools.specs.Pool.{end-of, entries-of}
 use Rattle.pools.proofs.Laws.{getD-entries, found, found-within, not-found}
@@ -184,7 +185,7 @@ module _ (w : World) (stale : ℕ) (h : Facts w) (bytes : Bytes (w .pool)) where
           rw e (lacks (long-image over))
 
   pub s-save : p < length (code w) → Agree w (saves w) (rust.s-save (p + 1) (view stale w))
-  unfolding saves save-table rust.s-save rust-storage.save view storage-of
+  unfolding saves save-by-slots rust.s-save rust-storage.save view storage-of
   s-save inside =
-      rw (h .counts .slots-are)
+      rw (← save-table-is (m .«next_id») (w .table) (w .pool) (w .ends) (m .entries) (w .save), h .counts .slots-are)
       (all-saved by-measure (ok (at (view stale w) (p + 1) (values-of (m .height) (w .stack)))) not-measured (length (w .save) + 1) 256 0 (omega arith) 0 14 (λ count size fits. measured-agrees inside count size fits))

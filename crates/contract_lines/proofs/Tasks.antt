@@ -3,8 +3,8 @@ use denote.Ref.{now}
 use lib.ListN.{getD, length, replicate, set}
 use mathlib.Core.Path.{_≡_}
 use Rattle.image.specs.Image.{header}
-use Rattle.image.specs.Table.{load-records, measure-slot, save-slot, stepped}
-use Rattle.image.specs.Writing.{put, puts}
+use Rattle.image.specs.Writing.{measure-slot, save-slot, stepped, put, puts}
+use Rattle.table_image.specs.Loops.{load-records}
 use Rattle.storage.specs.Storage.{find, len-after, room, slot-of}
 use Rattle.storage.specs.Table.{living-of, set-state-at, sound-table}
 use Rattle.storage.specs.Tasks.{after, blank, default-state, new-task, no-such-state, set-state, with-state}

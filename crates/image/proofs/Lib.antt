@@ -4,3 +4,4 @@ pub mod Walks
 pub mod Records
 pub mod Puts
 pub mod Turns
+pub mod Readings

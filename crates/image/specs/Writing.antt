@@ -1,4 +1,4 @@
--- What measuring and writing a record answer.
+-- How the code measures and writes the record of a slot. Nobody has to believe it: what is saved is said in Table, and table_image proves that it is this.
 use Prim.Native.Nat.{ℕ, _+_}
 use mathlib.Core.Bool.{cond}
 use mathlib.Core.List.{List}
@@ -7,14 +7,24 @@ use lib.Seq.{sets}
 use Rattle.errors.specs.declared.Refusal.the-variants.{BytesToStringConversionError}
 use Rattle.pools.specs.declared.BoundsResult.{BoundsResult}
 use Rattle.pools.specs.declared.BoundsResult.the-variants.{Bounds, NoBounds}
-use Rattle.pools.specs.Pool.{bounds, entry-of}
+use Rattle.pools.specs.Pool.{bounds}
 use Rattle.storage.specs.declared.Task.{Task}
 use Rattle.utf8.specs.Utf8.{valid}
 use Rattle.image.specs.Image.{ImageTask, framed, body}
-use Rattle.image.specs.Slots.{saved-task}
+use Rattle.image.specs.Slots.{task-in}
 use Rattle.image.specs.Reading.{on}
 use Rattle.image.specs.declared.SizeResult.{SizeResult}
 use Rattle.image.specs.declared.SizeResult.the-variants.{Size, NoSize}
+
+-- an answer, and the pool and its ends after it
+pub record Stepped (A : Type 0) : Type 0 where
+  pub answer : A
+  pub pool : List ℕ
+  pub ends : List ℕ
+
+-- these three together
+abbrev pub stepped : {A : Type 0} → A → List ℕ → List ℕ → Stepped A
+stepped answer pool ends = record { answer = answer; pool = pool; ends = ends }
 
 -- the place behind what was written, and the buffer after it
 pub record Put : Type 0 where
@@ -29,10 +39,6 @@ put place save = record { place = place; save = save }
 unfoldable pub puts : List ℕ → ℕ → List ℕ → Put
 puts save place bytes = put (on (length save) place (length bytes)) (sets save place bytes)
 
--- the task of a slot, its instructions being its entry of the pool
-unfoldable pub task-in : List ℕ → List ℕ → Task → ImageTask
-task-in pool ends slot = saved-task slot (entry-of pool ends (slot .«instructions_ref» .0))
-
 -- the size of a task's record, where its title is UTF-8
 unfoldable pub size-of : ImageTask → SizeResult
 size-of task = cond (valid (task .title)) (Size (length (framed 2 (body task)))) (NoSize BytesToStringConversionError)
@@ -45,3 +51,16 @@ sized task (Bounds start end) = size-of task
 -- S_SAVE tests each task: 12, then 15
 unfoldable pub measure : List ℕ → List ℕ → ℕ → Task → SizeResult
 measure pool ends entries slot = sized (task-in pool ends slot) (bounds ends entries (slot .«instructions_ref»))
+
+-- one record more, counted no further than a limit
+unfoldable pub added : ℕ → ℕ → SizeResult → SizeResult
+added limit size (NoSize refusal) = NoSize refusal
+added limit size (Size more) = Size (on limit size more)
+
+-- a living slot is measured
+unfoldable pub measure-slot : List ℕ → List ℕ → ℕ → ℕ → Task → ℕ → SizeResult
+measure-slot pool ends entries limit slot size = cond (slot .living) (added limit size (measure pool ends entries slot)) (Size size)
+
+-- a living slot's record from a place on
+unfoldable pub save-slot : List ℕ → List ℕ → Task → ℕ → List ℕ → Put
+save-slot pool ends slot place save = cond (slot .living) (puts save place (framed 2 (body (task-in pool ends slot)))) (put place save)

@@ -1,8 +1,7 @@
 // The size of a slot's record in the image of a table.
 ghost use mathlib.Core.Path.{_≡_};
 ghost use Rattle.image.specs.Slots.{saved-task};
-ghost use Rattle.image.specs.Table.{stepped, measure-slot};
-ghost use Rattle.image.specs.Writing.{size-of, measure};
+ghost use Rattle.image.specs.Writing.{stepped, measure-slot, size-of, measure};
 use crate::SizeResult;
 use errors::Refusal;
 use pools::BoundsResult;

@@ -1,7 +1,6 @@
 // One slot of a loop over the lent table: all is lent as the loop holds it, and what is only read stays.
 ghost use mathlib.Core.Path.{_≡_};
-ghost use Rattle.image.specs.Table.{stepped, save-slot};
-ghost use Rattle.image.specs.Writing.{put};
+ghost use Rattle.image.specs.Writing.{stepped, save-slot, put};
 use crate::writing::write_record;
 use storage::Task;
 

@@ -14,15 +14,16 @@ use Rattle.storage.specs.Tasks.{blank}
 use Rattle.storage.proofs.Laws.{living-cleared}
 use Rattle.storage.proofs.Soundness.{Counts, counts-sound, sound-cleared}
 use Rattle.image.specs.Image.{Image, sound, task-count, read-image}
-use Rattle.image.specs.Table.{Loading, load-tasks, load-records, load-table}
+use Rattle.image.specs.Table.{Loading}
+use Rattle.table_image.specs.Loops.{load-records}
 use Rattle.table_image.specs.Tables.{in-use, loading}
 use Rattle.table_image.specs.declared.InUse.{InUse}
 use Rattle.table_image.specs.Creation.{creation-tests}
 use Rattle.table_image.specs.declared.creation.CreationResult.{CreationResult}
 use Rattle.table_image.specs.declared.creation.CreationResult.the-variants.{Fit, Unfit}
-use Rattle.roundtrips.proofs.Created.{Fits, fits, count-told, records-told, load-none}
-use Rattle.roundtrips.proofs.Loads.{cleared, load-table-tasks}
-use Rattle.roundtrips.proofs.LoadSave as readings
+use Rattle.roundtrips.proofs.Created.{Fits, fits, count-told, records-told}
+use Rattle.table_image.proofs.Loads.{load-table-tasks}
+use Rattle.image.proofs.Readings as readings
 use Rattle.machine.specs.declared.Machine.{Machine}
 use Rattle.machine.specs.declared.Phase.the-variants.{New}
 use Rattle.machine.specs.Machines.{with-pool}
@@ -58,15 +59,6 @@ images (byte ∷ bytes) image e =
       tasks = subst (λ (n : ℕ). Orderly n 0 (image .tasks)) (sym (h .next-id-is)) (orderly (length (byte ∷ bytes)) _ 0 14 _ (image .tasks) (h .read));
     }
 
--- loading it is loading its tasks
-none-loaded : (l : Loading) → load-tasks [] l ≡ l
-unfolding load-tasks
-none-loaded l = refl
-
-pub loads-tasks : (bytes : List ℕ) (image : Image) (l : Loading) → read-image bytes ≡ sound image → load-table bytes l ≡ load-tasks (image .tasks) (cleared l)
-loads-tasks [] image l e = load-none l ∙ sym (none-loaded (cleared l)) ∙ ap (λ (i : Image). load-tasks (i .tasks) (cleared l)) (none-image image e)
-loads-tasks (byte ∷ bytes) image l e = load-table-tasks (byte ∷ bytes) image l (omega arith) e
-
 cleared-blank : (n j : ℕ) → getD (replicate n blank) j blank ≡ blank
 cleared-blank zero j = refl
 cleared-blank (suc n) zero = refl
@@ -101,7 +93,7 @@ module _ (table : List Task) (lent size : ℕ) (bytes : List ℕ) (next-id count
   loaded =
       let i = images bytes (f .image .image) (f .image .read) in
       let d = load-all (i .tasks) start len (omega (arith, f .image .s-len-is)) (i .few) (begins (length table) len pool ends used (f .table) p some) (λ j h. cleared-blank (length table) j) in
-      let e = records-told f table pool ends used ∙ loads-tasks bytes (f .image .image) (loading table pool ends used) (f .image .read) in
+      let e = records-told f table pool ends used ∙ load-table-tasks bytes (f .image .image) (loading table pool ends used) (f .image .read) in
       subst (λ (n : ℕ). Loaded start all len n) (f .image .count-is) (subst (λ (l : Loading). Loaded start l len (length (f .image .image .tasks))) (sym e) d)
 
   all-tabled : Tabled (all .table) next-id len

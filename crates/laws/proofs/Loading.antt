@@ -19,8 +19,7 @@ use Rattle.image.specs.Image.{ImageTask, sound, id-in, body-length, task-at, re
 use Rattle.image.specs.Reading.{s-len}
 use Rattle.image.specs.Slots.{loaded-task}
 use Rattle.image.specs.Table.{Loading, bytes-after, entries-after, next-reference, load-slot, load-tasks}
-use Rattle.roundtrips.proofs.LoadSave.{Goes, at-end, goes-on, goes, read-none}
-use Rattle.roundtrips.proofs.SaveLoad.{not-bad}
+use Rattle.image.proofs.Readings.{not-bad, Goes, at-end, goes-on, goes, read-none}
 use Rattle.laws.proofs.Parts.{Entries}
 use Rattle.laws.proofs.Pool.{Interns, interns, not-interns, intern-keeps}
 use Rattle.laws.proofs.Tables.{titles-set}

@@ -10,7 +10,8 @@ use Rattle.pools.specs.declared.InternResult.{InternResult}
 use Rattle.pools.specs.declared.InternResult.the-variants.{Interned, NotInterned}
 use Rattle.storage.specs.declared.Task.{Task}
 use Rattle.storage.specs.Tasks.{blank}
-use Rattle.image.specs.Table.{Loading, load-records}
+use Rattle.image.specs.Table.{Loading}
+use Rattle.table_image.specs.Loops.{load-records}
 use Rattle.table_image.specs.Tables.{in-use, loading}
 use Rattle.table_image.specs.declared.InUse.{InUse}
 use Rattle.table_image.specs.Creation.{creation-tests}

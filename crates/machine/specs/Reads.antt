@@ -2,8 +2,10 @@
 use Prim.Native.Nat.{ℕ}
 use mathlib.Core.Bool.{Bool, true, false, cond, _&&_}
 use mathlib.Core.List.{List}
+use mathlib.Core.Option.{Option, none, some}
 use lib.Dec.{ltb}
 use lib.ListN.{take, getD}
+use Rattle.errors.specs.declared.Refusal.{Refusal}
 use Rattle.errors.specs.declared.Refusal.the-variants.{WrongPhaseOrUnsound}
 use Rattle.storage.specs.declared.Task.{Task}
 use Rattle.storage.specs.declared.TaskId.{TaskId}
@@ -13,9 +15,7 @@ use Rattle.storage.specs.Storage.{slot-of, find}
 use Rattle.storage.specs.Tasks.{blank}
 use Rattle.image.specs.declared.SaveResult.{SaveResult}
 use Rattle.image.specs.declared.SaveResult.the-variants.{Saved, NotSaved}
-use Rattle.image.specs.declared.SizeResult.{SizeResult}
-use Rattle.image.specs.declared.SizeResult.the-variants.{Size, NoSize}
-use Rattle.image.specs.Table.{SavedTable, save-table, measure-slot}
+use Rattle.image.specs.Table.{SavedTable, save-table, task-refusal}
 use Rattle.memory.specs.Unbox.{unbox-value}
 use Rattle.memory.specs.declared.unbox.Return.{Return}
 use Rattle.memory.specs.declared.unbox.Return.the-variants.{NoReturn}
@@ -72,27 +72,29 @@ value-read position w = read-to (value-at (w .stack) (w .memory) (w .ends) (w .m
 
 -- ---- a task: 26, 9, 12, 15
 
--- measured as S_SAVE does: 12, then 15
-unfoldable pub if-measured : SizeResult → TaskResult
-if-measured (Size size) = Readable
-if-measured (NoSize refusal) = NotReadable refusal
+-- readable, unless it is refused
+unfoldable pub readable-unless : Option Refusal → TaskResult
+readable-unless none = Readable
+readable-unless (some refusal) = NotReadable refusal
 
-unfoldable pub if-found : List ℕ → List ℕ → Machine → Task → FindResult → TaskResult
-if-found pool ends machine task Found = if-measured (measure-slot pool ends (machine .entries) 0 task 0)
-if-found pool ends machine task (NotFound refusal) = NotReadable refusal
+-- 9, then 12 and 15 as S_SAVE has them
+unfoldable pub if-found : List ℕ → Machine → Task → FindResult → TaskResult
+if-found ends machine task Found = readable-unless (task-refusal ends (machine .entries) task)
+if-found ends machine task (NotFound refusal) = NotReadable refusal
 
-unfoldable pub task-result : List ℕ → List ℕ → Machine → Bool → TaskId → Task → TaskResult
-task-result pool ends machine sound id task =
-    cond sound (if-found pool ends machine task (find task id)) (NotReadable WrongPhaseOrUnsound)
+-- 26 before them
+unfoldable pub task-result : List ℕ → Machine → Bool → TaskId → Task → TaskResult
+task-result ends machine sound id task = cond sound (if-found ends machine task (find task id)) (NotReadable WrongPhaseOrUnsound)
 
 abbrev pub task-as : TaskResult → Task → TaskRead
 task-as result task = record { result = result; task = task }
 
-abbrev pub task-at : List ℕ → List ℕ → Machine → Bool → TaskId → Task → TaskRead
-task-at pool ends machine sound id task = task-as (task-result pool ends machine sound id task) task
+abbrev pub task-at : List ℕ → Machine → Bool → TaskId → Task → TaskRead
+task-at ends machine sound id task = task-as (task-result ends machine sound id task) task
 
+-- the task of an id, as its slot holds it
 unfoldable pub task-read : TaskId → World → Read TaskRead
-task-read id w = read-to (task-at (w .pool) (w .ends) (w .machine) (is-sound w) id (getD (w .table) (slot-of id) blank)) w
+task-read id w = read-to (task-at (w .ends) (w .machine) (is-sound w) id (getD (w .table) (slot-of id) blank)) w
 
 -- ---- the save by the host: 26, then as S_SAVE
 

@@ -10,7 +10,9 @@ use Rattle.storage.specs.Storage.{slot-of}
 use Rattle.storage.specs.Tasks.{blank, After, after}
 use Rattle.storage.specs.Table.{sound-table}
 use Rattle.image.specs.declared.SaveResult.{SaveResult}
-use Rattle.image.specs.Table.{Stepped, stepped, SavedTable, saved-table, save-table, Loading, load-records}
+use Rattle.image.specs.Table.{SavedTable, saved-table, save-table, Loading}
+use Rattle.image.specs.Writing.{Stepped, stepped}
+use Rattle.table_image.specs.Loops.{load-records}
 use Rattle.table_image.specs.Tables.{Held, held, in-use, loading}
 use Rattle.table_image.specs.declared.InUse.{InUse}
 use Rattle.memory.specs.declared.unbox.Return.{Return}
@@ -99,14 +101,14 @@ module _ (machine : Machine) (table : List Task) (stack memory pool ends save : 
 
   -- the read of a task
   pub reads-task : (id : TaskId) {slot : ℕ} {task : Task} {r : TaskRead} {table″ : List Task} {pool″ ends″ : List ℕ} → slot ≡ slot-of id → after task table″ ≡ after (getD table′ slot blank) table′
-      → stepped r pool″ ends″ ≡ stepped (task-at pool′ ends′ machine good id task) pool′ ends′
+      → stepped r pool″ ends″ ≡ stepped (task-at ends′ machine good id task) pool′ ends′
       → read-to r (world machine table″ stack memory′ pool″ ends″ save′) ≡ task-read id (world machine table stack memory pool ends save)
   unfolding task-read
   reads-task id {slot} {task} {r} {table″} at found f =
       ap (λ (b : Stepped TaskRead). read-to (b .answer) (world machine table″ stack memory′ (b .pool) (b .ends) save′)) f
-      ∙ ap (λ (a : After Task (List Task)). read-to (task-at pool′ ends′ machine good id (a .answer)) (world machine (a .lent) stack memory′ pool′ ends′ save′)) found
-      ∙ ap (λ (n : ℕ). read-to (task-at pool′ ends′ machine good id (getD table′ n blank)) (world machine table′ stack memory′ pool′ ends′ save′)) at
-      ∙ ap (λ (t : Tested). read-to (task-at (t .pool) (t .ends) machine (t .answer) id (getD (t .table) (slot-of id) blank)) (world machine (t .table) stack (t .memory) (t .pool) (t .ends) (t .save))) e
+      ∙ ap (λ (a : After Task (List Task)). read-to (task-at ends′ machine good id (a .answer)) (world machine (a .lent) stack memory′ pool′ ends′ save′)) found
+      ∙ ap (λ (n : ℕ). read-to (task-at ends′ machine good id (getD table′ n blank)) (world machine table′ stack memory′ pool′ ends′ save′)) at
+      ∙ ap (λ (t : Tested). read-to (task-at (t .ends) machine (t .answer) id (getD (t .table) (slot-of id) blank)) (world machine (t .table) stack (t .memory) (t .pool) (t .ends) (t .save))) e
 
   -- a save
   hosts : cond good (host-save-as (world machine table′ stack memory′ pool′ ends′ save′) (save-table (machine .«next_id») table′ pool′ ends′ (machine .entries) save′)) (saved-to (not-saved machine) table′ stack memory′ pool′ ends′ save′)

@@ -14,13 +14,14 @@ use Rattle.errors.specs.declared.Refusal.the-variants.{EmptyInstructions, PoolF
 use Rattle.image.specs.Image.{Image, sound, task-count, read-image}
 use Rattle.image.specs.Numbers.{number-at, Bytes}
 use Rattle.image.specs.Reading.{tested}
-use Rattle.image.specs.Table.{Loading, load-records, load-table}
+use Rattle.image.specs.Table.{Loading, cleared, load-tasks, load-read, load-table}
+use Rattle.table_image.specs.Loops.{load-records}
 use Rattle.image.specs.declared.ImageResult.the-variants.{Sound, NotSound}
 use Rattle.image.specs.declared.ImageResult.{ImageResult}
 use Rattle.pools.proofs.Interns.{Room, room}
 use Rattle.pools.specs.Pool.{has-room}
 use Rattle.roundtrips.proofs.LoadSave.{count-read, load-sound}
-use Rattle.roundtrips.proofs.Loads.{Done, cleared, load-holds}
+use Rattle.roundtrips.proofs.Loads.{Done, load-holds}
 use Rattle.roundtrips.proofs.Stores.{Pool}
 use Rattle.roundtrips.proofs.Tested.{Tested, tested-sound, s-len-most, s-len-least}
 use Rattle.storage.specs.Tasks.{blank}
@@ -106,11 +107,11 @@ count-told (byte ∷ bytes) f = sym (f .image .count-is) ∙ count-read (byte �
 -- so the records that `table_image::loading::load_table` goes through are the image
 pub records-told : {slots lent size : ℕ} {bytes : List ℕ} {next-id count len : ℕ} → Fits slots lent size bytes next-id count len → (table : List Task) (pool ends : List ℕ) (used : InUse)
     → load-records count bytes 14 (loading (replicate (length table) blank) pool ends used) ≡ load-table bytes (loading table pool ends used)
-records-told {bytes = bytes} {count = count} f table pool ends used = loads-all count bytes table pool ends used (count-told bytes f)
+records-told {bytes = bytes} {count = count} f table pool ends used = loads-all count bytes (f .image .image) table pool ends used (f .image .read) (count-told bytes f)
 
 -- an image without bytes loads no task
 pub load-none : (l : Loading) → load-table [] l ≡ cleared l
-unfolding load-table load-records number-at
+unfolding load-table load-read load-tasks read-image
 load-none l = refl
 
 module _ {slots lent size : ℕ} {bytes : List ℕ} {next-id count len : ℕ} (f : Fits slots lent size bytes next-id count len) (l : Loading)

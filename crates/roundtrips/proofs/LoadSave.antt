@@ -10,9 +10,10 @@ use lib.Seq.{drop-cons, drop-drop}
 use borrow.Author.Tests.{ne-eqb, eqb-true, eqb-false}
 use Rattle.image.proofs.Endian.{number-again, number-drop, number-fits, bytes-drop}
 use Rattle.image.proofs.Puts.{body-size, framed-open, body-open}
-use Rattle.image.proofs.Rules.{Rules, good-rules, Head, headed-head}
-use Rattle.image.proofs.Walks.{read-next, read-some, title-length-is, instructions-length}
-use Rattle.roundtrips.proofs.SaveLoad.{not-bad, front-of}
+use Rattle.image.proofs.Rules.{Rules, Head}
+use Rattle.image.proofs.Walks.{title-length-is, instructions-length}
+use Rattle.image.proofs.Readings.{not-bad, read-none, Goes, at-end, goes-on, goes, loaded}
+use Rattle.roundtrips.proofs.SaveLoad.{front-of}
 use Rattle.image.specs.Image.{ImageTask, Image, header, body, records, written, Fine, Rising, none, more, Sound, Read, sound, bad-at, body-length, kind, next-id-in, task-count, id-in, title-length, task-at, headed, good, joined, read-from, counted, read-image}
 use Rattle.image.specs.Numbers.{little-endian, number-at, Bytes}
 
@@ -110,10 +111,6 @@ pub no-bytes : (bytes : List ℕ) → length bytes ≡ 0 → bytes ≡ []
 no-bytes [] e = refl
 no-bytes (b ∷ bytes) e = absurd (omega arith)
 
-pub read-none : (next-id low place : ℕ) (bytes : List ℕ) → read-from 0 next-id low place bytes ≡ bad-at place
-unfolding read-from
-read-none next-id low place bytes = refl
-
 no-records : {next-id low : ℕ} {bytes : List ℕ} {tasks : List ImageTask} → bytes ≡ [] → sound [] ≡ sound tasks → Again next-id low bytes tasks
 unfolding records
 no-records {next-id} {low} {bytes} {tasks} e q =
@@ -127,48 +124,6 @@ one-more {next-id} {low} {bytes} {tasks} b r a =
       same = record-again b r ∙ ap (λ (l : List ℕ). front-of (task-at bytes) l) (a .same);
       rises = more {tasks = tasks} (fine-is b r) (rw (task-id bytes) (a .rises));
     }
-
-pub joined-sound : (task : ImageTask) (tasks : List ImageTask) → joined task (sound tasks) ≡ sound (task ∷ tasks)
-unfolding joined
-joined-sound task tasks = refl
-
-pub joined-bad : (task : ImageTask) (place : ℕ) → joined task (bad-at place) ≡ bad-at place
-unfolding joined
-joined-bad task place = refl
-
--- how reading goes on from a record, where it finds tasks
-pub record Step (bound next-id low place : ℕ) (bytes : List ℕ) (tasks : List ImageTask) : Type 0 where
-  pub rules : Rules next-id low bytes
-  pub rest : List ImageTask
-  pub all : task-at bytes ∷ rest ≡ tasks
-  pub later : read-from bound next-id (id-in bytes + 1) (place + (6 + body-length bytes)) (drop (6 + body-length bytes) bytes) ≡ sound rest
-
--- reading ends at the bytes' end or goes on from a record
-pub data Goes (bound next-id low place : ℕ) (bytes : List ℕ) (tasks : List ImageTask) : Type 0 where
-  at-end : length bytes ≡ 0 → sound [] ≡ sound tasks → Goes bound next-id low place bytes tasks
-  goes-on : 0 < length bytes → Step bound next-id low place bytes tasks → Goes bound next-id low place bytes tasks
-
-pub goes : (bound next-id low place : ℕ) (bytes : List ℕ) (tasks : List ImageTask) → read-from (suc bound) next-id low place bytes ≡ sound tasks → Goes bound next-id low place bytes tasks
-goes bound next-id low place bytes tasks e = by-end (eqb (length bytes) 0) refl (sym (read-next bound next-id low place bytes) ∙ e)
-  where
-    rest : Read (List ImageTask)
-    rest = read-from bound next-id (id-in bytes + 1) (place + (6 + body-length bytes)) (drop (6 + body-length bytes) bytes)
-
-    by-found : (r : Read (List ImageTask)) → rest ≡ r → good next-id low bytes ≡ true → joined (task-at bytes) r ≡ sound tasks → Step bound next-id low place bytes tasks
-    by-found (bad-at p) q g j = not-bad (sym (joined-bad (task-at bytes) p) ∙ j)
-    by-found (sound us) q g j =
-        let n : sound (task-at bytes ∷ us) ≡ sound tasks = sym (joined-sound (task-at bytes) us) ∙ j in
-        record { rules = good-rules next-id low bytes g; rest = us; all = cc; later = q }
-
-    by-good : (c : Bool) → good next-id low bytes ≡ c → cond c (joined (task-at bytes) rest) (bad-at place) ≡ sound tasks → Step bound next-id low place bytes tasks
-    by-good true g j = by-found rest refl g j
-    by-good false g j = not-bad j
-
-    by-end : (c : Bool) → eqb (length bytes) 0 ≡ c → cond c (sound []) (cond (good next-id low bytes) (joined (task-at bytes) rest) (bad-at place)) ≡ sound tasks → Goes bound next-id low place bytes tasks
-    by-end true q j = at-end (eqb-true (length bytes) 0 q) j
-    by-end false q j =
-        let some : length bytes ≡ 0 → ⊥ = eqb-false (length bytes) 0 q in
-        goes-on (omega arith) (by-good (good next-id low bytes) refl j)
 
 pub read-again : (bound next-id low place : ℕ) (bytes : List ℕ) (tasks : List ImageTask) → Bytes bytes → read-from bound next-id low place bytes ≡ sound tasks → Again next-id low bytes tasks
 read-again zero next-id low place bytes tasks b e = not-bad (sym (read-none next-id low place bytes) ∙ e)
@@ -202,35 +157,6 @@ head-again {bytes} b h =
       n,
     )
     (number-here 4 0 4 b refl (omega (arith, h .uncut, h .size))))
-
--- what a sound image that is not empty holds: sound tasks, that are written as these bytes
-pub record Loaded (bytes : List ℕ) (image : Image) : Type 0 where
-  pub head : Head bytes
-  pub next-id-is : image .next-id ≡ next-id-in bytes
-  pub count-is : length (image .tasks) ≡ task-count bytes
-  pub read : read-from (length bytes) (next-id-in bytes) 0 14 (drop 14 bytes) ≡ sound (image .tasks)
-
--- the header and the records of what was read
-pub loaded : (bytes : List ℕ) (image : Image) → 0 < length bytes → read-image bytes ≡ sound image → Loaded bytes image
-unfolding counted
-loaded bytes image some e = by-head (headed bytes) refl (sym (read-some bytes some) ∙ e)
-  where
-    rest : Read (List ImageTask)
-    rest = read-from (length bytes) (next-id-in bytes) 0 14 (drop 14 bytes)
-
-    by-count : (tasks : List ImageTask) (c : Bool) → eqb (length tasks) (task-count bytes) ≡ c → rest ≡ sound tasks → headed bytes ≡ true → cond c (sound (record { next-id = next-id-in bytes; tasks = tasks })) (bad-at 0) ≡ sound image → Loaded bytes image
-    by-count tasks false c q g j = not-bad j
-    by-count tasks true c q g j =
-        let n : record { next-id = next-id-in bytes; tasks = tasks } ≡ image = cc in
-        subst (λ (i : Image). Loaded bytes i) n (record { head = headed-head bytes g; next-id-is = refl; count-is = eqb-true _ _ c; read = q })
-
-    by-found : (r : Read (List ImageTask)) → rest ≡ r → headed bytes ≡ true → counted (next-id-in bytes) (task-count bytes) r ≡ sound image → Loaded bytes image
-    by-found (bad-at p) q g j = not-bad j
-    by-found (sound tasks) q g j = by-count tasks (eqb (length tasks) (task-count bytes)) refl q g j
-
-    by-head : (c : Bool) → headed bytes ≡ c → cond c (counted (next-id-in bytes) (task-count bytes) rest) (bad-at 0) ≡ sound image → Loaded bytes image
-    by-head true g j = by-found rest refl g j
-    by-head false g j = not-bad j
 
 module _ (bytes : List ℕ) (image : Image) (some : 0 < length bytes) (e : read-image bytes ≡ sound image) where
   -- the number of tasks read is the header's count

@@ -4,20 +4,19 @@ use mathlib.Core.Bool.{true, false}
 use mathlib.Core.List.{List, [], _∷_, append-nil}
 use mathlib.Core.Path.{_≡_, refl, ap, sym, _∙_, subst}
 use native.Mathlib.Omega.{arith}
-use lib.ListN.{length, getD, set, drop, replicate, length-set, length-drop, length-replicate}
-use lib.Seq.{sets, drop-drop, getD-set-same, getD-set-other}
-use Rattle.roundtrips.proofs.LoadSave.{Goes, at-end, goes-on, goes, loaded, load-sound, load-save, read-none}
+use lib.ListN.{length, getD, set, replicate, length-set, length-replicate}
+use lib.Seq.{sets, getD-set-same, getD-set-other}
+use Rattle.roundtrips.proofs.LoadSave.{load-sound, load-save}
 use Rattle.image.proofs.Records.{saved-again}
-use Rattle.image.proofs.Rules.{Rules}
-use Rattle.roundtrips.proofs.SaveLoad.{not-bad}
-use Rattle.roundtrips.proofs.Saves.{Holds, Lists, end, dead, alive, header-length, save-lists}
+use Rattle.roundtrips.proofs.Saves.{Holds, Lists, end, dead, alive, save-lists}
+use Rattle.table_image.proofs.Loads.{load-more, load-none, load-table-tasks}
+use Rattle.table_image.proofs.Saves.{header-length}
 use Rattle.roundtrips.proofs.Stores.{Pool, Stored, stored}
-use Rattle.image.specs.Image.{ImageTask, Image, header, records, written, Fine, Rising, none, more, sound, body-length, id-in, title-length, task-at, read-from, read-image}
-use Rattle.image.specs.Numbers.{number-at, Bytes}
-use Rattle.image.specs.Reading.{on, instruction-bytes, read-record}
-use Rattle.image.specs.Slots.{loaded-task, saved-task}
-use Rattle.image.specs.Table.{Loading, next-reference, load-slot, load-tasks, instructions-of, load-record, placed, load-records, load-table, saved-table, save-table}
-use Rattle.image.specs.Writing.{task-in}
+use Rattle.image.specs.Image.{ImageTask, Image, header, records, written, Fine, Rising, none, more, sound, read-image}
+use Rattle.image.specs.Numbers.{Bytes}
+use Rattle.image.specs.Reading.{instruction-bytes}
+use Rattle.image.specs.Slots.{loaded-task, saved-task, task-in}
+use Rattle.image.specs.Table.{Loading, cleared, next-reference, load-slot, load-tasks, load-read, load-table, saved-table, save-table}
 use Rattle.image.specs.declared.SaveResult.the-variants.{Saved}
 use Rattle.pools.proofs.Ends.{stands}
 use Rattle.pools.specs.Pool.{entry-of}
@@ -94,14 +93,6 @@ holds pool ends entries n next-id low task reference is fine named entry =
       text = fine .text;
     }
 
-load-more : (task : ImageTask) (tasks : List ImageTask) (l : Loading) → load-tasks (task ∷ tasks) l ≡ load-tasks tasks (load-slot (loaded-task task (next-reference (l .entries))) (task .instructions) l)
-unfolding load-tasks
-load-more task tasks l = refl
-
-load-none : (l : Loading) → load-tasks [] l ≡ l
-unfolding load-tasks
-load-none l = refl
-
 bytes-of-more : (task : ImageTask) (tasks : List ImageTask) → instruction-bytes (task ∷ tasks) ≡ length (task .instructions) + instruction-bytes tasks
 unfolding instruction-bytes
 bytes-of-more task tasks = refl
@@ -165,51 +156,6 @@ load-done (more {low} {task} {tasks} fine r) l inside empty p room =
     (t .still)
     (record { few = omega (arith, room .few, t .one-more); small = omega (arith, room .small, t .bytes-more, t .same-pool) })))
 
--- ---- the records of an image that is loaded
-
-module _ (image : List ℕ) (place : ℕ) (reference : InstructionsRef) {next-id low : ℕ} (r : Rules next-id low (drop place image)) where
-  end-is : read-record image place reference .end ≡ place + (6 + body-length (drop place image))
-  unfolding read-record on
-  end-is = omega (arith, r .uncut, length-drop place image)
-
-  start-is : read-record image place reference .start ≡ place + (14 + title-length (drop place image))
-  unfolding read-record on
-  start-is = omega (arith, r .uncut, r .inside, length-drop place image)
-
-  task-read : read-record image place reference .task ≡ loaded-task (task-at (drop place image)) reference
-  unfolding read-record
-  task-read = refl
-
-  instructions-read : instructions-of image (read-record image place reference) ≡ task-at (drop place image) .instructions
-  unfolding task-at
-  instructions-read =
-      let n : place + (6 + body-length (drop place image)) - (place + (14 + title-length (drop place image))) ≡ body-length (drop place image) - 8 - title-length (drop place image) = omega (arith, r .inside) in
-      rw (end-is, start-is, n, ← drop-drop, ← drop-drop)
-
-records-more : (n : ℕ) (image : List ℕ) (place : ℕ) (l : Loading) → load-records (suc n) image place l ≡ load-records n image (read-record image place (next-reference (l .entries)) .end) (load-slot (read-record image place (next-reference (l .entries)) .task) (instructions-of image (read-record image place (next-reference (l .entries)))) l)
-unfolding load-records load-record placed load-slot
-records-more n image place l = refl
-
-records-none : (image : List ℕ) (place : ℕ) (l : Loading) → load-records 0 image place l ≡ l
-unfolding load-records
-records-none image place l = refl
-
--- records one after another load the tasks that they hold
-pub records-tasks : (bound next-id low place : ℕ) (image : List ℕ) (tasks : List ImageTask) (l : Loading) → read-from bound next-id low place (drop place image) ≡ sound tasks → load-records (length tasks) image place l ≡ load-tasks tasks l
-records-tasks zero next-id low place image tasks l e = not-bad (sym (read-none next-id low place (drop place image)) ∙ e)
-records-tasks (suc bound) next-id low place image tasks l e =
-    by (records-tasks bound next-id (id-in (drop place image) + 1) (place + (6 + body-length (drop place image))) image) (goes bound next-id low place (drop place image) tasks e)
-  where
-    by : ((rest : List ImageTask) (k : Loading) → read-from bound next-id (id-in (drop place image) + 1) (place + (6 + body-length (drop place image))) (drop (place + (6 + body-length (drop place image))) image) ≡ sound rest → load-records (length rest) image (place + (6 + body-length (drop place image))) k ≡ load-tasks rest k) → Goes bound next-id low place (drop place image) tasks → load-records (length tasks) image place l ≡ load-tasks tasks l
-    by later (at-end empty none-left) =
-        let n : [] ≡ tasks = cc in
-        subst (λ (ts : List ImageTask). load-records (length ts) image place l ≡ load-tasks ts l) n (records-none image place l ∙ sym (load-none l))
-    by later (goes-on some s) =
-        subst (λ (ts : List ImageTask). load-records (length ts) image place l ≡ load-tasks ts l) (s .all)
-        (records-more (length (s .rest)) image place l
-        ∙ rw (instructions-read image place (next-reference (l .entries)) (s .rules), end-is image place (next-reference (l .entries)) (s .rules), task-read image place (next-reference (l .entries)) (s .rules), load-more (task-at (drop place image)) (s .rest) l)
-        (later (s .rest) _ (rw drop-drop at (s .later))))
-
 -- ---- the whole
 
 blanks : (n j : ℕ) → getD (replicate n blank) j blank ≡ blank
@@ -217,24 +163,13 @@ blanks zero j = refl
 blanks (suc n) zero = refl
 blanks (suc n) (suc j) = blanks n j
 
--- the table with every slot blank
-abbrev pub cleared : Loading → Loading
-cleared l = record { table = replicate (length (l .table)) blank; pool = l .pool; ends = l .ends; bytes = l .bytes; entries = l .entries }
-
--- loading an image is loading its tasks by rising id into a blank table
-pub load-table-tasks : (bytes : List ℕ) (image : Image) (l : Loading) → 0 < length bytes → read-image bytes ≡ sound image → load-table bytes l ≡ load-tasks (image .tasks) (cleared l)
-unfolding load-table
-load-table-tasks bytes image l some e =
-    let h = loaded bytes image some e in
-    rw (← h .count-is) (records-tasks (length bytes) _ 0 14 bytes (image .tasks) (cleared l) (h .read))
-
 module _ (bytes : List ℕ) (image : Image) (l : Loading) (b : Bytes bytes) (some : 0 < length bytes) (e : read-image bytes ≡ sound image) (wide : 256 ≤ length (l .table)) (p : Pool l) (room : Room l (image .tasks)) where
   -- after loading, the living slots hold the image's tasks, each with its own entry, and the pool is end to end
   pub load-holds : Done 0 (cleared l) (load-table bytes l) (image .tasks)
   load-holds =
       let z = load-sound bytes image some e b in
       let n : length (replicate (length (l .table)) blank) ≡ length (l .table) = length-replicate (length (l .table)) blank in
-      rw (load-table-tasks bytes image l some e)
+      rw (load-table-tasks bytes image l e)
       (load-done (z .tasks) (cleared l) (omega (arith, z .few)) (λ j h. blanks (length (l .table)) j) (record { lent = p .lent; sound = p .sound }) (record { few = room .few; small = room .small }))
 
   -- document 01: saving after loading a non-empty image gives the same bytes
@@ -252,7 +187,7 @@ none-written = append-nil (header 0 0)
 -- document 01: a zero-length image means none, and saving after it gives a lone kind 1 of zeros
 pub reload-none : (l : Loading) (save : List ℕ) → 14 ≤ length save
     → save-table 0 (load-table [] l .table) (load-table [] l .pool) (load-table [] l .ends) (load-table [] l .entries) save ≡ saved-table (Saved 14) (sets save 0 (header 0 0))
-unfolding load-table load-records number-at
+unfolding load-table load-read load-tasks read-image
 reload-none l save fits =
     let w : written (record { next-id = 0; tasks = [] }) ≡ header 0 0 = none-written in
     let n : length (header 0 0) ≡ 14 = header-length 0 0 in

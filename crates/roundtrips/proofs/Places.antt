@@ -8,11 +8,11 @@ use lib.Dec.{eqb}
 use lib.ListN.{length, drop, length-drop}
 use borrow.Author.Tests.{eqb-false}
 use Rattle.image.proofs.Endian.{bytes-drop}
-use Rattle.roundtrips.proofs.LoadSave.{record-again, fine-is, task-id, whole-length, joined-sound, joined-bad}
+use Rattle.roundtrips.proofs.LoadSave.{record-again, fine-is, task-id, whole-length}
 use Rattle.image.proofs.Puts.{record-size}
 use Rattle.image.proofs.Rules.{Rules, good-rules, rules-good, clash}
 use Rattle.image.proofs.Walks.{read-next}
-use Rattle.roundtrips.proofs.SaveLoad.{not-bad}
+use Rattle.image.proofs.Readings.{not-bad, joined-sound, joined-bad}
 use Rattle.image.specs.Image.{ImageTask, framed, body, Fine, Read, sound, bad-at, body-length, id-in, task-at, good, joined, read-from}
 use Rattle.image.specs.Numbers.{Bytes}
 

@@ -14,10 +14,6 @@ use Rattle.image.proofs.Rules.{Rules, rules-good, Head, head-headed}
 use Rattle.image.specs.Image.{ImageTask, Image, framed, header, body, records, written, Fine, Rising, none, more, Sound, sound, bad-at, body-length, kind, next-id-in, task-count, id-in, title-length, task-at, good, joined, read-from, counted, read-image}
 use Rattle.image.specs.Numbers.{little-endian, number-at}
 
--- what was found is not a place
-pub not-bad : {A B : Type 0} {place : ℕ} {found : A} → bad-at place ≡ sound found → B
-not-bad e = absurd (let z : _≡_ {A = ℕ} 0 1 = cc in omega arith)
-
 -- ---- one record, written and read back
 
 -- a record at the front of some bytes

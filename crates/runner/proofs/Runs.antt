@@ -1,6 +1,7 @@
 -- How a machine on its way gets to the end of its run, a turn at a time.
 use Prim.Native.Nat.{ℕ, zero, suc, _+_, _-_, _*_, _^_, _<_, _≤_}
 use mathlib.Core.Bool.{Bool, true, false, cond}
+use mathlib.Core.Option.{Option, none as not-refused, some as is-refused}
 use mathlib.Core.List.{List}
 use mathlib.Core.Path.{_≡_, refl, sym, ap, _∙_, subst}
 use native.Mathlib.Omega.{arith}
@@ -15,7 +16,7 @@ use Rattle.mechanism.specs.Registers.{OnMemory, on-memory}
 use Rattle.mechanism.specs.declared.Registers.{Registers}
 use Rattle.mechanism.specs.declared.RegistersResult.{RegistersResult}
 use Rattle.mechanism.specs.declared.RegistersResult.the-variants.{Next, Refused}
-use Rattle.image.specs.Table.{SavedTable, saved-table, Measured, measured, refused as not-measured, saved-as, save-table}
+use Rattle.image.specs.Table.{SavedTable, saved-table, saved-over, saved-unless, save-tasks, save-table}
 use Rattle.image.specs.declared.SaveResult.the-variants.{Saved, NotSaved}
 use Rattle.mechanism.specs.Changes.{applied}
 use Rattle.mechanism.specs.Execute.{instruct}
@@ -248,14 +249,14 @@ pub data Saves (save : List ℕ) : SavedTable → Type 0 where
   has-saved : (length : ℕ) (after : List ℕ) → Saves save (saved-table (Saved length) after)
   not-saved : (refusal : Refusal) → Saves save (saved-table (NotSaved refusal) save)
 
-saved-leaves : (next-id : ℕ) (table : List Task) (pool e save : List ℕ) (m : Measured) → Saves save (saved-as next-id table pool e save m)
-unfolding saved-as
-saved-leaves next-id table pool e save (not-measured refusal) = not-saved refusal
-saved-leaves next-id table pool e save (measured size count) = either (Saves save) (leb size (length save)) _ _ (has-saved _ _) (not-saved _)
+saved-leaves : (refusal : Option Refusal) (image save : List ℕ) → Saves save (saved-unless refusal image save)
+unfolding saved-unless saved-over
+saved-leaves (is-refused refusal) image save = not-saved refusal
+saved-leaves not-refused image save = either (Saves save) (leb (length image) (length save)) _ _ (has-saved _ _) (not-saved _)
 
 pub save-leaves : (next-id : ℕ) (table : List Task) (pool e : List ℕ) (entries : ℕ) (save : List ℕ) → Saves save (save-table next-id table pool e entries save)
-unfolding save-table
-save-leaves next-id table pool e entries save = saved-leaves next-id table pool e save _
+unfolding save-table save-tasks
+save-leaves next-id table pool e entries save = saved-leaves _ _ save
 
 saves-turns : (g : Going) (a : SavedTable) → Saves (g .save) a
     → next-of (g .gone .machine) ≡ registers-of (g .gone .machine) .place + 1

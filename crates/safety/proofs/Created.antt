@@ -12,7 +12,8 @@ use Rattle.pools.proofs.Interns.{when-full}
 use Rattle.inlinevec.specs.Stacks.{last-two}
 use Rattle.storage.specs.declared.Task.{Task}
 use Rattle.storage.specs.Tasks.{blank}
-use Rattle.image.specs.Table.{Loading, bytes-after, entries-after, next-reference, instructions-of, load-record, placed, load-records}
+use Rattle.image.specs.Table.{Loading, bytes-after, entries-after, next-reference}
+use Rattle.table_image.specs.Loops.{instructions-of, load-record, placed, load-records}
 use Rattle.image.specs.Reading.{read-record}
 use Rattle.table_image.specs.Tables.{in-use, loading}
 use Rattle.table_image.specs.declared.creation.CreationResult.{CreationResult}

@@ -1,2 +1,4 @@
+pub mod Interned
 pub mod Loads
+pub mod Saves
 pub mod Turns

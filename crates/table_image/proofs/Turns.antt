@@ -17,8 +17,10 @@ use Rattle.image.specs.declared.SaveResult.{SaveResult}
 use Rattle.image.specs.declared.SaveResult.the-variants.{Saved, NotSaved}
 use Rattle.image.specs.declared.LoadedRecord.{LoadedRecord}
 use Rattle.image.specs.Image.{header}
-use Rattle.image.specs.Writing.{Put, put, puts}
-use Rattle.image.specs.Table.{Stepped, stepped, Measured, measured, refused, measure-slot, count-slot, grown, measures, save-slot, save-slots, SavedTable, saved-table, saved-as, save-table, Loading, load-record, WithImage, loaded-record, placed, load-records}
+use Rattle.image.specs.Writing.{Put, put, puts, Stepped, stepped, measure-slot, save-slot}
+use Rattle.image.specs.Table.{SavedTable, saved-table, save-table, Loading}
+use Rattle.table_image.specs.Loops.{Measured, measured, refused, count-slot, grown, measures, save-slots, saved-as, save-by-slots, load-record, WithImage, loaded-record, placed, load-records}
+use Rattle.table_image.proofs.Saves.{save-table-is}
 use Rattle.table_image.specs.declared.MeasuredTable.{MeasuredTable}
 use Rattle.table_image.specs.declared.InUse.{InUse}
 use Rattle.table_image.specs.declared.Begun.{Begun}
@@ -190,9 +192,10 @@ module _ (table : List Task) (pool ends : List ℕ) where
   -- at first all
   pub save-begins : (next-id entries : ℕ) (save : List ℕ) (m : MeasuredTable) {b : Begun} {last : List ℕ} → measured-as m ≡ measures (length table) 0 table pool ends entries (length save + 1) 0 14
       → after b last ≡ begin-save next-id (length table) save (measured-as m) → to-save (b .answer) (b .slots - 0) 0 table pool ends (put 14 last) ≡ save-table next-id table pool ends entries save
-  unfolding save-table
+  unfolding save-by-slots
   save-begins next-id entries save m {b} {last} e f =
       ap (λ (k : ℕ). to-save (b .answer) k 0 table pool ends (put 14 last)) (less-none (b .slots)) ∙ ap from-begun f ∙ as-begun next-id save (measured-as m) ∙ ap (saved-as next-id table pool ends save) e
+      ∙ save-table-is next-id table pool ends entries save
 
   -- a turn
   pub save-turns : (answer : SaveResult) (n i k : ℕ) (save : List ℕ) {ts : List Task} {po en : List ℕ} {t : Task} {r : ℕ} {last : List ℕ} {whole : SavedTable} → i < n → ts ≡ table → po ≡ pool → en ≡ ends → t ≡ getD ts i blank → put r last ≡ save-slot po en t k save

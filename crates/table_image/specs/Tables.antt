@@ -13,8 +13,9 @@ use Rattle.image.specs.declared.SaveResult.{SaveResult}
 use Rattle.image.specs.declared.SaveResult.the-variants.{Saved, NotSaved}
 use Rattle.image.specs.declared.LoadedRecord.{LoadedRecord}
 use Rattle.image.specs.Image.{header}
-use Rattle.image.specs.Writing.{puts}
-use Rattle.image.specs.Table.{Stepped, stepped, Measured, measured, refused, measure-slot, count-slot, grown, Loading, load-record}
+use Rattle.image.specs.Writing.{puts, Stepped, stepped, measure-slot}
+use Rattle.image.specs.Table.{Loading}
+use Rattle.table_image.specs.Loops.{Measured, measured, refused, count-slot, grown, load-record}
 use Rattle.table_image.specs.declared.MeasuredTable.{MeasuredTable}
 use Rattle.table_image.specs.declared.InUse.{InUse}
 use Rattle.table_image.specs.declared.Begun.{Begun}

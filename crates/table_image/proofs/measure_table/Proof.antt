@@ -46,7 +46,8 @@ use Rattle.lent.proofs.Slots.{zero-fits, from-zero, next-in, slot-fits, next-fi
 use Rattle.storage.specs.declared.Task.{Task}
 use Rattle.storage.proofs.Records.{R, table-ty, val, vals, makes, typed}
 use Rattle.storage.specs.Tasks.{blank, after}
-use Rattle.image.specs.Table.{stepped, measures}
+use Rattle.image.specs.Writing.{stepped}
+use Rattle.table_image.specs.Loops.{measures}
 use Rattle.table_image.specs.declared.MeasuredTable.{MeasuredTable}
 use Rattle.table_image.specs.Tables.{held, measuring as none-measured, measure-next, measured-as}
 use Rattle.table_image.proofs.Turns.{slot-is, step-is, to-measure, measure-begins, measure-turns, measure-ends, count-turns, none-counted, more-counted}

@@ -48,8 +48,9 @@ use Rattle.storage.specs.declared.Task.{Task}
 use Rattle.storage.proofs.Records.{R, table-ty, val, vals, makes, typed}
 use Rattle.storage.specs.Tasks.{blank, after}
 use Rattle.image.specs.declared.SaveResult.{SaveResult}
-use Rattle.image.specs.Writing.{put}
-use Rattle.image.specs.Table.{stepped, measures, save-slot, SavedTable, saved-table, save-table}
+use Rattle.image.specs.Writing.{put, stepped, save-slot}
+use Rattle.image.specs.Table.{SavedTable, saved-table, save-table}
+use Rattle.table_image.specs.Loops.{measures}
 use Rattle.table_image.specs.declared.Begun.{Begun}
 use Rattle.table_image.specs.Tables.{held, measured-as, begin-save}
 use Rattle.table_image.proofs.Turns.{slot-is, step-is, held-is, header-fits, past-fits, to-save, save-begins, save-turns, save-ends}

@@ -1,7 +1,8 @@
 -- `image::sizes::measure` meets its contract.
 use borrow.Author.Needs.{needs}
 use Rattle.image.proofs.sizes.measure.Statement.{statement}
-use Rattle.image.specs.Writing.{measure, sized, task-in}
+use Rattle.image.specs.Writing.{measure, sized}
+use Rattle.image.specs.Slots.{task-in}
 use Rattle.image.proofs.sizes.measure.Tie as tie
 
 bounds-requires : tie.Need-bounds-requires

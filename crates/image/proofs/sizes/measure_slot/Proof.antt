@@ -4,7 +4,7 @@ use borrow.Author.Needs.{needs}
 use Rattle.image.proofs.Turns.{unmeasured, measured-more, measured-not}
 use Rattle.image.proofs.sizes.measure_slot.Statement.{statement}
 use Rattle.image.specs.Reading.{on}
-use Rattle.image.specs.Table.{stepped}
+use Rattle.image.specs.Writing.{stepped}
 use Rattle.image.specs.declared.SizeResult.{SizeResult}
 use Rattle.image.proofs.sizes.measure_slot.Tie as tie
 

@@ -3,8 +3,7 @@ use mathlib.Core.Path.{ap}
 use borrow.Author.Needs.{needs}
 use Rattle.image.proofs.Turns.{unsaved, slot-saved}
 use Rattle.image.proofs.steps.save_slot.Statement.{statement}
-use Rattle.image.specs.Table.{stepped}
-use Rattle.image.specs.Writing.{Put}
+use Rattle.image.specs.Writing.{stepped, Put}
 use Rattle.image.proofs.steps.save_slot.Tie as tie
 
 get-requires : tie.Need-get-requires

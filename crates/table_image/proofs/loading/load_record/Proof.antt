@@ -2,9 +2,10 @@
 use mathlib.Core.Path.{ap}
 use native.Mathlib.Omega.{arith}
 use borrow.Author.Needs.{needs}
-use Rattle.image.proofs.Turns.{few-entries, loaded-more, loaded-not}
+use Rattle.table_image.proofs.Interned.{few-entries, loaded-more, loaded-not}
 use Rattle.table_image.proofs.loading.load_record.Statement.{statement}
-use Rattle.image.specs.Table.{Stepped, loaded-record}
+use Rattle.image.specs.Writing.{Stepped}
+use Rattle.table_image.specs.Loops.{loaded-record}
 use Rattle.image.specs.declared.LoadedRecord.{LoadedRecord}
 use Rattle.table_image.proofs.loading.load_record.Tie as tie
 

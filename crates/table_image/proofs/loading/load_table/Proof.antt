@@ -46,7 +46,9 @@ use Rattle.lent.proofs.Slots.{from-zero, next-in, fewer}
 use Rattle.storage.specs.declared.Task.{Task}
 use Rattle.storage.proofs.Records.{R, table-ty, val, vals, makes, typed}
 use Rattle.storage.specs.Tasks.{blank, after}
-use Rattle.image.specs.Table.{stepped, Loading, load-records}
+use Rattle.image.specs.Table.{Loading}
+use Rattle.image.specs.Writing.{stepped}
+use Rattle.table_image.specs.Loops.{load-records}
 use Rattle.table_image.specs.declared.InUse.{InUse}
 use Rattle.table_image.specs.declared.NextRecord.{NextRecord}
 use Rattle.table_image.specs.Tables.{in-use, loading, load-next}

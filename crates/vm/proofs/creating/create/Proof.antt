@@ -47,7 +47,7 @@ use Rattle.storage.specs.declared.Task.{Task}
 use Rattle.storage.specs.Tasks.{after, blank}
 use Rattle.storage.proofs.Records.{R, table-ty}
 use Rattle.machine.proofs.Machine as machine
-use Rattle.image.specs.Table.{load-records}
+use Rattle.table_image.specs.Loops.{load-records}
 use Rattle.table_image.proofs.InUse as used
 use Rattle.table_image.specs.Tables.{in-use, loading}
 use Rattle.mechanism.proofs.Values.{machine-shut}

@@ -1,6 +1,6 @@
 -- `vm::task_reading::task_at` meets its contract.
 use mathlib.Core.Path.{ap}
-use Rattle.image.specs.Table.{Stepped, stepped}
+use Rattle.image.specs.Writing.{Stepped, stepped}
 use Rattle.machine.specs.Reads.{task-as}
 use Rattle.machine.specs.declared.TaskResult.{TaskResult}
 use borrow.Author.Needs.{needs}

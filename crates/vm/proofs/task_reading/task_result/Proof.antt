@@ -1,7 +1,7 @@
 -- `vm::task_reading::task_result` meets its contract.
-use Rattle.machine.specs.Reads.{task-result, if-found, if-measured}
+use Rattle.machine.specs.Reads.{task-result, if-found}
 use mathlib.Core.Path.{sym, ap, _∙_}
-use Rattle.mechanism.proofs.Measured.{found}
+use Rattle.mechanism.proofs.Measured.{if-measured, found}
 use borrow.Author.Needs.{needs}
 use Rattle.vm.proofs.task_reading.task_result.Statement.{statement}
 use Rattle.vm.proofs.task_reading.task_result.Tie as tie
@@ -29,7 +29,7 @@ enum-told-2 : tie.Need-enum-told-2
 enum-told-2 c = search needs
 
 returns : tie.Need-returns
-unfolding task-result if-found if-measured
+unfolding task-result if-found
 returns c =
     simp (c .before .refusal .given .1, ← c .before .before .before .find .ensures, c .before .before .before .before .if1 .taken)
 
@@ -54,7 +54,7 @@ returns-3 c =
     (c .before .before .before .before .measure-slot .ensures) (ap if-measured (c .enum-told2 .given .1))
 
 returns-4 : tie.Need-returns-4
-unfolding task-result if-found if-measured
+unfolding task-result if-found
 returns-4 c =
     simp (c .if1 .left)
 
