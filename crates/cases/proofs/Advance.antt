@@ -17,7 +17,7 @@ use Rattle.mechanism.specs.Operated as operated
 use Rattle.mechanism.specs.Execute as executing
 use Rattle.mechanism.specs.Steps as steps
 use Rattle.mechanism.specs.Advance.{ProgressOn, halted-at, after-steps, advance}
-use Rattle.cases.proofs.Table.{C1, fresh}
+use Rattle.cases.specs.Cases.{C1, fresh}
 
 -- 04 0001 1d
 abbrev Calldata : List ℕ

@@ -27,8 +27,8 @@ use Rattle.machine.specs.Calls.{Reported, is-sound, start, go-on}
 use Rattle.machine.specs.World.{with-machine}
 use Rattle.machine.specs.Creation.{Made, new-machine, create}
 use Rattle.machine.specs.Reads.{SavedTo, value-read, task-read, host-save}
-use Rattle.roundtrips.proofs.Cases.{I1}
-use Rattle.cases.proofs.Table.{fresh, raised, C1}
+use Rattle.roundtrips.specs.Images.{I1}
+use Rattle.cases.specs.Cases.{fresh, raised, C1}
 use Rattle.bytecode.specs.Opcodes as bytecode-opcodes
 use Rattle.bytecode.specs.Operands as bytecode-operands
 use Rattle.inlinevec.specs.Stacks as inlinevec-stacks

@@ -17,7 +17,7 @@ use Rattle.machine.specs.Machines.{with-used}
 use Rattle.machine.specs.World.{World, with-machine, with-memory}
 use Rattle.machine.specs.Run.{run}
 use Rattle.machine.specs.Creation.{new-machine}
-use Rattle.cases.proofs.Table.{A, Field-3, Retitle, Call, End-call, Returning, Delete, fresh, raised, after}
+use Rattle.cases.specs.Cases.{A, Field-3, Retitle, Call, End-call, Returning, Delete, fresh, raised, after}
 use Rattle.bytecode.specs.Operands as bytecode-operands
 use Rattle.inlinevec.specs.Stacks as inlinevec-stacks
 use Rattle.values.specs.Values as values-values

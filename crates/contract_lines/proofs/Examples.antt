@@ -23,7 +23,8 @@ use Rattle.machine.specs.Creation.{create}
 use Rattle.machine.specs.Calls.{Reported, call, start}
 use Rattle.machine.specs.Reads.{host-save, task-read, value-read}
 use Rattle.examples.proofs.Lines.{in-hex, refused-14}
-use Rattle.cases.proofs.Table.{fresh, C1, instructions}
+use Rattle.cases.specs.Cases.{fresh, C1}
+use Rattle.cases.proofs.Table.{instructions}
 use Rattle.cases.proofs.Calls.{examples}
 use Rattle.text.proofs as text
 use Rattle.listing.proofs.head_line as head-line

@@ -7,7 +7,7 @@ use Rattle.errors.specs.declared.Refusal.the-variants.{StackUnderflow, WrongPha
 use Rattle.image.specs.declared.SaveResult.the-variants.{Saved, NotSaved}
 use Rattle.image.specs.Image.{read-image}
 use Rattle.image.specs.Reading.{tested}
-use Rattle.roundtrips.proofs.Cases.{I1}
+use Rattle.roundtrips.specs.Images.{I1}
 use Rattle.text.specs.Ascii.{ascii}
 use Rattle.text.specs.declared.LineResult.the-variants.{Line}
 use Rattle.listing.specs.declared.Head.the-variants.{Done, Refused}

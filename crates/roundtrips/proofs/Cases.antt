@@ -2,18 +2,11 @@
 use Prim.Native.Nat.{ℕ}
 use mathlib.Core.List.{List, [], _∷_, _++_}
 use mathlib.Core.Path.{_≡_, refl}
-use Rattle.image.specs.Image.{Image, framed, header, body, records, written, sound, bad-at, task-at, headed, good, joined, read-from, counted, read-image}
+use Rattle.image.specs.Image.{framed, header, body, records, written, sound, bad-at, task-at, headed, good, joined, read-from, counted, read-image}
 use Rattle.image.specs.Numbers.{little-endian, number-at}
 use Rattle.utf8.specs.Grammar.{UTF8-char}
 use Rattle.utf8.specs.Utf8.{valid, from, lead, holds}
-
--- 08 00 00 00 01 00 01 00 00 00 01 00 00 00 0A 00 00 00 02 00 00 00 00 00 03 00 02 00 41 62
-abbrev pub I1 : List ℕ
-I1 = 0x08 ∷ 0 ∷ 0 ∷ 0 ∷ 0x01 ∷ 0 ∷ 0x01 ∷ 0 ∷ 0 ∷ 0 ∷ 0x01 ∷ 0 ∷ 0 ∷ 0 ∷ 0x0A ∷ 0 ∷ 0 ∷ 0 ∷ 0x02 ∷ 0 ∷ 0 ∷ 0 ∷ 0 ∷ 0 ∷ 0x03 ∷ 0 ∷ 0x02 ∷ 0 ∷ 0x41 ∷ 0x62 ∷ []
-
--- next id 1, task 0 "Ab", 3 states, no instructions
-abbrev pub Ab : Image
-Ab = record { next-id = 1; tasks = record { id = 0; count = 3; state = 0; title = 0x41 ∷ 0x62 ∷ []; instructions = [] } ∷ [] }
+use Rattle.roundtrips.specs.Images.{I1, Ab}
 
 -- C12: image I1 loads
 pub I1-loads : read-image I1 ≡ sound Ab
