@@ -15,10 +15,11 @@ use Rattle.image.specs.Numbers.{Bytes}
 use Rattle.image.proofs.Endian.{bytes-drop}
 use Rattle.image.specs.Image as image
 use Rattle.image.specs.Image.{ImageTask, Image, Fine, Rising, sound, read-image}
-use Rattle.image.specs.Reading.{s-len, instruction-bytes, read-record}
+use Rattle.image.specs.Reading.{s-len, instruction-bytes}
+use Rattle.image.specs.Walking.{read-record}
 use Rattle.image.specs.Slots.{loaded-task}
 use Rattle.image.specs.Table.{Loading, load-slot, load-tasks, next-reference}
-use Rattle.table_image.specs.Loops.{load-record, load-records, placed, instructions-of}
+use Rattle.table_image.specs.Loops.{load-record, load-records, record-placed, instructions-of}
 use Rattle.table_image.specs.Tables.{loading, in-use}
 use Rattle.pools.specs.Pool.{Pooled, pooled, new-entry, has-room, interned, entry-of, entries-of, end-to-end, start-of, never-fall}
 use Rattle.pools.specs.declared.InternResult.the-variants.{NotInterned}
@@ -28,7 +29,7 @@ use Rattle.storage.specs.Tasks.{blank, new-task}
 use Rattle.roundtrips.proofs.Stores.{Pool, Stored, stored}
 use Rattle.roundtrips.proofs.Loads.{Room}
 use Rattle.roundtrips.proofs.LoadSave.{load-sound}
-use Rattle.roundtrips.proofs.Created.{Fits, fits, records-told}
+use Rattle.table_image.proofs.Fits.{Fits, fits, records-told}
 use Rattle.table_image.specs.Creation.{creation-tests}
 use Rattle.table_image.specs.declared.creation.CreationResult.{CreationResult}
 use Rattle.table_image.specs.declared.creation.CreationResult.the-variants.{Fit, Unfit}
@@ -37,7 +38,9 @@ use Rattle.inlinevec.specs.Stacks.{two-of, last-two}
 use Rattle.machine.specs.Machines.{current, with-pool}
 use Rattle.machine.specs.World.{World, world, place}
 use Rattle.machine.specs.Calls.{may-start}
-use Rattle.machine.specs.Creation.{new-machine, with-program, unfit, prepare-fit, prepare, create-as, create, Made, made, loaded}
+use Rattle.machine.specs.Creation.{new-machine, create, Made, made}
+use Rattle.mechanism.specs.Creating.{with-program, unfit, prepare-fit, prepare, create-as, loaded-from, create-by-parts}
+use Rattle.mechanism.proofs.Creates.{create-is}
 use Rattle.machine.specs.declared.CreateResult.{CreateResult}
 use Rattle.machine.specs.declared.CreateResult.the-variants.{Created, NotCreated}
 use Rattle.laws.proofs.Creation.{create-sound, create-new}
@@ -167,11 +170,11 @@ bytes-interned pool ends bytes entries calldata all new = by (has-room (length p
     by false = all
 
 bytes-records : (n : ℕ) (image : List ℕ) (place : ℕ) (l : Loading) → Bytes image → Bytes (l .pool) → Bytes (load-records n image place l .pool)
-unfolding load-records load-record placed
+unfolding load-records load-record record-placed
 bytes-records zero image place l from all = all
 bytes-records (suc n) image place l from all =
     let r = read-record image place (next-reference (l .entries)) in
-    bytes-records n image _ (placed (load-record (l .pool) (l .ends) image place (l .bytes) (l .entries)) l) from
+    bytes-records n image _ (record-placed (load-record (l .pool) (l .ends) image place (l .bytes) (l .entries)) l) from
     (bytes-interned (l .pool) (l .ends) (l .bytes) (l .entries) (instructions-of image r) all (bytes-taken (r .end - r .start) (bytes-drop (r .start) from)))
 
 -- ---- creation, taken apart
@@ -185,7 +188,7 @@ loaded-all table pool ends image program count = load-records count image 14 (wi
 
 data Creates (table : List Task) (pool ends image program : List ℕ) : Made → Type 0 where
   creates : (next-id count len : ℕ) → Fits (length table) (length pool) (length program) image next-id count len
-      → Creates table pool ends image program (loaded (new-machine (0 + length program) 1 next-id len) image program (loaded-all table pool ends image program count))
+      → Creates table pool ends image program (loaded-from (new-machine (0 + length program) 1 next-id len) image program (loaded-all table pool ends image program count))
   not-creates : (number : Refusal) (t : List Task) (p e i q : List ℕ) → Creates table pool ends image program (made (NotCreated number) t p e i q)
 
 module _ (table : List Task) (pool ends image program : List ℕ) where
@@ -201,8 +204,8 @@ module _ (table : List Task) (pool ends image program : List ℕ) where
   by-tests (Unfit number) e = not-creates number table pool ends image program
 
   creating : Creates table pool ends image program (create table pool ends image program)
-  unfolding create prepare
-  creating = by-tests _ refl
+  unfolding create-by-parts prepare
+  creating = subst (Creates table pool ends image program) (create-is table pool ends image program) (by-tests _ refl)
 
 -- ---- what was created, beside init
 

@@ -14,7 +14,7 @@ use borrow.Author.Tests.{ltb-true, ltb-false, leb-false}
 use Rattle.utf8.specs.Utf8.{valid}
 use Rattle.image.specs.Numbers.{Bytes}
 use Rattle.image.specs.Image.{framed, body, records, header, written}
-use Rattle.image.specs.Reading.{on}
+use Rattle.image.specs.Walking.{on}
 use Rattle.image.specs.Slots.{saved-task, task-in}
 use Rattle.image.specs.Writing.{size-of, sized, measure, added, measure-slot}
 use Rattle.image.specs.Table.{SavedTable}

@@ -8,7 +8,7 @@ use Rattle.listing.specs.Listing.{line-of-head, line-of-value}
 use Rattle.memory.specs.Unbox.{part-of}
 use Rattle.image.specs.Image.{read-image}
 use Rattle.image.specs.Reading
-use Rattle.image.specs.Reading.{read-record}
+use Rattle.image.specs.Walking.{read-record}
 use Rattle.image.specs.Table.{saved-table, save-table}
 use Rattle.table_image.specs.Tables.{held}
 use Rattle.mechanism.specs.Registers.{on-memory}

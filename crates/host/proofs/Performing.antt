@@ -13,11 +13,11 @@ use Rattle.machine.specs.declared.CreateResult.{CreateResult}
 use Rattle.machine.specs.declared.Report.{Report}
 use Rattle.machine.specs.declared.SaveReport.{SaveReport}
 use Rattle.machine.specs.Calls.{reported, start}
-use Rattle.machine.specs.Creation.{machine-of, made, create}
+use Rattle.machine.specs.Creation.{blank-table, machine-of, made, create}
 use Rattle.machine.specs.Reads.{saved-to, host-save}
 use Rattle.host.specs.declared.hosting.RunSummary.{RunSummary}
 use Rattle.host.specs.Lines.{task-lines}
-use Rattle.host.specs.Hosting.{to-save, performed, RunSummaryIn, performed-in, with-lines, with-save, with-run, with-creation, perform, owned, without-table, blank-table, own}
+use Rattle.host.specs.Hosting.{to-save, performed, RunSummaryIn, performed-in, with-lines, with-save, with-run, with-creation, perform, owned, without-table, own}
 
 -- creation, start, save and the lines of the tasks
 pub performs : (fuel : ℕ) (table : List Task) (stack memory pool ends save image program lines : List ℕ)

@@ -1,9 +1,7 @@
 -- A run for a host: a machine is created, started, saved where the run was not refused, and its tasks are listed.
 use Prim.Native.Nat.{ℕ}
 use mathlib.Core.List.{List}
-use lib.ListN.{replicate}
 use Rattle.storage.specs.declared.Task.{Task}
-use Rattle.storage.specs.Tasks.{blank}
 use Rattle.text.specs.declared.LineResult.{LineResult}
 use Rattle.text.specs.Lines.{Lined}
 use Rattle.listing.specs.declared.Head.{Head}
@@ -18,7 +16,7 @@ use Rattle.machine.specs.declared.CreateResult.the-variants.{Created, NotCreate
 use Rattle.machine.specs.declared.Report.{Report}
 use Rattle.machine.specs.declared.SaveReport.{SaveReport}
 use Rattle.machine.specs.Calls.{Reported, start}
-use Rattle.machine.specs.Creation.{machine-of, Made, create}
+use Rattle.machine.specs.Creation.{machine-of, blank-table, Made, create}
 use Rattle.machine.specs.Reads.{SavedTo, host-save}
 use Rattle.host.specs.Lines.{task-lines}
 use Rattle.host.specs.declared.hosting.RunSummary.{RunSummary}
@@ -132,10 +130,6 @@ owned answer stack memory pool ends save image program lines =
 
 abbrev pub without-table : RunSummaryIn → Owned
 without-table p = owned (p .answer) (p .stack) (p .memory) (p .pool) (p .ends) (p .save) (p .image) (p .program) (p .lines)
-
--- 256 slots, all blank
-unfoldable pub blank-table : List Task
-blank-table = replicate 256 blank
 
 unfoldable pub own : ℕ → List ℕ → List ℕ → List ℕ → List ℕ → List ℕ → List ℕ → List ℕ → List ℕ → Owned
 own fuel stack memory pool ends save image program lines =

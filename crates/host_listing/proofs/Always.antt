@@ -7,7 +7,7 @@ use native.Mathlib.Omega.{arith}
 use lib.ListN.{length, getD, take, drop, length-append, length-take, length-replicate}
 use lib.Seq.{sets}
 use Rattle.errors.specs.declared.Refusal.{Refusal}
-use Rattle.pools.specs.Pool.{start-of, end-of, entry-of, never-fall, end-to-end}
+use Rattle.pools.specs.Pool.{start-of, end-of, entry-of, never-fall, end-to-end, interned}
 use Rattle.pools.proofs.Ends.{within}
 use Rattle.storage.specs.declared.Task.{Task}
 use Rattle.storage.specs.Table.{living-of, sound-counts, sound-slots, sound-table}
@@ -19,7 +19,12 @@ use Rattle.machine.specs.World.{World, world}
 use Rattle.machine.specs.declared.CreateResult.{CreateResult}
 use Rattle.machine.specs.declared.CreateResult.the-variants.{Created, NotCreated}
 use Rattle.machine.specs.Calls.{Reported, is-sound, start}
-use Rattle.machine.specs.Creation.{PreparedIn, prepare, Made, create-as, create, stopped, machine-of}
+use Rattle.pools.specs.declared.InternResult.{InternResult}
+use Rattle.pools.specs.declared.InternResult.the-variants.{Interned, NotInterned}
+use Rattle.table_image.specs.Creation.{creation-tests}
+use Rattle.table_image.specs.declared.creation.CreationResult.{CreationResult}
+use Rattle.table_image.specs.declared.creation.CreationResult.the-variants.{Fit, Unfit}
+use Rattle.machine.specs.Creation.{blank-table, Made, create-behind, create-fit, create, stopped, machine-of}
 use Rattle.machine.specs.Reads.{SavedTo, saved-to, host-save}
 use Rattle.laws.specs.Sound.{Sound}
 use Rattle.laws.specs.After.{world-after}
@@ -33,7 +38,7 @@ use Rattle.listing.specs.declared.Counted.the-variants.{Values, Tasks}
 use Rattle.listing.specs.Listing.{Read, line-of-count, lines-of-tasks, listing}
 use Rattle.listing.proofs.Short.{numbers-told, head-short, count-short, Small, task-short, tasks-short, living-most}
 use Rattle.host.specs.Lines.{task-lines}
-use Rattle.host.specs.Hosting.{to-save, height-of, performed, RunSummaryIn, with-lines, with-save, with-run, with-creation, perform, without-table, blank-table, own}
+use Rattle.host.specs.Hosting.{to-save, height-of, performed, RunSummaryIn, with-lines, with-save, with-run, with-creation, perform, without-table, own}
 use Rattle.host.specs.Listings.{Listing, listing-of, with-lengths, values-of, list, list-run}
 use Rattle.host.specs.Answering.{new-stack, new-ends, new-pool, new-lines, new-scratch, with-listing, with-run as list-after, rafenuma-run}
 use Rattle.host_listing.proofs.Tasks.{text-of}
@@ -62,11 +67,20 @@ unfolding blank-table end-to-end never-fall start-of
 stopped-bounded ends = record { tasks = table-cleared 256 refl; joined = refl; small = omega arith; high = omega arith }
 
 -- a refused creation leaves the table
-not-made : (table : List Task) (p : PreparedIn) (refusal : Refusal) → create-as table p .answer ≡ NotCreated refusal → create-as table p .table ≡ table
-unfolding create-as
-not-made table p refusal =
-    either (λ (m : Made). m .answer ≡ NotCreated refusal → m .table ≡ table) (p .ready .fits) _ _
-    (λ _ e. absurd (let z : _≡_ {A = ℕ} 0 1 = cc in omega arith)) (λ _ _. refl)
+not-behind : (table : List Task) (image program : List ℕ) (next-id s-len : ℕ) (pool ends : List ℕ) (refusal : Refusal) (answer : InternResult)
+    → create-behind table image program next-id s-len pool ends answer .answer ≡ NotCreated refusal → create-behind table image program next-id s-len pool ends answer .table ≡ table
+unfolding create-behind
+not-behind table image program next-id s-len pool ends refusal (Interned entry bytes) e = absurd (let z : _≡_ {A = ℕ} 0 1 = cc in omega arith)
+not-behind table image program next-id s-len pool ends refusal (NotInterned other) e = refl
+
+not-fit : (table : List Task) (pool ends image program : List ℕ) (refusal : Refusal) (c : CreationResult) → create-fit table pool ends image program c .answer ≡ NotCreated refusal → create-fit table pool ends image program c .table ≡ table
+unfolding create-fit
+not-fit table pool ends image program refusal (Fit next-id count s-len) e = not-behind table image program next-id s-len _ _ refusal (interned pool ends 0 0 program .answer) e
+not-fit table pool ends image program refusal (Unfit other) e = refl
+
+not-made : (table : List Task) (pool ends image program : List ℕ) (refusal : Refusal) → create table pool ends image program .answer ≡ NotCreated refusal → create table pool ends image program .table ≡ table
+unfolding create
+not-made table pool ends image program refusal e = not-fit table pool ends image program refusal (creation-tests (length table) (length pool) (length program) image) e
 
 -- a save by the host leaves all but its buffer
 beside-save : (w : World) → host-save w ≡ saved-to (host-save w .report) (w .table) (w .stack) (w .memory) (w .pool) (w .ends) (host-save w .save)
@@ -114,12 +128,12 @@ module _ (fuel : ℕ) (stack memory pool ends save image program lines : List �
 
   -- a run leaves such ones, after a refused creation too
   started : (creation : CreateResult) → made .answer ≡ creation → Bounded (reported creation .table) (reported creation .ends) (reported creation .report .machine)
-  unfolding machine-of create
+  unfolding machine-of
   started (Created machine) is =
       sound-bounded (world-after (reported (Created machine))) (start-sound fuel _ (create-sound blank-table pool ends image program machine ends-long is stack memory save stack-long))
   started (NotCreated refusal) is =
       subst (λ (r : Reported). Bounded (r .table) (r .ends) (r .report .machine)) (sym (stays-stopped fuel (made .table) stack memory (made .pool) (made .ends) save))
-      (subst (λ (t : List Task). Bounded t (made .ends) stopped) (sym (not-made blank-table (prepare pool ends image program (length blank-table)) refusal is)) (stopped-bounded (made .ends)))
+      (subst (λ (t : List Task). Bounded t (made .ends) stopped) (sym (not-made blank-table pool ends image program refusal is)) (stopped-bounded (made .ends)))
 
   -- and so does all that is performed
   leaves : Left (perform fuel blank-table stack memory pool ends save image program lines) lines

@@ -21,32 +21,35 @@ use Rattle.machine.specs.declared.Permission.{Permission}
 use Rattle.machine.specs.Sound.{sound-record, sound-world}
 use Rattle.machine.specs.declared.Verb.the-variants.{Start}
 use Rattle.machine.specs.Calls.{may-start, allowed, not-allowed, Reported, reports, is-sound, call-with, call, start}
-use Rattle.machine.specs.Creation.{PreparedIn, prepare-fit, prepare, Made, create-as, create, stopped, machine-of}
+use Rattle.pools.specs.Pool.{interned}
+use Rattle.pools.specs.declared.InternResult.{InternResult}
+use Rattle.pools.specs.declared.InternResult.the-variants.{Interned, NotInterned}
+use Rattle.machine.specs.Creation.{blank-table, Made, create-behind, create-fit, create, stopped, machine-of}
 use Rattle.machine.specs.Reads.{saved-to, not-saved, host-save}
 use Rattle.host.specs.Lines.{task-lines}
-use Rattle.host.specs.Hosting.{unsavable, saving, with-lines, with-save, with-run, with-creation, perform, blank-table, own}
+use Rattle.host.specs.Hosting.{unsavable, saving, with-lines, with-save, with-run, with-creation, perform, own}
 
 -- ---- the image and the program
 
-prepared-image : (pool ends image program : List ℕ) (c : CreationResult) → prepare-fit pool ends image program c .image ≡ image
-unfolding prepare-fit
-prepared-image pool ends image program (Fit next-id count s-len) = refl
-prepared-image pool ends image program (Unfit refusal) = refl
+behind-image : (table : List Task) (image program : List ℕ) (next-id s-len : ℕ) (pool ends : List ℕ) (answer : InternResult) → create-behind table image program next-id s-len pool ends answer .image ≡ image
+unfolding create-behind
+behind-image table image program next-id s-len pool ends (Interned entry bytes) = refl
+behind-image table image program next-id s-len pool ends (NotInterned refusal) = refl
 
-prepared-program : (pool ends image program : List ℕ) (c : CreationResult) → prepare-fit pool ends image program c .program ≡ program
-unfolding prepare-fit
-prepared-program pool ends image program (Fit next-id count s-len) = refl
-prepared-program pool ends image program (Unfit refusal) = refl
+behind-program : (table : List Task) (image program : List ℕ) (next-id s-len : ℕ) (pool ends : List ℕ) (answer : InternResult) → create-behind table image program next-id s-len pool ends answer .program ≡ program
+unfolding create-behind
+behind-program table image program next-id s-len pool ends (Interned entry bytes) = refl
+behind-program table image program next-id s-len pool ends (NotInterned refusal) = refl
 
-created-image : (table : List Task) (p : PreparedIn) (fits : Bool) → p .ready .fits ≡ fits → create-as table p .image ≡ p .image
-unfolding create-as
-created-image table p true test = rw test
-created-image table p false test = rw test
+created-image : (table : List Task) (pool ends image program : List ℕ) (c : CreationResult) → create-fit table pool ends image program c .image ≡ image
+unfolding create-fit
+created-image table pool ends image program (Fit next-id count s-len) = behind-image table image program next-id s-len _ _ (interned pool ends 0 0 program .answer)
+created-image table pool ends image program (Unfit refusal) = refl
 
-created-program : (table : List Task) (p : PreparedIn) (fits : Bool) → p .ready .fits ≡ fits → create-as table p .program ≡ p .program
-unfolding create-as
-created-program table p true test = rw test
-created-program table p false test = rw test
+created-program : (table : List Task) (pool ends image program : List ℕ) (c : CreationResult) → create-fit table pool ends image program c .program ≡ program
+unfolding create-fit
+created-program table pool ends image program (Fit next-id count s-len) = behind-program table image program next-id s-len _ _ (interned pool ends 0 0 program .answer)
+created-program table pool ends image program (Unfit refusal) = refl
 
 performed-image : (fuel : ℕ) (stack memory save lines : List ℕ) (m : Made) → with-creation fuel stack memory save lines m .image ≡ m .image
 unfolding with-creation with-run with-save with-lines
@@ -59,19 +62,17 @@ performed-program fuel stack memory save lines m = refl
 module _ (fuel : ℕ) (stack memory pool ends save image program lines : List ℕ) where
   -- each byte of the image stays
   pub image-stays : own fuel stack memory pool ends save image program lines .image ≡ image
-  unfolding own perform create prepare
+  unfolding own perform create
   image-stays =
       performed-image fuel stack memory save lines (create blank-table pool ends image program)
-      ∙ created-image blank-table (prepare pool ends image program (length blank-table)) (prepare pool ends image program (length blank-table) .ready .fits) refl
-      ∙ prepared-image pool ends image program (creation-tests (length blank-table) (length pool) (length program) image)
+      ∙ created-image blank-table pool ends image program (creation-tests (length blank-table) (length pool) (length program) image)
 
   -- each byte of the program stays
   pub program-stays : own fuel stack memory pool ends save image program lines .program ≡ program
-  unfolding own perform create prepare
+  unfolding own perform create
   program-stays =
       performed-program fuel stack memory save lines (create blank-table pool ends image program)
-      ∙ created-program blank-table (prepare pool ends image program (length blank-table)) (prepare pool ends image program (length blank-table) .ready .fits) refl
-      ∙ prepared-program pool ends image program (creation-tests (length blank-table) (length pool) (length program) image)
+      ∙ created-program blank-table pool ends image program (creation-tests (length blank-table) (length pool) (length program) image)
 
 -- ---- a machine that does not start, and one that no save takes
 

@@ -11,7 +11,7 @@ use borrow.Author.Tests.{leb-true, leb-false}
 use Rattle.errors.specs.declared.Refusal.the-variants.{BytesToStringConversionError}
 use Rattle.image.specs.Image.{ImageTask, framed, body}
 use Rattle.image.specs.Numbers.{little-endian}
-use Rattle.image.specs.Reading.{on}
+use Rattle.image.specs.Walking.{on}
 use Rattle.image.specs.Slots.{saved-task}
 use Rattle.image.specs.Writing.{Put, put, puts, size-of}
 use Rattle.image.specs.declared.SizeResult.the-variants.{Size, NoSize}

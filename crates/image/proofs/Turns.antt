@@ -6,7 +6,7 @@ use mathlib.Core.Path.{_≡_, refl, ap, sym, _∙_}
 use native.Mathlib.Omega.{arith}
 use Rattle.errors.specs.declared.Refusal.{Refusal}
 use Rattle.image.specs.Image.{framed, body}
-use Rattle.image.specs.Reading.{on}
+use Rattle.image.specs.Walking.{on}
 use Rattle.image.specs.Slots.{saved-task, task-in}
 use Rattle.image.specs.Writing.{put, puts, measure, added, measure-slot, save-slot}
 use Rattle.image.specs.declared.SizeResult.the-variants.{Size, NoSize}

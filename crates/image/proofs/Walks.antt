@@ -12,7 +12,8 @@ use borrow.Author.Tests.{ne-eqb, eq-eqb, le-leb}
 use Rattle.errors.specs.declared.Refusal.the-variants.{BadImage}
 use Rattle.image.proofs.Rules.{Rules, rules-good, good-rules, Head, head-headed, headed-head, refuted}
 use Rattle.image.specs.Image.{ImageTask, Read, sound, bad-at, body-length, kind, next-id-in, task-count, id-in, title-length, task-at, headed, good, joined, read-from, counted, read-image}
-use Rattle.image.specs.Reading.{front, s-len, instruction-bytes, walked, tested}
+use Rattle.image.specs.Reading.{s-len, instruction-bytes, tested}
+use Rattle.image.specs.Walking.{front, walked}
 use Rattle.image.specs.declared.Front.the-variants.{Whole, Broken}
 use Rattle.image.specs.declared.Front.{Front}
 use Rattle.image.specs.declared.ImageResult.the-variants.{Sound, NotSound}

@@ -1,6 +1,7 @@
 pub mod Numbers
 pub mod Image
 pub mod Slots
-pub mod Reading
-pub mod Writing
 pub mod Table
+pub mod Reading
+pub mod Walking
+pub mod Writing

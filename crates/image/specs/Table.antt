@@ -49,8 +49,8 @@ first-refusal ends entries [] = none
 first-refusal ends entries (task ∷ tasks) = or-else (task-refusal ends entries task) (first-refusal ends entries tasks)
 
 -- the image of some tasks, each with its instructions
-unfoldable pub image-of : ℕ → List Task → List ℕ → List ℕ → Image
-image-of next-id tasks pool ends = record { next-id = next-id; tasks = map (task-in pool ends) tasks }
+unfoldable pub image-of-tasks : ℕ → List Task → List ℕ → List ℕ → Image
+image-of-tasks next-id tasks pool ends = record { next-id = next-id; tasks = map (task-in pool ends) tasks }
 
 -- an answer, and the save buffer after it
 pub record SavedTable : Type 0 where
@@ -74,7 +74,7 @@ saved-unless none image save = saved-over image save
 
 -- tasks saved: 12 and 15 of the first that is refused, then 24
 unfoldable pub save-tasks : ℕ → List Task → List ℕ → List ℕ → ℕ → List ℕ → SavedTable
-save-tasks next-id tasks pool ends entries save = saved-unless (first-refusal ends entries tasks) (written (image-of next-id tasks pool ends)) save
+save-tasks next-id tasks pool ends entries save = saved-unless (first-refusal ends entries tasks) (written (image-of-tasks next-id tasks pool ends)) save
 
 -- S_SAVE: each living task by id
 unfoldable pub save-table : ℕ → List Task → List ℕ → List ℕ → ℕ → List ℕ → SavedTable

@@ -12,7 +12,7 @@ use Rattle.storage.specs.declared.Task.{Task}
 use Rattle.utf8.specs.Utf8.{valid}
 use Rattle.image.specs.Image.{ImageTask, framed, body}
 use Rattle.image.specs.Slots.{task-in}
-use Rattle.image.specs.Reading.{on}
+use Rattle.image.specs.Walking.{on}
 use Rattle.image.specs.declared.SizeResult.{SizeResult}
 use Rattle.image.specs.declared.SizeResult.the-variants.{Size, NoSize}
 

@@ -21,7 +21,7 @@ use Rattle.table_image.specs.declared.InUse.{InUse}
 use Rattle.table_image.specs.Creation.{creation-tests}
 use Rattle.table_image.specs.declared.creation.CreationResult.{CreationResult}
 use Rattle.table_image.specs.declared.creation.CreationResult.the-variants.{Fit, Unfit}
-use Rattle.roundtrips.proofs.Created.{Fits, fits, count-told, records-told}
+use Rattle.table_image.proofs.Fits.{Fits, fits, count-told, records-told}
 use Rattle.table_image.proofs.Loads.{load-table-tasks}
 use Rattle.image.proofs.Readings as readings
 use Rattle.machine.specs.declared.Machine.{Machine}
@@ -29,7 +29,9 @@ use Rattle.machine.specs.declared.Phase.the-variants.{New}
 use Rattle.machine.specs.Machines.{with-pool}
 use Rattle.machine.specs.World.{world}
 use Rattle.machine.specs.Sound.{sound-frames}
-use Rattle.machine.specs.Creation.{new-machine, unfit, with-program, interned-program, prepare-fit, prepare, Made, made, create-as, create}
+use Rattle.machine.specs.Creation.{new-machine, Made, made, create}
+use Rattle.mechanism.specs.Creating.{unfit, with-program, interned-program, prepare-fit, prepare, create-as, create-by-parts}
+use Rattle.mechanism.proofs.Creates.{create-is}
 use Rattle.machine.specs.declared.CreateResult.{CreateResult}
 use Rattle.machine.specs.declared.CreateResult.the-variants.{Created, NotCreated}
 use Rattle.laws.specs.Sound.{Sound}
@@ -161,8 +163,8 @@ module _ (table : List Task) (pool ends image program : List ℕ) (lent : length
   by-tests (Unfit refusal) e = not-creates refusal table pool ends image program
 
   creating : Creates image (create table pool ends image program)
-  unfolding create prepare
-  creating = by-tests _ refl
+  unfolding create-by-parts prepare
+  creating = subst (Creates image) (create-is table pool ends image program) (by-tests _ refl)
 
 machine-of : Machine → CreateResult → Machine
 machine-of other (Created machine) = machine

@@ -10,7 +10,7 @@ use borrow.Author.Tests.{leb-true}
 use Rattle.errors.specs.declared.Refusal.{Refusal}
 use Rattle.storage.specs.declared.Task.{Task}
 use Rattle.image.specs.Image.{written}
-use Rattle.image.specs.Table.{living-tasks, first-refusal, image-of, SavedTable, saved-table, saved-over, saved-unless, save-tasks, save-table}
+use Rattle.image.specs.Table.{living-tasks, first-refusal, image-of-tasks, SavedTable, saved-table, saved-over, saved-unless, save-tasks, save-table}
 use Rattle.image.specs.declared.SaveResult.the-variants.{Saved, NotSaved}
 use Rattle.machine.specs.declared.Machine.{Machine}
 use Rattle.machine.specs.Machines.{with-saved}
@@ -33,7 +33,7 @@ saved-keeps none image save = saved-over-keeps image save
 
 pub save-keeps : (next-id : ℕ) (table : List Task) (pool ends : List ℕ) (entries : ℕ) (save : List ℕ) → Saves (length save) (save-table next-id table pool ends entries save)
 unfolding save-table save-tasks
-save-keeps next-id table pool ends entries save = saved-keeps (first-refusal ends entries (living-tasks table)) (written (image-of next-id (living-tasks table) pool ends)) save
+save-keeps next-id table pool ends entries save = saved-keeps (first-refusal ends entries (living-tasks table)) (written (image-of-tasks next-id (living-tasks table) pool ends)) save
 
 -- the length of that image kept in the machine
 pub image-sound : {memory pool save new : ℕ} {stack ends : List ℕ} {machine : Machine} (size : ℕ) → Machined memory pool save stack ends machine → size ≤ new → Machined memory pool new stack ends (with-saved machine size)

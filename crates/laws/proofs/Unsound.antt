@@ -17,7 +17,7 @@ use Rattle.machine.specs.World.{World}
 use Rattle.machine.specs.Sound.{sound-record, sound-world}
 use Rattle.machine.specs.Calls.{allowed, not-allowed, reports, is-sound, call-with, call}
 use Rattle.machine.specs.Reads.{readable, value-at, read-to, value-read, task-result, task-as, task-read, not-saved, saved-to, host-save}
-use Rattle.machine.specs.Creation.{unfit, prepare-fit, prepare, made, create-as, create}
+use Rattle.machine.specs.Creation.{made, create-fit, create}
 use Rattle.machine.specs.declared.Verb.{Verb}
 use Rattle.machine.specs.declared.TaskResult.the-variants.{NotReadable}
 use Rattle.machine.specs.declared.CreateResult.the-variants.{NotCreated}
@@ -51,5 +51,5 @@ other-slots w other = simp (other)
 -- and creation over one is refused before anything is written
 pub creation-refused : (table : List Task) (pool ends image program : List ℕ) → eqb (length table) 256 ≡ false
     → create table pool ends image program ≡ made (NotCreated WrongPhaseOrUnsound) table pool ends image program
-unfolding create create-as prepare prepare-fit creation-tests unfit
+unfolding create create-fit creation-tests
 creation-refused table pool ends image program other = simp (other)

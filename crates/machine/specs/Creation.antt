@@ -1,19 +1,13 @@
 -- Creation: its tests, the program as the pool's first entry, and the image's tasks behind it.
 use Prim.Native.Nat.{ℕ}
-use mathlib.Core.Bool.{Bool, true, false, cond}
 use mathlib.Core.List.{List}
 use lib.ListN.{length, replicate}
-use Rattle.errors.specs.declared.Refusal.{Refusal}
-use Rattle.errors.specs.declared.Refusal.the-variants.{PoolFull}
 use Rattle.pools.specs.Pool.{Pooled, interned}
 use Rattle.pools.specs.declared.InternResult.{InternResult}
 use Rattle.pools.specs.declared.InternResult.the-variants.{Interned, NotInterned}
 use Rattle.storage.specs.declared.Task.{Task}
 use Rattle.storage.specs.Tasks.{blank}
-use Rattle.image.specs.Table.{Loading}
-use Rattle.table_image.specs.Loops.{load-records}
-use Rattle.table_image.specs.Tables.{in-use, loading}
-use Rattle.table_image.specs.declared.InUse.{InUse}
+use Rattle.image.specs.Table.{Loading, load-table}
 use Rattle.table_image.specs.Creation.{creation-tests}
 use Rattle.table_image.specs.declared.creation.CreationResult.{CreationResult}
 use Rattle.table_image.specs.declared.creation.CreationResult.the-variants.{Fit, Unfit}
@@ -21,11 +15,9 @@ use Rattle.inlinevec.specs.declared.Loop.{Loop}
 use Rattle.inlinevec.specs.declared.Frame.{Frame}
 use Rattle.machine.specs.declared.Machine.{Machine}
 use Rattle.machine.specs.declared.Phase.the-variants.{New, Stopped}
-use Rattle.machine.specs.Machines.{with-pool}
 use Rattle.machine.specs.Calls.{phased}
 use Rattle.machine.specs.declared.CreateResult.{CreateResult}
 use Rattle.machine.specs.declared.CreateResult.the-variants.{Created, NotCreated}
-use Rattle.machine.specs.declared.Preparation.{Preparation}
 
 -- no loop, and main at its start
 abbrev pub no-loop : Loop
@@ -49,44 +41,6 @@ new-machine bytes entries next-id count = record {
   saved = 0;
 }
 
--- what is prepared, and the pool, its ends, the image and the program after it
-pub record PreparedIn : Type 0 where
-  pub ready : Preparation
-  pub pool : List ℕ
-  pub ends : List ℕ
-  pub image : List ℕ
-  pub program : List ℕ
-
-abbrev pub prepared : Preparation → List ℕ → List ℕ → List ℕ → List ℕ → PreparedIn
-prepared ready pool ends image program = record { ready = ready; pool = pool; ends = ends; image = image; program = program }
-
--- a creation that is refused, and one that goes on
-unfoldable pub unfit : Refusal → Preparation
-unfit refusal = record { fits = false; refusal = refusal; machine = new-machine 0 0 0 0; count = 0 }
-
-abbrev pub fit : Machine → ℕ → Preparation
-fit machine count = record { fits = true; refusal = PoolFull; machine = machine; count = count }
-
--- the program is entry 0
-unfoldable pub with-program : ℕ → ℕ → ℕ → InternResult → Preparation
-with-program next-id count s-len (Interned entry bytes) = fit (new-machine bytes 1 next-id s-len) count
-with-program next-id count s-len (NotInterned refusal) = unfit refusal
-
-abbrev pub interned-program : ℕ → ℕ → ℕ → List ℕ → List ℕ → Pooled → PreparedIn
-interned-program next-id count s-len image program p = prepared (with-program next-id count s-len (p .answer)) (p .pool) (p .ends) image program
-
-unfoldable pub prepare-fit : List ℕ → List ℕ → List ℕ → List ℕ → CreationResult → PreparedIn
-prepare-fit pool ends image program (Fit next-id count s-len) = interned-program next-id count s-len image program (interned pool ends 0 0 program)
-prepare-fit pool ends image program (Unfit refusal) = prepared (unfit refusal) pool ends image program
-
--- 26 for the table, then 1, 28, 25, 22, before anything is written
-unfoldable pub prepare : List ℕ → List ℕ → List ℕ → List ℕ → ℕ → PreparedIn
-prepare pool ends image program slots = prepare-fit pool ends image program (creation-tests slots (length pool) (length program) image)
-
--- the machine, once its tasks are loaded
-abbrev pub created : Machine → InUse → CreateResult
-created machine used = Created (with-pool machine (used .bytes) (used .entries))
-
 -- an answer, and the table, the pool, its ends, the image and the program after it
 pub record Made : Type 0 where
   pub answer : CreateResult
@@ -100,22 +54,38 @@ abbrev pub made : CreateResult → List Task → List ℕ → List ℕ → List 
 made answer table pool ends image program =
     record { answer = answer; table = table; pool = pool; ends = ends; image = image; program = program }
 
--- the tasks of the image in a table whose other slots are blank
-abbrev pub loaded : Machine → List ℕ → List ℕ → Loading → Made
-loaded machine image program l =
-    made (created machine (in-use (l .bytes) (l .entries))) (l .table) (l .pool) (l .ends) image program
+-- the program stands in the pool as its only entry
+abbrev pub program-first : List Task → List ℕ → List ℕ → ℕ → Loading
+program-first table pool ends bytes = record { table = table; pool = pool; ends = ends; bytes = bytes; entries = 1 }
 
-unfoldable pub create-as : List Task → PreparedIn → Made
-create-as table p =
-    cond (p .ready .fits)
-    (loaded (p .ready .machine) (p .image) (p .program)
-    (load-records (p .ready .count) (p .image) 14
-    (loading (replicate (length table) blank) (p .pool) (p .ends) (in-use (p .ready .machine .pool) (p .ready .machine .entries)))))
-    (made (NotCreated (p .ready .refusal)) table (p .pool) (p .ends) (p .image) (p .program))
+-- the machine, once the image's tasks are loaded
+abbrev pub loaded : ℕ → ℕ → List ℕ → List ℕ → Loading → Made
+loaded next-id s-len image program l =
+    made (Created (new-machine (l .bytes) (l .entries) next-id s-len)) (l .table) (l .pool) (l .ends) image program
 
--- creation
+-- the program is entry 0, and behind it come the image's tasks, in a table whose other slots are blank
+unfoldable pub create-behind : List Task → List ℕ → List ℕ → ℕ → ℕ → List ℕ → List ℕ → InternResult → Made
+create-behind table image program next-id s-len pool ends (Interned entry bytes) =
+    loaded next-id s-len image program (load-table image (program-first table pool ends bytes))
+create-behind table image program next-id s-len pool ends (NotInterned refusal) = made (NotCreated refusal) table pool ends image program
+
+-- the same, from the pool that interning leaves
+abbrev pub entered : List Task → List ℕ → List ℕ → ℕ → ℕ → Pooled → Made
+entered table image program next-id s-len p = create-behind table image program next-id s-len (p .pool) (p .ends) (p .answer)
+
+-- what fits is created; where a test refuses, nothing is written
+unfoldable pub create-fit : List Task → List ℕ → List ℕ → List ℕ → List ℕ → CreationResult → Made
+create-fit table pool ends image program (Fit next-id count s-len) = entered table image program next-id s-len (interned pool ends 0 0 program)
+create-fit table pool ends image program (Unfit refusal) = made (NotCreated refusal) table pool ends image program
+
+-- creation: 26 for the table, then 1, 28, 25, 22; then the program and the tasks
 unfoldable pub create : List Task → List ℕ → List ℕ → List ℕ → List ℕ → Made
-create table pool ends image program = create-as table (prepare pool ends image program (length table))
+create table pool ends image program =
+    create-fit table pool ends image program (creation-tests (length table) (length pool) (length program) image)
+
+-- a table of 256 slots, all blank
+unfoldable pub blank-table : List Task
+blank-table = replicate 256 blank
 
 -- ---- after it
 

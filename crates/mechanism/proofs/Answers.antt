@@ -24,7 +24,9 @@ use Rattle.machine.specs.Sound.{Tested, tested, Beside, beside, sound-record, s
 use Rattle.machine.specs.Calls.{reported, allowed, report, not-allowed, at-end, call-with, call}
 use Rattle.machine.specs.Reads.{read-to, value-at, value-read, task-at, task-read, saved-to, host-saved, not-saved, host-save-as, host-save}
 use Rattle.machine.specs.Reads as reads
-use Rattle.machine.specs.Creation.{prepared, prepare, made, created, loaded, create-as, create}
+use Rattle.machine.specs.Creation.{made, create}
+use Rattle.mechanism.specs.Creating.{prepared, prepare, created-with, loaded-from, create-as, create-by-parts}
+use Rattle.mechanism.proofs.Creates.{create-is}
 use Rattle.machine.specs.declared.Permission.{Permission}
 use Rattle.machine.specs.declared.Verb.{Verb}
 use Rattle.machine.specs.declared.Report.{Report}
@@ -53,17 +55,17 @@ module _ (table : List Task) (pool ends image program : List ℕ) {ready : Prepa
   -- it goes on to the image's tasks
   pub creates : {used : InUse} {r : CreateResult} {table″ : List Task} {pool″ ends″ image″ : List ℕ} → ready .fits ≡ true
       → after (loading table″ pool″ ends″ used) image″ ≡ after (load-records (ready .count) image′ 14 (loading (replicate (length table) blank) pool′ ends′ (in-use (ready .machine .pool) (ready .machine .entries)))) image′
-      → r ≡ created (ready .machine) used → made r table″ pool″ ends″ image″ program′ ≡ create table pool ends image program
-  unfolding create create-as
+      → r ≡ created-with (ready .machine) used → made r table″ pool″ ends″ image″ program′ ≡ create table pool ends image program
+  unfolding create-by-parts create-as
   creates {used} {r} {table″} {pool″} {ends″} {image″} fits f g =
       ap (λ (a : CreateResult). made a table″ pool″ ends″ image″ program′) g
-      ∙ ap (λ (a : After Loading (List ℕ)). loaded (ready .machine) (a .lent) program′ (a .answer)) f
-      ∙ sym (simp (fits)) ∙ ap (create-as table) e
+      ∙ ap (λ (a : After Loading (List ℕ)). loaded-from (ready .machine) (a .lent) program′ (a .answer)) f
+      ∙ sym (simp (fits)) ∙ ap (create-as table) e ∙ create-is table pool ends image program
 
   -- it is refused
   pub creates-none : {r : CreateResult} → ready .fits ≡ false → r ≡ NotCreated (ready .refusal) → made r table pool′ ends′ image′ program′ ≡ create table pool ends image program
-  unfolding create create-as
-  creates-none fits g = ap (λ (a : CreateResult). made a table pool′ ends′ image′ program′) g ∙ sym (simp (fits)) ∙ ap (create-as table) e
+  unfolding create-by-parts create-as
+  creates-none fits g = ap (λ (a : CreateResult). made a table pool′ ends′ image′ program′) g ∙ sym (simp (fits)) ∙ ap (create-as table) e ∙ create-is table pool ends image program
 
 -- ---- what follows a test
 

@@ -16,3 +16,4 @@ pub mod Parts
 pub mod Operands
 pub mod TaskParts
 pub mod Whole
+pub mod Creates

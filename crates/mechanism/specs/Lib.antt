@@ -15,3 +15,4 @@ pub mod Act
 pub mod Advance
 pub mod Turns
 pub mod Step
+pub mod Creating

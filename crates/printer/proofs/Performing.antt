@@ -16,11 +16,11 @@ use Rattle.machine.specs.declared.Report.{Report}
 use Rattle.machine.specs.declared.SaveReport.{SaveReport}
 use Rattle.machine.specs.declared.Verb.{Verb}
 use Rattle.machine.specs.Calls.{Reported, reported, call}
-use Rattle.machine.specs.Creation.{machine-of, made, create}
+use Rattle.machine.specs.Creation.{blank-table, machine-of, made, create}
 use Rattle.machine.specs.Reads.{SavedTo, saved-to, host-save}
 use Rattle.printer.specs.declared.CallOutcome.{CallOutcome}
 use Rattle.printer.specs.Asked.{verb-at, fuel-at, verb-of, ran, saved, count-of}
-use Rattle.printer.specs.Shows.{CallOn, acted, as-run, as-save, performed, left, after-call, after-calls, lent, without-table, played, blank-table, own}
+use Rattle.printer.specs.Shows.{CallOn, acted, as-run, as-save, performed, left, after-call, after-calls, lent, without-table, played, own}
 
 -- ---- one call
 

@@ -3,12 +3,10 @@ use Prim.Native.Nat.{ℕ, zero, suc}
 use mathlib.Core.Bool.{cond}
 use mathlib.Core.List.{List}
 use lib.Dec.{ltb}
-use lib.ListN.{replicate}
 use Rattle.storage.specs.declared.Task.{Task}
-use Rattle.storage.specs.Tasks.{blank}
 use Rattle.machine.specs.World.{World, world}
 use Rattle.machine.specs.Calls.{Reported, call}
-use Rattle.machine.specs.Creation.{machine-of, Made, create}
+use Rattle.machine.specs.Creation.{machine-of, blank-table, Made, create}
 use Rattle.machine.specs.Reads.{SavedTo, host-save}
 use Rattle.printer.specs.declared.CallOutcome.{CallOutcome}
 use Rattle.printer.specs.Asked.{verb-at, fuel-at, verb-of, ran, saved, count-of}
@@ -80,11 +78,7 @@ played from count stack memory save calls m =
     without-table (m .image) (m .program) calls
     (after-calls calls from (count-of (m .answer) count) (world (machine-of (m .answer)) (m .table) stack memory (m .pool) (m .ends) save))
 
--- 256 blank slots
-unfoldable pub blank-table : List Task
-blank-table = replicate 256 blank
-
--- a creation over them, then the calls
+-- a creation over a blank table, then the calls
 unfoldable pub own : ℕ → ℕ → List ℕ → List ℕ → List ℕ → List ℕ → List ℕ → List ℕ → List ℕ → List ℕ → Lent
 own from count stack memory pool ends save image program calls =
     played from count stack memory save calls (create blank-table pool ends image program)

@@ -11,11 +11,12 @@ use Rattle.storage.specs.Tasks.{new-task, blank, no-title, title-of}
 use Rattle.storage.specs.declared.Task.{Task}
 use Rattle.image.specs.Image.{header, records, written as written-image, read-image, framed, body, task-at, headed, good, joined, read-from, counted}
 use Rattle.image.specs.Numbers.{little-endian, number-at}
-use Rattle.image.specs.Reading.{tested, read-record, s-len, instruction-bytes, on}
+use Rattle.image.specs.Reading.{tested, s-len, instruction-bytes}
+use Rattle.image.specs.Walking.{read-record, on}
 use Rattle.image.specs.Slots.{loaded-task, saved-task, task-in}
-use Rattle.image.specs.Table.{living-tasks, refusal-by, task-refusal, or-else, first-refusal, image-of, SavedTable, saved-over, saved-unless, save-tasks, save-table, Loading, bytes-after, entries-after, next-reference}
+use Rattle.image.specs.Table.{living-tasks, refusal-by, task-refusal, or-else, first-refusal, image-of-tasks, SavedTable, saved-over, saved-unless, save-tasks, save-table, Loading, bytes-after, entries-after, next-reference}
 use Rattle.image.specs.Writing.{measure-slot, save-slot, added, puts, size-of, sized, measure}
-use Rattle.table_image.specs.Loops.{load-records, load-record, placed}
+use Rattle.table_image.specs.Loops.{load-records, load-record, record-placed}
 use Rattle.image.specs.declared.ImageResult.the-variants.{NotSound}
 use Rattle.image.specs.declared.SaveResult.the-variants.{Saved}
 use Rattle.image.specs.declared.SizeResult.the-variants.{NoSize, Size}
@@ -81,7 +82,7 @@ pub record Examples : Type 0 where
   pub saved-length : saved 33 .answer ≡ Saved 32
 
 pub examples : Examples
-unfolding UTF8-char holds lead from valid end-of start-of bounds entry-of has-room interned no-title blank title-of new-task framed header body task-at headed good joined read-from counted read-image little-endian number-at s-len instruction-bytes tested on read-record loaded-task saved-task added measure-slot save-slot records written-image living-tasks refusal-by task-refusal or-else first-refusal image-of saved-over saved-unless save-tasks save-table bytes-after entries-after next-reference load-record placed load-records puts task-in size-of sized measure image-tests creation-tests
+unfolding UTF8-char holds lead from valid end-of start-of bounds entry-of has-room interned no-title blank title-of new-task framed header body task-at headed good joined read-from counted read-image little-endian number-at s-len instruction-bytes tested on read-record loaded-task saved-task added measure-slot save-slot records written-image living-tasks refusal-by task-refusal or-else first-refusal image-of-tasks saved-over saved-unless save-tasks save-table bytes-after entries-after next-reference load-record record-placed load-records puts task-in size-of sized measure image-tests creation-tests
 examples = record {
   second-header = refl;
   states-read = refl;

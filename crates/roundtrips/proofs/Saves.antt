@@ -13,7 +13,7 @@ use Rattle.errors.specs.declared.Refusal.the-variants.{SaveBufferTooShort}
 use Rattle.roundtrips.proofs.SaveLoad.{save-load}
 use Rattle.image.specs.Image.{ImageTask, Image, written, Sound, sound, read-image}
 use Rattle.image.specs.Slots.{saved-task, title-in, task-in}
-use Rattle.image.specs.Table.{living-tasks, refusal-by, task-refusal, or-else, first-refusal, image-of, saved-table, saved-over, saved-unless, save-tasks, save-table}
+use Rattle.image.specs.Table.{living-tasks, refusal-by, task-refusal, or-else, first-refusal, image-of-tasks, saved-table, saved-over, saved-unless, save-tasks, save-table}
 use Rattle.image.specs.declared.SaveResult.the-variants.{Saved, NotSaved}
 use Rattle.pools.specs.Pool.{bounds}
 use Rattle.storage.specs.Tasks.{blank}
@@ -74,7 +74,7 @@ module _ {table : List Task} {pool ends : List ℕ} {entries : ℕ} where
 module _ {table : List Task} {pool ends : List ℕ} {entries : ℕ} (image : Image) (l : Lists table pool ends entries (length table) 0 (image .tasks)) (save : List ℕ) where
   -- the image is written where it fits
   saved-lists : save-table (image .next-id) table pool ends entries save ≡ saved-over (written image) save
-  unfolding save-table save-tasks saved-unless image-of
+  unfolding save-table save-tasks saved-unless image-of-tasks
   saved-lists = let k = lists-kept l (omega arith) in rw (k .none-refused, k .tasks-are)
 
   -- a table that holds an image's tasks is saved as the image, where it fits, and bytes past it stay

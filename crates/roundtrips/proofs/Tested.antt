@@ -13,28 +13,9 @@ use Rattle.roundtrips.proofs.Places.{Breaks, bad-place}
 use Rattle.image.proofs.Rules.{Head, headed-head, head-headed, clash}
 use Rattle.image.specs.Image.{ImageTask, Image, Rising, none, more, Read, sound, bad-at, next-id-in, task-count, headed, read-from, counted, read-image}
 use Rattle.image.specs.Numbers.{Bytes}
-use Rattle.image.specs.Reading.{s-len, instruction-bytes, tested}
-use Rattle.image.specs.declared.ImageResult.the-variants.{Sound}
+use Rattle.image.specs.Reading.{s-len}
 
 -- ---- a sound image
-
--- an image of this next id, with so many tasks, this S_LEN and so many bytes of instructions
-pub record Tested (bytes : List ℕ) (next-id count len instructions : ℕ) : Type 0 where
-  pub image : Image
-  pub read : read-image bytes ≡ sound image
-  pub next-id-is : image .next-id ≡ next-id
-  pub count-is : length (image .tasks) ≡ count
-  pub s-len-is : s-len (image .tasks) ≡ len
-  pub bytes-are : instruction-bytes (image .tasks) ≡ instructions
-
--- the answer `Sound` tells of such an image
-pub tested-sound : (bytes : List ℕ) (next-id count len instructions : ℕ) → Sound next-id count len instructions ≡ tested (read-image bytes) → Tested bytes next-id count len instructions
-unfolding tested
-tested-sound bytes next-id count len instructions e = by (read-image bytes) refl e
-  where
-    by : (r : Read Image) → read-image bytes ≡ r → Sound next-id count len instructions ≡ tested r → Tested bytes next-id count len instructions
-    by (sound image) q j = record { image = image; read = q; next-id-is = cc; count-is = cc; s-len-is = cc; bytes-are = cc }
-    by (bad-at place) q j = absurd (let z : _≡_ {A = ℕ} 0 1 = cc in omega arith)
 
 -- S_LEN is at most the next id
 pub s-len-most : {next-id low : ℕ} {tasks : List ImageTask} → Rising next-id low tasks → s-len tasks ≤ next-id

@@ -13,8 +13,8 @@ use Rattle.inlinevec.specs.Stacks.{last-two}
 use Rattle.storage.specs.declared.Task.{Task}
 use Rattle.storage.specs.Tasks.{blank}
 use Rattle.image.specs.Table.{Loading, bytes-after, entries-after, next-reference}
-use Rattle.table_image.specs.Loops.{instructions-of, load-record, placed, load-records}
-use Rattle.image.specs.Reading.{read-record}
+use Rattle.table_image.specs.Loops.{instructions-of, load-record, record-placed, load-records}
+use Rattle.image.specs.Walking.{read-record}
 use Rattle.table_image.specs.Tables.{in-use, loading}
 use Rattle.table_image.specs.declared.creation.CreationResult.{CreationResult}
 use Rattle.table_image.specs.declared.creation.CreationResult.the-variants.{Fit, Unfit}
@@ -22,7 +22,9 @@ use Rattle.machine.specs.declared.Machine.{Machine}
 use Rattle.machine.specs.Machines.{current}
 use Rattle.machine.specs.World.{world}
 use Rattle.machine.specs.Calls.{may-continue}
-use Rattle.machine.specs.Creation.{new-machine, unfit, with-program, interned-program, prepare-fit, prepare, Made, made, loaded, create-as, create}
+use Rattle.machine.specs.Creation.{new-machine, Made, made, create}
+use Rattle.mechanism.specs.Creating.{unfit, with-program, interned-program, prepare-fit, prepare, loaded-from, create-as, create-by-parts}
+use Rattle.mechanism.proofs.Creates.{create-is}
 use Rattle.machine.specs.declared.CreateResult.the-variants.{Created, NotCreated}
 use Rattle.labels.specs.declared.Kind.{Kind}
 use Rattle.labels.specs.Labels.{Labelled}
@@ -56,7 +58,7 @@ Loaded program l = Programmed program (l .pool) (l .ends) (l .bytes) (l .entries
 
 -- the tasks of an image, whatever it holds
 loads-keep : {program : List ℕ} (n : ℕ) (image : List ℕ) (place : ℕ) (l : Loading) → Loaded program l → Loaded program (load-records n image place l)
-unfolding load-records placed load-record
+unfolding load-records record-placed load-record
 loads-keep zero image place l p = p
 loads-keep (suc n) image place l p =
     loads-keep n image _ _ (interned-keeps (l .pool) (l .ends) (l .bytes) (l .entries) (instructions-of image (read-record image place (next-reference (l .entries)))) p)
@@ -74,7 +76,7 @@ module _ (table : List Task) (pool ends image program : List ℕ) (lent : length
   entered = interned pool ends 0 0 program
 
   -- the tasks are loaded behind the program
-  loaded-makes : (bytes next-id s-len : ℕ) (l : Loading) → Loaded program l → Makes program (loaded (new-machine bytes 1 next-id s-len) image program l)
+  loaded-makes : (bytes next-id s-len : ℕ) (l : Loading) → Loaded program l → Makes program (loaded-from (new-machine bytes 1 next-id s-len) image program l)
   unfolding may-continue current last-two
   loaded-makes bytes next-id s-len l p =
       makes refl (record { one-frame = refl; in-main = refl; ends-lent = p .lent; pooled = p .pooled; some-entries = p .some-entries; program = p .first }) refl refl
@@ -97,8 +99,8 @@ module _ (table : List Task) (pool ends image program : List ℕ) (lent : length
   by-tests (Unfit refusal) = makes-none
 
   creates : Makes program (create table pool ends image program)
-  unfolding create prepare
-  creates = by-tests _
+  unfolding create-by-parts prepare
+  creates = subst (Makes program) (create-is table pool ends image program) (by-tests _)
 
 -- the machine that was made
 made-ready : (program : List ℕ) (kinds : List Kind) (labelled : Labelled program kinds) (m : Made) (machine : Machine) (stack memory save : List ℕ) → length stack ≡ 1000 → Makes program m → m .answer ≡ Created machine

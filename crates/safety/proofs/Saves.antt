@@ -14,7 +14,7 @@ use Rattle.image.specs.declared.SaveResult.{SaveResult}
 use Rattle.image.specs.declared.SaveResult.the-variants.{Saved, NotSaved}
 use Rattle.image.specs.Image.{written}
 use Rattle.image.specs.Slots.{title-in}
-use Rattle.image.specs.Table.{living-tasks, refusal-by, task-refusal, or-else, first-refusal, image-of, SavedTable, saved-over, saved-unless, save-tasks, save-table}
+use Rattle.image.specs.Table.{living-tasks, refusal-by, task-refusal, or-else, first-refusal, image-of-tasks, SavedTable, saved-over, saved-unless, save-tasks, save-table}
 use Rattle.mechanism.proofs.Either.{either}
 use Rattle.safety.proofs.Holds.{May}
 
@@ -50,4 +50,4 @@ saved-saves image save (refusal-may may) = not-saved may
 
 pub table-saves : (next-id : ℕ) (table : List Task) (pool ends : List ℕ) (entries : ℕ) (save : List ℕ) → SavesAs (save-table next-id table pool ends entries save .answer)
 unfolding save-table save-tasks
-table-saves next-id table pool ends entries save = saved-saves (written (image-of next-id (living-tasks table) pool ends)) save (all-refuse ends entries (living-tasks table))
+table-saves next-id table pool ends entries save = saved-saves (written (image-of-tasks next-id (living-tasks table) pool ends)) save (all-refuse ends entries (living-tasks table))

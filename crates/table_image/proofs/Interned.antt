@@ -7,7 +7,7 @@ use native.Mathlib.Omega.{arith}
 use lib.ListN.{length, take, drop}
 use Rattle.errors.specs.declared.Refusal.the-variants.{PoolFull}
 use Rattle.errors.specs.declared.Refusal.{Refusal}
-use Rattle.image.specs.Reading.{read-record}
+use Rattle.image.specs.Walking.{read-record}
 use Rattle.image.specs.Table.{bytes-after, entries-after, next-reference}
 use Rattle.image.specs.Writing.{stepped}
 use Rattle.image.specs.declared.Record.{Record}

@@ -1,3 +1,4 @@
+pub mod Fits
 pub mod Interned
 pub mod Loads
 pub mod Saves

@@ -9,14 +9,14 @@ use Rattle.image.proofs.Readings.{not-bad, read-none, Goes, at-end, goes-on, go
 use Rattle.image.proofs.Rules.{Rules}
 use Rattle.image.specs.Image.{ImageTask, Image, sound, body-length, task-count, id-in, title-length, task-at, read-from, read-image}
 use Rattle.image.specs.Numbers.{number-at}
-use Rattle.image.specs.Reading.{on, read-record}
+use Rattle.image.specs.Walking.{on, read-record}
 use Rattle.image.specs.Slots.{loaded-task}
 use Rattle.image.specs.Table.{Loading, cleared, next-reference, load-slot, load-tasks, load-read, load-table}
 use Rattle.pools.specs.declared.InstructionsRef.{InstructionsRef}
 use Rattle.storage.specs.declared.Task.{Task}
 use Rattle.storage.specs.Tasks.{blank}
 use Rattle.table_image.specs.declared.InUse.{InUse}
-use Rattle.table_image.specs.Loops.{instructions-of, load-record, placed, load-records, load-by-records}
+use Rattle.table_image.specs.Loops.{instructions-of, load-record, record-placed, load-records, load-by-records}
 use Rattle.table_image.specs.Tables.{loading}
 
 pub load-more : (task : ImageTask) (tasks : List ImageTask) (l : Loading) → load-tasks (task ∷ tasks) l ≡ load-tasks tasks (load-slot (loaded-task task (next-reference (l .entries))) (task .instructions) l)
@@ -47,7 +47,7 @@ module _ (image : List ℕ) (place : ℕ) (reference : InstructionsRef) {next-id
       rw (end-is, start-is, n, ← drop-drop, ← drop-drop)
 
 records-more : (n : ℕ) (image : List ℕ) (place : ℕ) (l : Loading) → load-records (suc n) image place l ≡ load-records n image (read-record image place (next-reference (l .entries)) .end) (load-slot (read-record image place (next-reference (l .entries)) .task) (instructions-of image (read-record image place (next-reference (l .entries)))) l)
-unfolding load-records load-record placed load-slot
+unfolding load-records load-record record-placed load-slot
 records-more n image place l = refl
 
 records-none : (image : List ℕ) (place : ℕ) (l : Loading) → load-records 0 image place l ≡ l
@@ -86,11 +86,12 @@ none-counted : task-count [] ≡ 0
 unfolding number-at
 none-counted = refl
 
--- as many records as a sound image counts are its tasks
-count-is : (bytes : List ℕ) (image : Image) → read-image bytes ≡ sound image → task-count bytes ≡ length (image .tasks)
+-- a sound image counts its tasks
+pub count-is : (bytes : List ℕ) (image : Image) → read-image bytes ≡ sound image → task-count bytes ≡ length (image .tasks)
 count-is [] image e = none-counted ∙ ap length (no-tasks image e)
 count-is (byte ∷ bytes) image e = sym (loaded (byte ∷ bytes) image (omega arith) e .count-is)
 
+-- as many records as it counts are its tasks
 all-records : (bytes : List ℕ) (image : Image) (l : Loading) → read-image bytes ≡ sound image → load-records (length (image .tasks)) bytes 14 l ≡ load-tasks (image .tasks) l
 all-records [] image l e = subst (λ (tasks : List ImageTask). load-records (length tasks) [] 14 l ≡ load-tasks tasks l) (no-tasks image e) (records-none [] 14 l ∙ sym (load-none l))
 all-records (byte ∷ bytes) image l e = records-tasks (length (byte ∷ bytes)) _ 0 14 (byte ∷ bytes) (image .tasks) l (loaded (byte ∷ bytes) image (omega arith) e .read)

@@ -15,9 +15,9 @@ use Rattle.errors.specs.declared.Refusal.the-variants.{BytesToStringConversionE
 use Rattle.image.proofs.Puts.{puts-puts}
 use Rattle.image.specs.Image.{ImageTask, Image, framed, body, header, records, written}
 use Rattle.image.specs.Numbers.{little-endian}
-use Rattle.image.specs.Reading.{on}
+use Rattle.image.specs.Walking.{on}
 use Rattle.image.specs.Slots.{saved-task, title-in, task-in}
-use Rattle.image.specs.Table.{living-tasks, refusal-by, task-refusal, or-else, first-refusal, image-of, SavedTable, saved-table, saved-over, saved-unless, save-tasks, save-table}
+use Rattle.image.specs.Table.{living-tasks, refusal-by, task-refusal, or-else, first-refusal, image-of-tasks, SavedTable, saved-table, saved-over, saved-unless, save-tasks, save-table}
 use Rattle.image.specs.Writing.{Put, put, puts, size-of, sized, measure, added, measure-slot, save-slot}
 use Rattle.image.specs.declared.SaveResult.the-variants.{Saved, NotSaved}
 use Rattle.image.specs.declared.SizeResult.{SizeResult}
@@ -259,5 +259,5 @@ module _ (next-id : ℕ) (table : List Task) (pool ends save : List ℕ) where
 
 -- what the code does slot after slot is to save the living tasks
 pub save-table-is : (next-id : ℕ) (table : List Task) (pool ends : List ℕ) (entries : ℕ) (save : List ℕ) → save-by-slots next-id table pool ends entries save ≡ save-table next-id table pool ends entries save
-unfolding save-by-slots save-table save-tasks image-of
+unfolding save-by-slots save-table save-tasks image-of-tasks
 save-table-is next-id table pool ends entries save = saved-is next-id table pool ends save (omega arith) (tells-all pool ends entries (length save + 1) table 0 14)

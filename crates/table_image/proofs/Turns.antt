@@ -19,7 +19,7 @@ use Rattle.image.specs.declared.LoadedRecord.{LoadedRecord}
 use Rattle.image.specs.Image.{header}
 use Rattle.image.specs.Writing.{Put, put, puts, Stepped, stepped, measure-slot, save-slot}
 use Rattle.image.specs.Table.{SavedTable, saved-table, save-table, Loading}
-use Rattle.table_image.specs.Loops.{Measured, measured, refused, count-slot, grown, measures, save-slots, saved-as, save-by-slots, load-record, WithImage, loaded-record, placed, load-records}
+use Rattle.table_image.specs.Loops.{Measured, measured, refused, count-slot, grown, measures, save-slots, saved-as, save-by-slots, load-record, WithImage, loaded-record, record-placed, load-records}
 use Rattle.table_image.proofs.Saves.{save-table-is}
 use Rattle.table_image.specs.declared.MeasuredTable.{MeasuredTable}
 use Rattle.table_image.specs.declared.InUse.{InUse}
@@ -238,7 +238,7 @@ module _ (image : List ℕ) (count : ℕ) where
   after-next k ts r = load-records k image (r .answer .end) (loading (set ts (r .answer .slot) (r .answer .task)) (r .pool) (r .ends) (r .answer .used))
 
   loads-one : (k at : ℕ) (ts : List Task) (po en : List ℕ) (used : InUse) → after-next k ts (load-next po en image at used) ≡ load-records (suc k) image at (loading ts po en used)
-  unfolding load-records load-next placed
+  unfolding load-records load-next record-placed
   loads-one k at ts po en used = refl
 
   -- a turn

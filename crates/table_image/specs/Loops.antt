@@ -15,7 +15,7 @@ use Rattle.image.specs.declared.SaveResult.the-variants.{Saved, NotSaved}
 use Rattle.image.specs.declared.Record.{Record}
 use Rattle.image.specs.declared.LoadedRecord.{LoadedRecord}
 use Rattle.image.specs.Image.{header, task-count}
-use Rattle.image.specs.Reading.{read-record}
+use Rattle.image.specs.Walking.{read-record}
 use Rattle.image.specs.Table.{SavedTable, saved-table, Loading, bytes-after, entries-after, next-reference, cleared}
 use Rattle.image.specs.Writing.{Stepped, stepped, Put, put, puts, measure-slot, save-slot}
 
@@ -88,8 +88,8 @@ abbrev pub loaded-record : Stepped LoadedRecord → List ℕ → WithImage
 loaded-record loaded image = record { loaded = loaded; image = image }
 
 -- the table and the pool after a record
-unfoldable pub placed : Stepped LoadedRecord → Loading → Loading
-placed r l = record {
+unfoldable pub record-placed : Stepped LoadedRecord → Loading → Loading
+record-placed r l = record {
   table = set (l .table) (r .answer .task .id .0) (r .answer .task);
   pool = r .pool;
   ends = r .ends;
@@ -102,7 +102,7 @@ unfoldable pub load-records : ℕ → List ℕ → ℕ → Loading → Loading
 load-records zero image place l = l
 load-records (suc n) image place l =
     load-records n image (load-record (l .pool) (l .ends) image place (l .bytes) (l .entries) .answer .end)
-    (placed (load-record (l .pool) (l .ends) image place (l .bytes) (l .entries)) l)
+    (record-placed (load-record (l .pool) (l .ends) image place (l .bytes) (l .entries)) l)
 
 -- every slot blank, then as many records as the image counts
 unfoldable pub load-by-records : List ℕ → Loading → Loading

@@ -1,7 +1,8 @@
 // Creation: its tests, the program as the pool's first entry, the image's tasks.
 ghost use mathlib.Core.Path.{_≡_};
 ghost use Rattle.machine.specs.declared.CreateResult.the-variants.{NotCreated};
-ghost use Rattle.machine.specs.Creation.{prepared, unfit, prepare, created, made, create};
+ghost use Rattle.machine.specs.Creation.{made, create};
+ghost use Rattle.mechanism.specs.Creating.{prepared, unfit, prepare, created-with};
 use errors::Refusal;
 use machine::CreateResult;
 use machine::Machine;
@@ -55,7 +56,7 @@ fn prepare(
 
 // The machine, once its tasks are loaded.
 fn created(machine: Machine, used: InUse) -> CreateResult
-    ensures { λ r. ⌜ r ≡ created machine used ⌝ }
+    ensures { λ r. ⌜ r ≡ created-with machine used ⌝ }
 {
     let mut after = machine;
     after.pool = used.bytes;

@@ -2,7 +2,7 @@
 use borrow.Author.Needs.{needs}
 use Rattle.image.proofs.Records.{read-is}
 use Rattle.image.proofs.reading.read_record.Statement.{statement}
-use Rattle.image.specs.Reading.{on}
+use Rattle.image.specs.Walking.{on}
 use Rattle.image.proofs.reading.read_record.Tie as tie
 
 part-requires : tie.Need-part-requires

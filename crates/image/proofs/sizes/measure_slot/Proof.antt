@@ -3,7 +3,7 @@ use mathlib.Core.Path.{ap}
 use borrow.Author.Needs.{needs}
 use Rattle.image.proofs.Turns.{unmeasured, measured-more, measured-not}
 use Rattle.image.proofs.sizes.measure_slot.Statement.{statement}
-use Rattle.image.specs.Reading.{on}
+use Rattle.image.specs.Walking.{on}
 use Rattle.image.specs.Writing.{stepped}
 use Rattle.image.specs.declared.SizeResult.{SizeResult}
 use Rattle.image.proofs.sizes.measure_slot.Tie as tie

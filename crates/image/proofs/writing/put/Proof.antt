@@ -1,6 +1,6 @@
 -- `image::writing::put` meets its contract.
 use borrow.Author.Needs.{needs}
-use Rattle.image.specs.Reading.{on}
+use Rattle.image.specs.Walking.{on}
 use Rattle.image.proofs.Puts.{put-is}
 use Rattle.image.proofs.writing.put.Statement.{statement}
 use Rattle.image.proofs.writing.put.Tie as tie

@@ -58,7 +58,8 @@ use Rattle.machine.proofs.Preparation as prepared
 use Rattle.machine.proofs.CreateResult as created
 use Rattle.mechanism.proofs.VmValues.{prepared-shut, prepared-vals, created-shut, created-vals, used-shut, used-vals}
 use Rattle.machine.specs.declared.CreateResult.the-variants.{NotCreated}
-use Rattle.machine.specs.Creation.{prepared as prepared-in, prepare as prepare-of, created as created-of, made, create as create-of}
+use Rattle.machine.specs.Creation.{made, create as create-of}
+use Rattle.mechanism.specs.Creating.{prepared as prepared-in, prepare as prepare-of, created-with as created-of}
 use Rattle.mechanism.proofs.VmFields.{pool-fits, new-is, tasks-fit, take-fits, take-new, take-tasks, take-new-pool, take-new-entries}
 use Rattle.mechanism.proofs.Answers.{creates, creates-none}
 use Rattle.vm.proofs.creating.prepare.Symbol.{name as #prepare}

@@ -1,5 +1,5 @@
 -- `vm::creating::prepare` meets its contract.
-use Rattle.machine.specs.Creation.{prepare, prepare-fit, with-program}
+use Rattle.mechanism.specs.Creating.{prepare, prepare-fit, with-program}
 use borrow.Author.Needs.{needs}
 use Rattle.vm.proofs.creating.prepare.Statement.{statement}
 use Rattle.vm.proofs.creating.prepare.Tie as tie

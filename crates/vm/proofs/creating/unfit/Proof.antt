@@ -1,5 +1,5 @@
 -- `vm::creating::unfit` meets its contract.
-use Rattle.machine.specs.Creation.{unfit}
+use Rattle.mechanism.specs.Creating.{unfit}
 use borrow.Author.Needs.{needs}
 use Rattle.vm.proofs.creating.unfit.Statement.{statement}
 use Rattle.vm.proofs.creating.unfit.Tie as tie
