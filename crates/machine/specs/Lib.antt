@@ -9,3 +9,4 @@ pub mod Sound
 pub mod Calls
 pub mod Reads
 pub mod Creation
+pub mod History
