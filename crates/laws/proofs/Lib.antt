@@ -21,3 +21,4 @@ pub mod Runs
 pub mod SoundnessCalls
 pub mod Loading
 pub mod Creation
+pub mod Creates

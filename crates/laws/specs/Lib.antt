@@ -3,3 +3,4 @@ pub mod Finished
 pub mod After
 pub mod Counted
 pub mod History
+pub mod Creatable
