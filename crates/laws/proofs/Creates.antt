@@ -1,26 +1,28 @@
 -- When creation makes a machine, and which refusal it gives otherwise.
 use Prim.Native.Nat.{ℕ, _+_, _≤_, _<_, min}
-use mathlib.Core.Bool.{Bool, true, false, cond, _&&_}
-use mathlib.Core.List.{List, [], _∷_}
+use mathlib.Core.Bool.{Bool, true, false, cond}
+use mathlib.Core.List.{List}
 use mathlib.Core.Logic.{_↔_}
 use mathlib.Core.Path.{_≡_, refl, sym, ap, subst, _∙_}
 use native.Mathlib.Omega.{arith}
 use lib.Dec.{eqb, ltb, leb}
-use lib.ListN.{length}
+use lib.ListN.{length, set}
+use lib.Seq.{sets}
 use borrow.Author.Tests.{eq-eqb, ne-eqb, eqb-true, eqb-false, lt-ltb, le-ltb, ltb-true, ltb-false, le-leb, lt-leb, leb-true, leb-false}
 use Rattle.errors.specs.declared.Refusal.{Refusal}
-use Rattle.errors.specs.declared.Refusal.the-variants.{WrongPhaseOrUnsound, EmptyInstructions, ProgramTooLong, BadImage, PoolFull}
+use Rattle.errors.specs.declared.Refusal.the-variants.{WrongPhaseOrUnsound, EmptyInstructions, ProgramTooLong, PoolFull}
 use Rattle.pools.specs.Pool.{has-room, interned}
 use Rattle.storage.specs.declared.Task.{Task}
 use Rattle.image.specs.Image.{ImageTask, Image, Read, sound, bad-at, read-image}
 use Rattle.image.specs.Reading.{s-len, instruction-bytes, tested}
+use Rattle.image.specs.Table.{Loading, load-table}
 use Rattle.table_image.specs.Creation.{image-tests, creation-tests}
 use Rattle.table_image.specs.declared.creation.CreationResult.{CreationResult}
 use Rattle.table_image.specs.declared.creation.CreationResult.the-variants.{Fit, Unfit}
 use Rattle.machine.specs.declared.Machine.{Machine}
 use Rattle.machine.specs.declared.CreateResult.{CreateResult}
 use Rattle.machine.specs.declared.CreateResult.the-variants.{Created, NotCreated}
-use Rattle.machine.specs.Creation.{create-behind, create-fit, create}
+use Rattle.machine.specs.Creation.{program-first, loaded, create-behind, create-fit, create}
 use Rattle.laws.specs.Creatable.{pool-bytes, Creatable, NotCreatable, other-slots, no-program, long-program, bad-image, no-room}
 use Rattle.laws.proofs.Loading.{Orderly, none, more}
 use Rattle.laws.proofs.Creation.{images}
@@ -31,7 +33,7 @@ few-orderly : {next-id low : ℕ} {tasks : List ImageTask} → Orderly next-id l
 few-orderly none less = omega (arith, less)
 few-orderly (more {low} {task} {tasks} rising below states rest) less = let ih = few-orderly rest (omega (arith, below)) in omega (arith, rising, ih)
 
-few : (image : List ℕ) (found : Image) → read-image image ≡ sound found → length (found .tasks) < 1024
+pub few : (image : List ℕ) (found : Image) → read-image image ≡ sound found → length (found .tasks) < 1024
 few image found e = let i = images image found e in let n = few-orderly (i .tasks) (omega arith) in omega (arith, i .few, n)
 
 -- the test of 22 is for the bytes alone
@@ -73,9 +75,24 @@ module _ (table : List Task) (pool ends image program : List ℕ) where
     made : (machine : Machine) → Creatable table pool image program → Answered (Created machine)
     not-made : (refusal : Refusal) → NotCreatable table pool image program refusal → Answered (NotCreated refusal)
 
-  first-room : Creatable table pool image program → has-room (length pool) 0 0 (length program) ≡ true
+  pub first-room : Creatable table pool image program → has-room (length pool) 0 0 (length program) ≡ true
   unfolding has-room
   first-room c = rw (le-leb (0 + length program) (min 65536 (length pool)) (omega (arith, c .room)))
+
+  -- what passes them is created: the program is entry 0, and behind it come the image's tasks
+  tests-fit : (c : Creatable table pool image program)
+      → creation-tests (length table) (length pool) (length program) image ≡ Fit (c .found .next-id) (length (c .found .tasks)) (s-len (c .found .tasks))
+  unfolding creation-tests image-tests tested
+  tests-fit c =
+      rw (eq-eqb (length table) 256 (c .slots), ne-eqb (length program) 0 (λ (z : length program ≡ 0). omega (arith, c .some)), le-ltb 65535 (length program) (c .short), c .is-sound)
+      (rw (roomy image (c .found) (length pool) (length program) (c .is-sound), le-leb (pool-bytes program (c .found)) (min 65536 (length pool)) (c .room)))
+
+  abbrev pub with-first : Loading
+  with-first = program-first table (sets pool 0 program) (set ends 0 (0 + length program)) (0 + length program)
+
+  pub created-as : (c : Creatable table pool image program) → create table pool ends image program ≡ loaded (c .found .next-id) (s-len (c .found .tasks)) image program (load-table image with-first)
+  unfolding create create-fit create-behind interned
+  created-as c = rw (tests-fit c, first-room c)
 
   answered-by : (r : CreationResult) → Tests r → Answered (create-fit table pool ends image program r .answer)
   unfolding create-fit create-behind interned

@@ -48,7 +48,7 @@ pub record Images (image : Image) : Type 0 where
   pub few : image .next-id ≤ 256
   pub tasks : Orderly (image .next-id) 0 (image .tasks)
 
-none-image : (image : Image) → read-image [] ≡ sound image → record { next-id = 0; tasks = [] } ≡ image
+pub none-image : (image : Image) → read-image [] ≡ sound image → record { next-id = 0; tasks = [] } ≡ image
 unfolding read-image
 none-image image e = cc
 
@@ -137,7 +137,7 @@ data Creates (image : List ℕ) : Made → Type 0 where
   not-creates : (refusal : Refusal) (table : List Task) (pool ends i p : List ℕ) → Creates image (made (NotCreated refusal) table pool ends i p)
 
 -- no entry yet
-none-joined : (ends : List ℕ) → end-to-end ends 0 0 ≡ true
+pub none-joined : (ends : List ℕ) → end-to-end ends 0 0 ≡ true
 unfolding end-to-end never-fall start-of
 none-joined ends = refl
 

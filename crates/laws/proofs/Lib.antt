@@ -22,3 +22,4 @@ pub mod SoundnessCalls
 pub mod Loading
 pub mod Creation
 pub mod Creates
+pub mod Saved

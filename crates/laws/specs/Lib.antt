@@ -4,3 +4,4 @@ pub mod After
 pub mod Counted
 pub mod History
 pub mod Creatable
+pub mod Saved
