@@ -54,9 +54,9 @@ module _ (table : List Task) (pool ends image program : List ℕ) where
     where
       by : (test : Bool) → leb (pool-bytes program found) (min 65536 (length pool)) ≡ test
           → Tests (cond (has-room (length pool) (length program) (length (found .tasks)) (instruction-bytes (found .tasks))) (Fit (found .next-id) (length (found .tasks)) (s-len (found .tasks))) (Unfit PoolFull))
-      by true is = rw (roomy image found (length pool) (length program) e, is) (fit _ _ _ (record { slots = slots; some = some; short = short; found = found; is-sound = e; room = leb-true _ _ is }))
+      by true is = rw (roomy image found (length pool) (length program) e, is) (fit _ _ _ (record { slots = slots; some = omega (arith, some); short = omega (arith, short); found = found; is-sound = e; room = (let held = leb-true (pool-bytes program found) (min 65536 (length pool)) is in omega (arith, held)) }))
       by false is = rw (roomy image found (length pool) (length program) e, is) (unfit _ (no-room found slots some short e (leb-false _ _ is)))
-  image-part slots some short (bad-at place) e = unfit _ (bad-image place slots some short e)
+  image-part slots some short (bad-at place) e = unfit _ (bad-image place slots some (omega (arith, short)) e)
 
   tests : Tests (creation-tests (length table) (length pool) (length program) image)
   unfolding creation-tests
@@ -66,7 +66,7 @@ module _ (table : List Task) (pool ends image program : List ℕ) where
           → Tests (cond a (cond b (Unfit EmptyInstructions) (cond c (Unfit ProgramTooLong) (image-tests (length pool) (length program) (tested (read-image image))))) (Unfit WrongPhaseOrUnsound))
       by true slots false some false short = image-part (eqb-true _ _ slots) (let z = eqb-false (length program) 0 some in omega (arith, z)) (ltb-false _ _ short) (read-image image) refl
       by true slots false some true long = unfit _ (long-program (eqb-true _ _ slots) (ltb-true _ _ long))
-      by true slots true empty c is = unfit _ (no-program (eqb-true _ _ slots) (eqb-true _ _ empty))
+      by true slots true empty c is = let all : length table ≡ 256 = eqb-true _ _ slots in unfit _ (no-program (omega (arith, all)) (eqb-true _ _ empty))
       by false other b is c too = unfit _ (other-slots (eqb-false _ _ other))
 
   -- ---- what creation answers
