@@ -21,7 +21,7 @@ use Rattle.image.specs.Slots.{loaded-task}
 use Rattle.image.specs.Table.{Loading, load-slot, load-tasks, next-reference}
 use Rattle.table_image.specs.Loops.{load-record, load-records, record-placed, instructions-of}
 use Rattle.table_image.specs.Tables.{loading, in-use}
-use Rattle.pools.specs.Pool.{Pooled, pooled, new-entry, has-room, interned, entry-of, entries-of, end-to-end, start-of, never-fall}
+use Rattle.pools.specs.Pool.{Pooled, pooled, new-entry, has-room, interned, entry-of, entries-of}
 use Rattle.pools.specs.declared.InternResult.the-variants.{NotInterned}
 use Rattle.pools.proofs.Laws.{length-entries, joined, still-sound, same-entries}
 use Rattle.storage.specs.declared.Task.{Task}
@@ -46,7 +46,7 @@ use Rattle.machine.specs.declared.CreateResult.{CreateResult}
 use Rattle.machine.specs.declared.CreateResult.the-variants.{Created, NotCreated}
 use Rattle.laws.specs.Creatable.{pool-bytes, NotCreatable, other-slots, no-program, long-program, bad-image}
 use Rattle.laws.specs.Creatable as not-creatable
-use Rattle.laws.proofs.Creation.{create-sound, create-new}
+use Rattle.laws.proofs.Creation.{none-joined, create-sound, create-new}
 use Rattle.laws.proofs.Creates.{refuses-exactly}
 use Rattle.table_image.proofs.Loads.{load-table-tasks}
 use Rattle.rust.specs.Errors.{Out, ok, err, EmptyInstructions}
@@ -232,10 +232,6 @@ none-read image e = cc
 orders : (bytes : List ℕ) (image : Image) → Bytes bytes → read-image bytes ≡ sound image → Orders image
 orders [] found all e = subst Orders (none-read found e) (record { few = omega arith; tasks = image.none })
 orders (byte ∷ bytes) found all e = let s = load-sound (byte ∷ bytes) found (omega arith) e all in record { few = s .few; tasks = s .tasks }
-
-none-joined : (ends : List ℕ) → end-to-end ends 0 0 ≡ true
-unfolding end-to-end never-fall start-of
-none-joined ends = refl
 
 none-listed : (pool ends : List ℕ) → entries-of pool ends 0 ≡ []
 unfolding entries-of
