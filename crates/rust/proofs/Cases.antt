@@ -13,10 +13,10 @@ use Rattle.rust.specs.TaskTypes.{default, try-from}
 use Rattle.rust.specs.Storage as storage
 use Rattle.rust.specs.Vm as vm
 use Rattle.rust.specs.Run.{init, onward, finish, finished, while, begin, run}
-use Rattle.rust.specs.Cases.{answer-of, first-run, Cases}
+use Rattle.rust.specs.Cases.{answer-of, run-of, first-run, Cases}
 
 pub cases : Cases
-unfolding answer-of first-run init intern-instructions storage.load storage.from-tasks storage.resize storage.put storage.add storage.get storage.len push pop last get run begin onward while finished finish vm.step vm.exec vm.push-u32 vm.push-calldata vm.push-state vm.muli vm.t-create vm.get-field vm.t-get-field vm.s-len vm.«do» vm.loop vm.loop-index vm.jump-if-false vm.eq vm.m-sti vm.m-st vm.m-muta vm.allocs vm.enters vm.call vm.end-call vm.pushes vm.last-pc prepare-u32-from-be-checked prepare-u16-from-be-checked byte slice big-endian little-endian offset-aligned resize element-size-bytes boxed alloc mut-vec get-slice-bytes is-m-slice-eq default try-from values.to-vec-val values.tag values.to-fat-pointer values.mul-checked-i values.alike values.value-eq to-u32 make-scalar-tagged make-vec-tagged to-bool-val is-qnan is-vec raw-tag fat-pointer same
+unfolding answer-of run-of first-run init intern-instructions storage.load storage.from-tasks storage.resize storage.put storage.add storage.get storage.len push pop last get run begin onward while finished finish vm.step vm.exec vm.push-u32 vm.push-calldata vm.push-state vm.muli vm.t-create vm.get-field vm.t-get-field vm.s-len vm.«do» vm.loop vm.loop-index vm.jump-if-false vm.eq vm.m-sti vm.m-st vm.m-muta vm.allocs vm.enters vm.call vm.end-call vm.pushes vm.last-pc prepare-u32-from-be-checked prepare-u16-from-be-checked byte slice big-endian little-endian offset-aligned resize element-size-bytes boxed alloc mut-vec get-slice-bytes is-m-slice-eq default try-from values.to-vec-val values.tag values.to-fat-pointer values.mul-checked-i values.alike values.value-eq to-u32 make-scalar-tagged make-vec-tagged to-bool-val is-qnan is-vec raw-tag fat-pointer same
 cases = record {
   one-turn = refl;
   index-above-limit = refl;

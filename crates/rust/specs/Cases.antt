@@ -4,8 +4,9 @@ use mathlib.Core.Bool.{true, false}
 use mathlib.Core.List.{List, [], _∷_}
 use mathlib.Core.Path.{_≡_}
 use Rattle.values.specs.Values.{make-vec-tagged, to-u32-val, to-bool-val}
-use Rattle.rust.specs.Errors.{VMError, StackUnderflow, MSliceParamOverflow, MSliceOutOfBounds, TypeMismatch, InvalidType, MaxStatesError, InvalidTaskField}
-use Rattle.rust.specs.Run.{init, Ran, returned, running, failed, panicked, onward, run}
+use Rattle.rust.specs.Errors.{VMError, Out, ok, err, panic, StackUnderflow, MSliceParamOverflow, MSliceOutOfBounds, TypeMismatch, InvalidType, MaxStatesError, InvalidTaskField}
+use Rattle.rust.specs.Vm.{VM}
+use Rattle.rust.specs.Run.{init, Ran, returned, running, failed, panicked, run}
 
 -- what a first run of a program without tasks comes to, within 20 turns
 pub data Answer : Type 0 where
@@ -17,11 +18,17 @@ pub data Answer : Type 0 where
 unfoldable pub answer-of : Ran → Answer
 answer-of (returned values after) = gives values
 answer-of (running after) = goes-on
-answer-of (failed error) = fails error
+answer-of (failed error before) = fails error
 answer-of panicked = panics
 
+-- of a machine, where init makes one
+unfoldable pub run-of : Out VM → Answer
+run-of (ok vm) = answer-of (run 20 vm)
+run-of (err error) = fails error
+run-of panic = panics
+
 unfoldable pub first-run : List ℕ → Answer
-first-run program = answer-of (onward (run 20) (init program (record { tasks = []; next-id = 0 })))
+first-run program = run-of (init program (record { tasks = []; next-id = 0 }))
 
 -- the values top first
 pub record Cases : Type 0 where
