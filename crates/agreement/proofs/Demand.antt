@@ -4,7 +4,6 @@ use mathlib.Core.Bool.{true, false}
 use mathlib.Core.Path.{_≡_, refl, sym, ap, subst, _∙_}
 use mathlib.Core.List.{List, []}
 use native.Mathlib.Omega.{arith}
-use lib.ListN.{length}
 use Rattle.image.specs.Numbers.{Bytes}
 use Rattle.image.specs.Image.{Image, sound, read-image}
 use Rattle.pools.specs.declared.InternResult.{InternResult}
@@ -12,7 +11,6 @@ use Rattle.pools.specs.declared.InternResult.the-variants.{Interned, NotInterne
 use Rattle.inlinevec.specs.Stacks.{values-of}
 use Rattle.storage.specs.declared.Task.{Task}
 use Rattle.storage.specs.declared.TaskId.{TaskId}
-use Rattle.table_image.specs.Creation.{creation-tests}
 use Rattle.table_image.specs.declared.creation.CreationResult.{CreationResult}
 use Rattle.table_image.specs.declared.creation.CreationResult.the-variants.{Fit, Unfit}
 use Rattle.machine.specs.declared.Verb.{Verb}
@@ -23,7 +21,6 @@ use Rattle.machine.specs.Creation.{create-behind, create-fit, create}
 use Rattle.machine.specs.declared.CreateResult.{CreateResult}
 use Rattle.machine.specs.declared.CreateResult.the-variants.{Created, NotCreated}
 use Rattle.machine.specs.History.{FreshWorld, is-created, HostCall, history, world-after}
-use Rattle.laws.specs.Sound.{Sound}
 use Rattle.rust.specs.Errors.{ok}
 use Rattle.rust.specs.Vm.{VM}
 use Rattle.rust.specs.Run.{Ran, returned, init}
@@ -32,11 +29,10 @@ use Rattle.agreement.specs.View.{view}
 use Rattle.agreement.specs.Reads.{TaskReads}
 use Rattle.agreement.specs.Runs.{rust-call, rust-takes, rust-history, at-rest, ReadAlike, Answers}
 use Rattle.agreement.specs.Creation.{stored}
-use Rattle.agreement.specs.Demand as demand
-use Rattle.agreement.specs.Demand.{lent-pool, Ends, it-returns, it-fails, meets-added, NoneMet, SameMachine, SameValues, Equal, same-end, same-refusal, Has}
+use Rattle.agreement.specs.Demand.{lent-pool, Ends, it-returns, it-fails, meets-added, NoneMet, SameMachine, SameValues, Equal, same-end, same-refusal, MachineOf, it-rests, in-a-run, before-failing}
 use Rattle.agreement.proofs.Aligned.{empty, Given, given}
 use Rattle.agreement.proofs.Calls.{Told, told-end, told-err, told-met, done-if-any, read-alike, answers}
-use Rattle.agreement.proofs.Histories.{Related, both-rest, both-run, it-failed, it-panicked, is-met, told-call, given-call, refused-call, sound-related, history-related}
+use Rattle.agreement.proofs.Histories.{Related, both-rest, both-run, it-failed, is-met, told-call, given-call, refused-call, sound-related, history-related}
 use Rattle.agreement.proofs.SameMachines as same
 use Rattle.agreement.proofs.Creation.{FromCreation, created-agrees}
 
@@ -86,12 +82,12 @@ first-related {w = w} fresh made =
 
 -- ---- what is equal
 
--- whatever the Rust has, the machine shows
-has-same : {w : World} {ran : Ran} {vm : VM} → Related w ran → Has ran vm → SameMachine w vm
+-- what the machine shows is what the Rust has
+machine-same : {w : World} {ran : Ran} {vm : VM} → Related w ran → MachineOf ran vm → SameMachine w vm
 unfolding view
-has-same {w} (both-rest ready done lined values-are is) demand.at-rest = subst (λ (v : VM). SameMachine w v) is (same.same-machine w (ready .is-sound) (at-rest w) refl refl refl)
-has-same {w} (both-run stale s bytes phase lined is) demand.in-a-run = subst (λ (v : VM). SameMachine w v) is (same.same-machine w s (view stale w) refl refl refl)
-has-same {w} (it-failed stale s phase is) demand.before-failing = subst (λ (v : VM). SameMachine w v) is (same.same-machine w s (view stale w) refl refl refl)
+machine-same {w} (both-rest ready done lined values-are is) it-rests = subst (λ (v : VM). SameMachine w v) is (same.same-machine w (ready .is-sound) (at-rest w) refl refl refl)
+machine-same {w} (both-run stale s bytes phase lined is) in-a-run = subst (λ (v : VM). SameMachine w v) is (same.same-machine w s (view stale w) refl refl refl)
+machine-same {w} (it-failed stale s phase is) before-failing = subst (λ (v : VM). SameMachine w v) is (same.same-machine w s (view stale w) refl refl refl)
 
 values-same : {w : World} {values : List ℕ} {vm : VM} → Related w (returned values vm) → SameValues w values vm
 values-same {w} (both-rest ready done lined values-are is) = record { same = values-are; read-alike = subst (λ (v : VM). ReadAlike w v) is (read-alike w (ready .is-sound) done lined) }
@@ -105,7 +101,7 @@ equal {r} (told-met stale number vm e f over ran) g none-met ends = is-met (r .r
 
 -- ---- demand 2
 
--- a fresh machine over bytes, and the Rust's VM of the same program and of the tasks that the image holds
+-- a fresh machine, bytes where bytes are lent, and the tasks that the image holds
 module _ {program bytes : List ℕ} {first : World} (fresh : FreshWorld program bytes first) (pool-bytes : Bytes (lent-pool fresh)) (image-bytes : Bytes bytes) (program-bytes : Bytes program)
     (image : Image) (read : read-image bytes ≡ sound image) where
   abbrev made : FromCreation bytes program first
@@ -115,7 +111,7 @@ module _ {program bytes : List ℕ} {first : World} (fresh : FreshWorld program 
   pub init-agrees : init program (stored image) ≡ ok (at-rest first)
   init-agrees = ap (λ (i : Image). init program (stored i)) (sound-is (sym read ∙ made .read)) ∙ made .init-is
 
-  -- any history of a host in which no added capacity is met
+  -- the Rust's VM of the same program and tasks, and any history of a host in which no added capacity is met
   module _ (vm : VM) (is : init program (stored image) ≡ ok vm) (calls : List HostCall) (none-met : NoneMet calls first) where
     -- the machine then, and the Rust
     abbrev later : World
@@ -141,12 +137,12 @@ module _ {program bytes : List ℕ} {first : World} (fresh : FreshWorld program 
     not-taken verb fuel takes = refused-call verb fuel related takes
 
     -- between two calls: tasks, memory in use, pool and instructions are the Rust's
-    pub same-between : (now : VM) → Has rust-later now → SameMachine later now
-    same-between now has = has-same related has
+    pub same-between : (now : VM) → MachineOf rust-later now → SameMachine later now
+    same-between now its = machine-same related its
 
     -- a read of a task is the Rust's print_task
-    pub task-read-agrees : (now : VM) → Has rust-later now → (id : TaskId) → TaskReads (later .pool) (later .ends) (task-read id later .answer) (print-task now (id .0))
-    task-read-agrees now has id = let m = has-same related has in same.task-reads later (sound-related related) now (m .tasks) (m .pool) id
+    pub task-read-agrees : (now : VM) → MachineOf rust-later now → (id : TaskId) → TaskReads (later .pool) (later .ends) (task-read id later .answer) (print-task now (id .0))
+    task-read-agrees now its id = let m = machine-same related its in same.task-reads later (sound-related related) now (m .tasks) (m .pool) id
 
     -- while the Rust rests, the values are those that its last run returned, and each is read alike
     pub values-agree : (values : List ℕ) (now : VM) → rust-later ≡ returned values now → SameValues later values now

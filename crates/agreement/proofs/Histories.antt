@@ -5,7 +5,6 @@ use mathlib.Core.Path.{_≡_, refl, sym, ap, subst, _∙_}
 use mathlib.Core.List.{List, [], _∷_}
 use Rattle.errors.specs.declared.Refusal.{Refusal}
 use Rattle.image.specs.Numbers.{Bytes}
-use Rattle.image.specs.Table.{SavedTable, save-table}
 use Rattle.image.specs.declared.SaveResult.{SaveResult}
 use Rattle.image.specs.declared.SaveResult.the-variants.{Saved, NotSaved}
 use Rattle.inlinevec.specs.Stacks.{values-of}
@@ -18,7 +17,7 @@ use Rattle.machine.specs.declared.Verb.the-variants.{Start, Continue}
 use Rattle.machine.specs.Machines.{with-saved}
 use Rattle.machine.specs.World.{World, world}
 use Rattle.machine.specs.Calls.{may-start, may-continue, allowed, not-allowed, Reported, reports, is-sound, call-with, call}
-use Rattle.machine.specs.Reads.{value-read, task-read, host-saved, host-save-as, SavedTo, host-save}
+use Rattle.machine.specs.Reads.{value-read, task-read, host-saved, host-save-as, host-save}
 use Rattle.machine.specs.History.{HostCall, runs, saves, reads-value, reads-task, left-by, history, world-after, world-saved}
 use Rattle.laws.specs.Sound.{Sound}
 use Rattle.laws.proofs.SoundnessCalls.{save-sound}
@@ -29,7 +28,7 @@ use Rattle.agreement.specs.View.{view}
 use Rattle.agreement.specs.Agreement.{Over, many-tasks, long-title, many-entries, many-bytes, long-memory, long-image}
 use Rattle.agreement.specs.Runs.{rust-call, rust-takes, rust-left-by, rust-history, at-rest}
 use Rattle.agreement.specs.Demand.{is-added, meets-added, call-meets, NoneMet, no-call, not-met}
-use Rattle.agreement.proofs.Aligned.{Lined, Given, given, not-yet, not-at-all, never, while-given, run-given}
+use Rattle.agreement.proofs.Aligned.{Lined, Given, given, not-yet, while-given, run-given}
 use Rattle.agreement.proofs.Calls.{phase-by, Leaves, Told, told-end, told-pause, told-err, told-panic, told-met, Ready, DoneIfAny, done-if-any, start-told, go-on-told}
 
 -- a machine beside the Rust: both rest, both are in a run, the Rust has failed, the Rust has panicked

@@ -1,9 +1,9 @@
 -- What a sound world and the Rust's machine that it shows have alike: tasks, memory in use, pool, each task's instructions, and what a read of a task answers.
 use Prim.Native.Nat.{ℕ}
 use mathlib.Core.Bool.{Bool, true, false}
-use mathlib.Core.Path.{_≡_, refl, sym, ap, _∙_}
+use mathlib.Core.Path.{_≡_, refl, sym, ap}
 use mathlib.Core.List.{List}
-use mathlib.Core.Option.{Option, none, some}
+use mathlib.Core.Option.{some}
 use lib.Dec.{ltb}
 use lib.ListN.{getD}
 use borrow.Author.Tests.{ltb-true, ltb-false}
@@ -23,7 +23,7 @@ use Rattle.machine.specs.Reads.{readable-unless, if-found, task-result, task-as
 use Rattle.laws.specs.Sound.{Sound}
 use Rattle.rust.specs.Errors.{TaskNotFound, ok, err}
 use Rattle.rust.specs.Instructions as instructions
-use Rattle.rust.specs.TaskTypes.{TaskVM, to-task}
+use Rattle.rust.specs.TaskTypes.{to-task}
 use Rattle.rust.specs.Storage as storage
 use Rattle.rust.specs.Vm.{VM}
 use Rattle.rust.specs.Unbox.{print-task}

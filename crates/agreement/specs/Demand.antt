@@ -41,12 +41,13 @@ pub data Ends : Ran → Type 0 where
 unfoldable pub is-added : Refusal → Bool
 is-added number = leb 20 (number-of number) && leb (number-of number) 24
 
+-- a run that is refused so meets one
 unfoldable pub meets-added : Outcome → Bool
 meets-added outcome.Done = false
 meets-added outcome.Paused = false
 meets-added (outcome.Refused number) = is-added number
 
--- a start or a continue meets one; the Rust's host has no save, and no read is refused so
+-- of the calls a start or a continue does; the Rust's host has no save, and no read is refused so
 unfoldable pub call-meets : HostCall → World → Bool
 call-meets (runs verb fuel) w = meets-added (call verb fuel w .report .outcome)
 call-meets saves w = false
@@ -60,19 +61,20 @@ pub data NoneMet : List HostCall → World → Type 0 where
 
 -- ---- what is equal
 
--- the instructions of a slot's task: the bytes that its reference names in the pool
+-- the instructions of a slot's task: the bytes that its reference names in the pool; none where no task lives there, or no entry is named
 unfoldable pub instructions-in : List ℕ → List ℕ → ℕ → Task → Option (List ℕ)
 instructions-in pool ends entries slot = cond (slot .living && ltb (slot .«instructions_ref» .0) entries) (some (entry-of pool ends (slot .«instructions_ref» .0))) none
 
--- those of an id; none where there is no such task, or its reference names no entry
+-- those of the task with an id
 unfoldable pub instructions-of : World → ℕ → Option (List ℕ)
 instructions-of w id = instructions-in (w .pool) (w .ends) (w .machine .entries) (getD (w .table) id blank)
 
--- the same in the Rust
+-- the instructions of a task of the Rust, likewise
 unfoldable pub rust-instructions-in : List (List ℕ) → Option TaskVM → Option (List ℕ)
 rust-instructions-in pool none = none
 rust-instructions-in pool (some task) = cond (ltb (task .instructions-ref) (length pool)) (some (getD pool (task .instructions-ref) [])) none
 
+-- those of the task with an id
 unfoldable pub rust-instructions-of : VM → ℕ → Option (List ℕ)
 rust-instructions-of vm id = rust-instructions-in (vm .instructions-pool) (get (vm .storage) id)
 
@@ -101,7 +103,7 @@ pub data Equal (r : Reported) : Ran → Type 0 where
 -- ---- between two calls
 
 -- the machine that the Rust rests with, is in a run with, or had before the instruction that failed
-pub data Has : Ran → VM → Type 0 where
-  at-rest : {values : List ℕ} {vm : VM} → Has (returned values vm) vm
-  in-a-run : {vm : VM} → Has (running vm) vm
-  before-failing : {error : VMError} {before : VM} → Has (failed error before) before
+pub data MachineOf : Ran → VM → Type 0 where
+  it-rests : {values : List ℕ} {vm : VM} → MachineOf (returned values vm) vm
+  in-a-run : {vm : VM} → MachineOf (running vm) vm
+  before-failing : {error : VMError} {before : VM} → MachineOf (failed error before) before

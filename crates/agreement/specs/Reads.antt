@@ -1,4 +1,4 @@
--- A read of a value beside the Rust's unbox_value: the kind, and the part of memory or of the pool beside it. A read of a task beside its print_task.
+-- A read of a value beside the Rust's unbox_value, the kind and the part of memory or of the pool; a read of a task beside its print_task.
 use Prim.Native.Nat.{ℕ, _/_, _%_}
 use mathlib.Core.Bool.{Bool, true}
 use mathlib.Core.Path.{_≡_}
