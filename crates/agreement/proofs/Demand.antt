@@ -29,7 +29,7 @@ use Rattle.agreement.specs.View.{view}
 use Rattle.agreement.specs.Reads.{TaskReads}
 use Rattle.agreement.specs.Runs.{rust-call, rust-takes, rust-history, at-rest, ReadAlike, Answers}
 use Rattle.agreement.specs.Creation.{stored}
-use Rattle.agreement.specs.Demand.{lent-pool, Ends, it-returns, it-fails, meets-added, NoneMet, SameMachine, SameValues, Equal, same-end, same-refusal, MachineOf, it-rests, in-a-run, before-failing}
+use Rattle.agreement.specs.Demand.{lent-pool, Beginning, Ends, it-returns, it-fails, meets-added, NoneMet, SameMachine, SameValues, Equal, same-end, same-refusal, MachineOf, it-rests, in-a-run, before-failing}
 use Rattle.agreement.proofs.Aligned.{empty, Given, given}
 use Rattle.agreement.proofs.Calls.{Told, told-end, told-err, told-met, done-if-any, read-alike, answers}
 use Rattle.agreement.proofs.Histories.{Related, both-rest, both-run, it-failed, is-met, told-call, given-call, refused-call, sound-related, history-related}
@@ -101,49 +101,49 @@ equal {r} (told-met stale number vm e f over ran) g none-met ends = is-met (r .r
 
 -- ---- demand 2
 
--- a fresh machine, bytes where bytes are lent, and the tasks that the image holds
-module _ {program bytes : List ℕ} {first : World} (fresh : FreshWorld program bytes first) (pool-bytes : Bytes (lent-pool fresh)) (image-bytes : Bytes bytes) (program-bytes : Bytes program)
-    (image : Image) (read : read-image bytes ≡ sound image) where
-  abbrev made : FromCreation bytes program first
-  made = created-is fresh pool-bytes image-bytes program-bytes
+-- the Rust's init, on the tasks that the image holds, makes what the created machine shows
+pub init-agrees : {program bytes : List ℕ} {first : World} (fresh : FreshWorld program bytes first) → Bytes (lent-pool fresh) → Bytes bytes → Bytes program
+    → (image : Image) → read-image bytes ≡ sound image → init program (stored image) ≡ ok (at-rest first)
+init-agrees {program} fresh pool-bytes image-bytes program-bytes image read =
+    let made = created-is fresh pool-bytes image-bytes program-bytes in
+    ap (λ (i : Image). init program (stored i)) (sound-is (sym read ∙ made .read)) ∙ made .init-is
 
-  -- the Rust's init, on the tasks that the image holds, makes what the created machine shows
-  pub init-agrees : init program (stored image) ≡ ok (at-rest first)
-  init-agrees = ap (λ (i : Image). init program (stored i)) (sound-is (sym read ∙ made .read)) ∙ made .init-is
+-- from creation on, any history of a host in which no added capacity is met
+module _ {program image : List ℕ} {first : World} {vm : VM} (both : Beginning program image first vm) (calls : List HostCall) (none-met : NoneMet calls first) where
+  -- the machine then, and the Rust
+  abbrev later : World
+  later = history calls first
 
-  -- the Rust's VM of the same program and tasks, and any history of a host in which no added capacity is met
-  module _ (vm : VM) (is : init program (stored image) ≡ ok vm) (calls : List HostCall) (none-met : NoneMet calls first) where
-    -- the machine then, and the Rust
-    abbrev later : World
-    later = history calls first
+  abbrev rust-later : Ran
+  rust-later = rust-history calls (returned [] vm)
 
-    abbrev rust-later : Ran
-    rust-later = rust-history calls (returned [] vm)
+  related : Related later rust-later
+  related =
+      let shown : init program (stored (both .holds)) ≡ ok (at-rest first) = init-agrees (both .fresh) (both .pool-bytes) (both .image-bytes) (both .program-bytes) (both .holds) (both .is-read) in
+      let made = created-is (both .fresh) (both .pool-bytes) (both .image-bytes) (both .program-bytes) in
+      history-related calls none-met (subst (λ (v : VM). Related first (returned [] v)) (ok-is (sym shown ∙ both .is-initialised)) (first-related (both .fresh) made))
 
-    related : Related later rust-later
-    related = history-related calls none-met (subst (λ (v : VM). Related first (returned [] v)) (ok-is (sym init-agrees ∙ is)) (first-related fresh made))
+  -- a start or a continue that the Rust takes answers the Rust's run of as many turns, or meets an added capacity with its reason
+  pub call-answers : (verb : Verb) (fuel : ℕ) → rust-takes verb rust-later ≡ true → Answers (call verb fuel later) (rust-call verb fuel rust-later)
+  call-answers verb fuel takes = answers (told-call verb fuel related takes) (given-call verb fuel related takes)
 
-    -- a start or a continue that the Rust takes answers the Rust's run of as many turns, or meets an added capacity with its reason
-    pub call-answers : (verb : Verb) (fuel : ℕ) → rust-takes verb rust-later ≡ true → Answers (call verb fuel later) (rust-call verb fuel rust-later)
-    call-answers verb fuel takes = answers (told-call verb fuel related takes) (given-call verb fuel related takes)
+  -- demand 2: values, tasks, memory and refusals equal the Rust's wherever the Rust ends without a panic and no added capacity is met
+  pub demand-2 : (verb : Verb) (fuel : ℕ) → rust-takes verb rust-later ≡ true → meets-added (call verb fuel later .report .outcome) ≡ false → Ends (rust-call verb fuel rust-later)
+      → Equal (call verb fuel later) (rust-call verb fuel rust-later)
+  demand-2 verb fuel takes not-met ends = equal (told-call verb fuel related takes) (given-call verb fuel related takes) not-met ends
 
-    -- demand 2: values, tasks, memory and refusals equal the Rust's wherever the Rust ends without a panic and no added capacity is met
-    pub demand-2 : (verb : Verb) (fuel : ℕ) → rust-takes verb rust-later ≡ true → meets-added (call verb fuel later .report .outcome) ≡ false → Ends (rust-call verb fuel rust-later)
-        → Equal (call verb fuel later) (rust-call verb fuel rust-later)
-    demand-2 verb fuel takes not-met ends = equal (told-call verb fuel related takes) (given-call verb fuel related takes) not-met ends
+  -- a start or a continue that the Rust does not take is 26, and changes nothing
+  pub not-taken : (verb : Verb) (fuel : ℕ) → rust-takes verb rust-later ≡ false → call verb fuel later ≡ reports (not-allowed (later .machine)) later
+  not-taken verb fuel takes = refused-call verb fuel related takes
 
-    -- a start or a continue that the Rust does not take is 26, and changes nothing
-    pub not-taken : (verb : Verb) (fuel : ℕ) → rust-takes verb rust-later ≡ false → call verb fuel later ≡ reports (not-allowed (later .machine)) later
-    not-taken verb fuel takes = refused-call verb fuel related takes
+  -- between two calls: tasks, memory in use, pool and instructions are the Rust's
+  pub same-between : (now : VM) → MachineOf rust-later now → SameMachine later now
+  same-between now its = machine-same related its
 
-    -- between two calls: tasks, memory in use, pool and instructions are the Rust's
-    pub same-between : (now : VM) → MachineOf rust-later now → SameMachine later now
-    same-between now its = machine-same related its
+  -- a read of a task is the Rust's print_task
+  pub task-read-agrees : (now : VM) → MachineOf rust-later now → (id : TaskId) → TaskReads (later .pool) (later .ends) (task-read id later .answer) (print-task now (id .0))
+  task-read-agrees now its id = let m = machine-same related its in same.task-reads later (sound-related related) now (m .tasks) (m .pool) id
 
-    -- a read of a task is the Rust's print_task
-    pub task-read-agrees : (now : VM) → MachineOf rust-later now → (id : TaskId) → TaskReads (later .pool) (later .ends) (task-read id later .answer) (print-task now (id .0))
-    task-read-agrees now its id = let m = machine-same related its in same.task-reads later (sound-related related) now (m .tasks) (m .pool) id
-
-    -- while the Rust rests, the values are those that its last run returned, and each is read alike
-    pub values-agree : (values : List ℕ) (now : VM) → rust-later ≡ returned values now → SameValues later values now
-    values-agree values now rests = values-same (subst (λ (ran : Ran). Related later ran) rests related)
+  -- while the Rust rests, the values are those that its last run returned, and each is read alike
+  pub values-agree : (values : List ℕ) (now : VM) → rust-later ≡ returned values now → SameValues later values now
+  values-agree values now rests = values-same (subst (λ (ran : Ran). Related later ran) rests related)

@@ -8,6 +8,8 @@ use lib.Dec.{leb, ltb}
 use lib.ListN.{length, getD}
 use Rattle.errors.specs.declared.Refusal.{Refusal}
 use Rattle.errors.specs.Refusals.{number-of}
+use Rattle.image.specs.Numbers.{Bytes}
+use Rattle.image.specs.Image.{Image, sound, read-image}
 use Rattle.inlinevec.specs.Stacks.{values-of}
 use Rattle.pools.specs.Pool.{entry-of, entries-of}
 use Rattle.storage.specs.declared.Task.{Task}
@@ -17,20 +19,31 @@ use Rattle.machine.specs.declared.Outcome.the-variants as outcome
 use Rattle.machine.specs.World.{World, memory-in-use}
 use Rattle.machine.specs.Calls.{Reported, call}
 use Rattle.machine.specs.History.{FreshWorld, is-created, HostCall, runs, saves, reads-value, reads-task, left-by, world-after}
-use Rattle.rust.specs.Errors.{VMError}
+use Rattle.rust.specs.Errors.{VMError, ok}
 use Rattle.rust.specs.TaskTypes.{TaskVM}
 use Rattle.rust.specs.Storage.{get}
 use Rattle.rust.specs.Vm.{VM}
-use Rattle.rust.specs.Run.{Ran, returned, running, failed}
+use Rattle.rust.specs.Run.{init, Ran, returned, running, failed}
 use Rattle.agreement.specs.View.{storage-of}
 use Rattle.agreement.specs.Agreement.{refusal-of}
 use Rattle.agreement.specs.Runs.{ReadAlike}
+use Rattle.agreement.specs.Creation.{stored}
 
 -- ---- where it holds
 
 -- the pool that was lent to creation
 unfoldable pub lent-pool : {program image : List ℕ} {w : World} → FreshWorld program image w → List ℕ
 lent-pool (is-created table pool ends machine stack memory save ends-lent stack-lent answered) = pool
+
+-- a new machine and a new VM of the Rust, of the same program and of the tasks that the image holds; bytes where bytes are lent
+pub record Beginning (program image : List ℕ) (first : World) (vm : VM) : Type 0 where
+  pub fresh : FreshWorld program image first
+  pub pool-bytes : Bytes (lent-pool fresh)
+  pub image-bytes : Bytes image
+  pub program-bytes : Bytes program
+  pub holds : Image
+  pub is-read : read-image image ≡ sound holds
+  pub is-initialised : init program (stored holds) ≡ ok vm
 
 -- the Rust ends without a panic
 pub data Ends : Ran → Type 0 where
