@@ -56,7 +56,7 @@ behind-empty table image program next-id s-len pool ends (NotInterned refusal) =
 
 fit-empty : (table : List Task) (pool ends image program : List ℕ) (result : CreationResult) → height-of (create-fit table pool ends image program result .answer) ≡ 0
 unfolding create-fit height-of
-fit-empty table pool ends image program (Fit next-id count s-len) = behind-empty table image program next-id s-len _ _ _
+fit-empty table pool ends image program (Fit next-id count s-len) = behind-empty table image program _ s-len _ _ _
 fit-empty table pool ends image program (Unfit refusal) = refl
 
 created-empty : (table : List Task) (pool ends image program : List ℕ) → height-of (create table pool ends image program .answer) ≡ 0
