@@ -1,5 +1,5 @@
--- A created machine is the Rust's VM of the same program and tasks, and may start.
-use Prim.Native.Nat.{ℕ, zero, suc, _+_, _-_, _≤_, min, max}
+-- A created machine is the Rust's VM of the same program and tasks, and may start; a refused creation beside the Rust's init.
+use Prim.Native.Nat.{ℕ, zero, suc, _+_, _-_, _≤_, _<_, min, max}
 use mathlib.Core.Bool.{Bool, true, false, cond}
 use mathlib.Core.Path.{_≡_, refl, sym, ap, subst, _∙_}
 use mathlib.Core.List.{List, [], _∷_, _++_, map}
@@ -8,7 +8,7 @@ use native.Mathlib.Omega.{arith}
 use native.Mathlib.Numerals.{add-one}
 use lib.ListN.{length, getD, take, set, replicate, length-set, length-replicate}
 use lib.Seq.{sets, length-sets, getD-set-other}
-use borrow.Author.Tests.{le-leb, ne-eqb}
+use borrow.Author.Tests.{le-leb, eq-eqb, ne-eqb}
 use Rattle.errors.specs.declared.Refusal.{Refusal}
 use Rattle.errors.specs.declared.Refusal.the-variants.{PoolFull}
 use Rattle.image.specs.Numbers.{Bytes}
@@ -21,7 +21,7 @@ use Rattle.image.specs.Slots.{loaded-task}
 use Rattle.image.specs.Table.{Loading, load-slot, load-tasks, next-reference}
 use Rattle.table_image.specs.Loops.{load-record, load-records, record-placed, instructions-of}
 use Rattle.table_image.specs.Tables.{loading, in-use}
-use Rattle.pools.specs.Pool.{Pooled, pooled, new-entry, has-room, interned, entry-of, entries-of, end-to-end, start-of, never-fall}
+use Rattle.pools.specs.Pool.{Pooled, pooled, new-entry, has-room, interned, entry-of, entries-of}
 use Rattle.pools.specs.declared.InternResult.the-variants.{NotInterned}
 use Rattle.pools.proofs.Laws.{length-entries, joined, still-sound, same-entries}
 use Rattle.storage.specs.declared.Task.{Task}
@@ -39,24 +39,30 @@ use Rattle.machine.specs.Machines.{current, with-pool}
 use Rattle.machine.specs.World.{World, world, place}
 use Rattle.machine.specs.Calls.{may-start}
 use Rattle.machine.specs.Creation.{new-machine, create, Made, made}
+use Rattle.machine.specs.History.{new-world}
 use Rattle.mechanism.specs.Creating.{with-program, unfit, prepare-fit, prepare, create-as, loaded-from, create-by-parts}
 use Rattle.mechanism.proofs.Creates.{create-is}
 use Rattle.machine.specs.declared.CreateResult.{CreateResult}
 use Rattle.machine.specs.declared.CreateResult.the-variants.{Created, NotCreated}
-use Rattle.laws.proofs.Creation.{create-sound, create-new}
+use Rattle.laws.specs.Creatable.{pool-bytes, NotCreatable, other-slots, no-program, long-program, bad-image}
+use Rattle.laws.specs.Creatable as not-creatable
+use Rattle.laws.proofs.Creation.{none-joined, create-sound, create-new}
+use Rattle.laws.proofs.Creates.{refuses-exactly}
 use Rattle.table_image.proofs.Loads.{load-table-tasks}
-use Rattle.rust.specs.Errors.{Out, ok}
+use Rattle.rust.specs.Errors.{Out, ok, err, EmptyInstructions}
 use Rattle.rust.specs.InlineVec as inlinevec
 use Rattle.rust.specs.Instructions as instructions
 use Rattle.rust.specs.TaskTypes.{TaskVM}
 use Rattle.rust.specs.Storage as storage
-use Rattle.rust.specs.Vm.{at}
+use Rattle.rust.specs.Vm.{VM, at}
 use Rattle.rust.specs.Run.{init}
 use Rattle.agreement.specs.View.{callers, held, task-of, storage-of, view}
 use Rattle.agreement.specs.Runs.{at-rest}
+use Rattle.agreement.specs.Agreement.{total}
 use Rattle.agreement.specs.Creation as rust
+use Rattle.agreement.specs.Creation.{Creations, both-refuse, too-long, no-room, both-make}
 use Rattle.agreement.proofs.Store.{bytes-taken}
-use Rattle.agreement.proofs.Frames.{bytes-sets, when-room}
+use Rattle.agreement.proofs.Frames.{total-more, bytes-sets, when-room}
 use Rattle.agreement.proofs.Slots.{Beyond, more-in, blank-none, new-held, new-living}
 use Rattle.agreement.proofs.Calls.{Ready}
 
@@ -227,10 +233,6 @@ orders : (bytes : List ℕ) (image : Image) → Bytes bytes → read-image bytes
 orders [] found all e = subst Orders (none-read found e) (record { few = omega arith; tasks = image.none })
 orders (byte ∷ bytes) found all e = let s = load-sound (byte ∷ bytes) found (omega arith) e all in record { few = s .few; tasks = s .tasks }
 
-none-joined : (ends : List ℕ) → end-to-end ends 0 0 ≡ true
-unfolding end-to-end never-fall start-of
-none-joined ends = refl
-
 none-listed : (pool ends : List ℕ) → entries-of pool ends 0 ≡ []
 unfolding entries-of
 none-listed pool ends = refl
@@ -341,3 +343,75 @@ module _ (table : List Task) (pool ends bytes program : List ℕ) (lent : length
           phase = ap may-start (create-new table pool ends bytes program machine lent is);
         };
       }
+
+-- ---- creation beside init
+
+pub sound-is : {a b : Image} → sound a ≡ sound b → a ≡ b
+sound-is e = cc
+
+pub ok-is : {a b : VM} → ok a ≡ ok b → a ≡ b
+ok-is e = cc
+
+-- the Rust's loop of load never errs, and interns the bytes of all instructions
+interns-all : {B : Type 0} (onward : List (Option TaskVM) → List (List ℕ) → Out B) (tasks : List ImageTask) (before : List (Option TaskVM)) (entries : List (List ℕ))
+    → (after : List (Option TaskVM)) × (new : List (List ℕ)) × (storage.from-tasks (map rust.stored-task tasks) before entries onward ≡ onward after new) × (total new ≡ total entries + instruction-bytes tasks)
+unfolding storage.from-tasks instructions.intern-instructions instruction-bytes
+interns-all onward [] before entries = (before, entries, refl, omega arith)
+interns-all onward (task ∷ tasks) before entries =
+    let later = interns-all onward tasks _ (entries ++ (task .instructions ∷ [])) in
+    let more = total-more entries (task .instructions) in
+    (later .0, later .1, later .2, (let q = later .3 in omega (arith, q, more)))
+
+-- the Rust's new machine, with these tasks and this pool
+abbrev new-vm : ℕ → List (Option TaskVM) → List (List ℕ) → VM
+new-vm next-id tasks entries = record {
+  stack = [];
+  control-stack = [];
+  storage = record { tasks-vm = tasks; next-id = next-id };
+  instructions-pool = entries;
+  call-stack = record { instructions-ref = 0; pc = 0 } ∷ [];
+  memory = [];
+  instructions-ref = 0;
+  pc = 0;
+}
+
+-- a program that is not empty goes on in the Rust, with the bytes of program and instructions in its pool
+init-goes-on : (program : List ℕ) (found : Image) → 1 ≤ length program → (vm : VM) × (init program (rust.stored found) ≡ ok vm) × (total (vm .instructions-pool) ≡ pool-bytes program found)
+unfolding init storage.load instructions.intern-instructions inlinevec.push total
+init-goes-on program found not-empty =
+    let all = interns-all (λ tasks entries. ok (new-vm (found .next-id) tasks entries)) (found .tasks) [] (program ∷ []) in
+    (new-vm (found .next-id) (all .0) (all .1), rw (ne-eqb (length program) 0 (λ (z : length program ≡ 0). omega (arith, not-empty))) (all .2), (let q = all .3 in omega (arith, q)))
+
+init-empty : (program : List ℕ) (found : Image) → length program ≡ 0 → init program (rust.stored found) ≡ err EmptyInstructions
+unfolding init
+init-empty program found empty = rw (eq-eqb (length program) 0 empty)
+
+module _ (table : List Task) (pool ends image program : List ℕ) (lent : length ends ≡ 1024) (pool-all : Bytes pool) (image-all : Bytes image) (program-all : Bytes program)
+    (slots : length table ≡ 256) (found : Image) (read : read-image image ≡ sound found) where
+  abbrev creation : Made
+  creation = create table pool ends image program
+
+  refused-alike : (number : Refusal) → creation .answer ≡ NotCreated number → NotCreatable table pool image program number → Creations pool program creation (init program (rust.stored found))
+  refused-alike _ e (other-slots other) = absurd (other slots)
+  refused-alike _ e (no-program is empty) = rw (init-empty program found empty) (both-refuse e)
+  refused-alike _ e (long-program is long) = let goes = init-goes-on program found (omega (arith, long)) in rw (goes .1) (too-long e long)
+  refused-alike _ e (bad-image place is not-empty short bad) = absurd (let z : _≡_ {A = ℕ} 0 1 = (let q = sym read ∙ bad in cc) in omega arith)
+  refused-alike _ e (not-creatable.no-room other is not-empty short is-sound past) =
+      let goes = init-goes-on program found (omega (arith, not-empty)) in
+      let same : pool-bytes program other ≡ pool-bytes program found = ap (pool-bytes program) (sound-is (sym is-sound ∙ read)) in
+      let over : min 65536 (length pool) < total (goes .0 .instructions-pool) = (let q = goes .2 in omega (arith, q, same, past)) in
+      rw (goes .1) (no-room e over)
+
+  shown-alike : (machine : Machine) → creation .answer ≡ Created machine → (stack memory save : List ℕ) → init program (rust.stored found) ≡ ok (at-rest (new-world machine creation stack memory save))
+  shown-alike machine e stack memory save =
+      let c = core table pool ends image program lent pool-all image-all program-all stack memory save machine creation (creating table pool ends image program) e in
+      ap (λ (i : Image). init program (rust.stored i)) (sound-is (sym read ∙ c .read)) ∙ c .init-is
+
+  alike : (answer : CreateResult) → creation .answer ≡ answer → Creations pool program creation (init program (rust.stored found))
+  alike (Created machine) e =
+      rw (shown-alike machine e [] [] []) (both-make machine e (λ stack memory save. ok-is (sym (shown-alike machine e stack memory save) ∙ shown-alike machine e [] [] [])))
+  alike (NotCreated number) e = refused-alike number e (refuses-exactly table pool ends image program number .0 e)
+
+  -- over a table of 256 slots and a sound image: 1 where the Rust's init errs with EmptyInstructions, 28 and 22 only where it goes on, and else the same machine
+  pub creation-agrees : Creations pool program creation (init program (rust.stored found))
+  creation-agrees = alike (creation .answer) refl

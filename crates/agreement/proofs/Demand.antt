@@ -34,15 +34,9 @@ use Rattle.agreement.proofs.Aligned.{empty, Given, given}
 use Rattle.agreement.proofs.Calls.{Told, told-end, told-err, told-met, done-if-any, read-alike, answers}
 use Rattle.agreement.proofs.Histories.{Related, both-rest, both-run, it-failed, is-met, told-call, given-call, refused-call, sound-related, history-related}
 use Rattle.agreement.proofs.SameMachines as same
-use Rattle.agreement.proofs.Creation.{FromCreation, created-agrees}
+use Rattle.agreement.proofs.Creation.{FromCreation, created-agrees, ok-is, sound-is}
 
 -- ---- a created machine
-
-ok-is : {a b : VM} → ok a ≡ ok b → a ≡ b
-ok-is e = cc
-
-sound-is : {a b : Image} → sound a ≡ sound b → a ≡ b
-sound-is e = cc
 
 -- it has no values
 height-of : CreateResult → ℕ

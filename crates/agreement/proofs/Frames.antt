@@ -72,7 +72,7 @@ pub bytes-sets : {l new : List ℕ} (i : ℕ) → Bytes l → Bytes new → Byte
 bytes-sets i all numbers.none = all
 bytes-sets i all (numbers.byte {b} less more) = bytes-sets (suc i) (bytes-set i b all less) more
 
-total-more : (entries : List (List ℕ)) (entry : List ℕ) → total (entries ++ (entry ∷ [])) ≡ total entries + length entry
+pub total-more : (entries : List (List ℕ)) (entry : List ℕ) → total (entries ++ (entry ∷ [])) ≡ total entries + length entry
 unfolding total
 total-more [] entry = omega arith
 total-more (first ∷ entries) entry = let z = total-more entries entry in omega arith

@@ -8,16 +8,25 @@ use Rattle.errors.specs.declared.Refusal.the-variants.{UnexpectedEOB, TypeMisma
 use Rattle.machine.specs.declared.Outcome.the-variants.{Done, Paused, Refused}
 use Rattle.machine.specs.declared.Phase.the-variants.{New}
 use Rattle.storage.specs.Tasks.{blank}
-use Rattle.values.specs.Values.{to-u32-val, to-vec-val, to-bool-val, value-eq}
+use Rattle.values.specs.Values.{to-u32-val, to-vec-val, to-bool-val}
 use Rattle.values.specs.declared.ValueResult.the-variants.{Value}
-use Rattle.image.specs.Image.{sound, read-image}
+use Rattle.image.specs.Table.{living-tasks, image-of-tasks}
 use Rattle.roundtrips.specs.Images.{I1, Ab}
 use Rattle.machine.specs.World.{World, world, moved}
 use Rattle.machine.specs.Run.{End, run}
+use Rattle.machine.specs.declared.CreateResult.the-variants.{Created}
+use Rattle.machine.specs.Calls.{start}
+use Rattle.machine.specs.Creation.{new-machine, Made, create}
+use Rattle.machine.specs.Reads.{host-save}
+use Rattle.machine.specs.History.{new-world}
 
 -- 01 00000000 01 00000005 0e 01 00000063 0f
 abbrev pub C1 : List ℕ
 C1 = 0x01 ∷ 0x00 ∷ 0x00 ∷ 0x00 ∷ 0x00 ∷ 0x01 ∷ 0x00 ∷ 0x00 ∷ 0x00 ∷ 0x05 ∷ 0x0e ∷ 0x01 ∷ 0x00 ∷ 0x00 ∷ 0x00 ∷ 0x63 ∷ 0x0f ∷ []
+
+-- 1b 0001 04 01 61 13 01 00000200 1b 0006 06 00 16
+abbrev C4 : List ℕ
+C4 = 0x1b ∷ 0x00 ∷ 0x01 ∷ 0x04 ∷ 0x01 ∷ 0x61 ∷ 0x13 ∷ 0x01 ∷ 0x00 ∷ 0x00 ∷ 0x02 ∷ 0x00 ∷ 0x1b ∷ 0x00 ∷ 0x06 ∷ 0x06 ∷ 0x00 ∷ 0x16 ∷ []
 
 -- 1b 0001 04 01 61 1b 0006 06 00 01 00000000 01 00000007 1d
 abbrev C5-0 : List ℕ
@@ -102,7 +111,7 @@ abbrev Jump-cut : List ℕ
 Jump-cut = 0x03 ∷ 0x00 ∷ 0x1a ∷ []
 
 -- 0b
-abbrev Save : List ℕ
+abbrev pub Save : List ℕ
 Save = 0x0b ∷ []
 
 -- 03 00 0a
@@ -139,6 +148,14 @@ raised height program = moved (fresh program) 0 height
 abbrev pub after : List ℕ → End
 after program = run 100 (fresh program)
 
+-- image I1 and the program 0b, in a blank table
+abbrev pub I1-made : Made
+I1-made = create (replicate 256 blank) (replicate 16 0) (replicate 1024 0) I1 Save
+
+-- the machine that is created, lent 64 bytes of memory and a save buffer
+abbrev pub I1-world : World
+I1-world = new-world (new-machine 1 2 1 1) I1-made (replicate 1000 0) (replicate 64 0) (replicate 31 9)
+
 -- the table
 pub record Cases : Type 0 where
   -- one value, 99, after five instructions
@@ -147,10 +164,12 @@ pub record Cases : Type 0 where
   pub c2 : to-u32-val 99 ≡ 0x7FFC0000018C0006
   -- numbers at 4, size 6
   pub c3 : to-vec-val 4 6 6 ≡ Value 0xFFFC000008000C06
-  -- number 512 on the left equals C3
-  pub c4 : value-eq (to-u32-val 512) 0xFFFC000008000C06 ≡ Value (to-bool-val true)
-  -- M_MUTA on C3: index 0 works, 1 gives 14
-  pub c5 : (after C5-0 .outcome ≡ Done) × ((getD (after C5-0 .world .stack) 1 0 ≡ 0xFFFC000008000C06) × (after C5-1 .outcome ≡ Refused (MSliceOutOfBounds 4 6)))
+  -- number 512 on the left equals C3: the two values before EQ, and the one after it
+  pub c4 : (take 2 (run 4 (fresh C4) .world .stack) ≡ to-u32-val 512 ∷ 0xFFFC000008000C06 ∷ []) × ((after C4 .world .machine .height ≡ 1) × (getD (after C4 .world .stack) 0 0 ≡ to-bool-val true))
+  -- M_MUTA on C3: index 0 works, and writes 7 in 4 bytes from 4 on; 1 gives 14
+  pub c5 : (after C5-0 .outcome ≡ Done)
+      × ((getD (after C5-0 .world .stack) 1 0 ≡ 0xFFFC000008000C06)
+      × ((take 10 (after C5-0 .world .memory) ≡ 0x61 ∷ 0 ∷ 0 ∷ 0 ∷ 0x07 ∷ 0 ∷ 0 ∷ 0 ∷ 0 ∷ 0 ∷ []) × (after C5-1 .outcome ≡ Refused (MSliceOutOfBounds 4 6))))
   -- index 1,073,741,824 gives 14
   pub c6 : after C6 .outcome ≡ Refused (MSliceOutOfBounds 0 6)
   -- 255 states stand, 256 gives 8
@@ -163,8 +182,9 @@ pub record Cases : Type 0 where
   pub c10 : after C10 .outcome ≡ Refused UnexpectedEOB
   -- TRUE EQ FALSE gives 6
   pub c11 : after C11 .outcome ≡ Refused TypeMismatch
-  -- image I1 loads
-  pub c12 : read-image I1 ≡ sound Ab
+  -- image I1 loads: the machine that is created, its tasks, and the same bytes from the host's save and from S_SAVE
+  pub c12 : (I1-made .answer ≡ Created (new-machine 1 2 1 1))
+      × ((image-of-tasks 1 (living-tasks (I1-made .table)) (I1-made .pool) (I1-made .ends) ≡ Ab) × ((host-save I1-world .save ≡ I1 ++ (9 ∷ [])) × (start 1 I1-world .save ≡ I1 ++ (9 ∷ []))))
 
 -- single instructions
 pub record Instructions : Type 0 where

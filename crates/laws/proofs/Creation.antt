@@ -44,15 +44,15 @@ use Rattle.laws.proofs.Loading.{Orderly, none, orderly, s-len-below, Lo
 -- ---- the image
 
 -- what a sound image holds
-record Images (image : Image) : Type 0 where
-  few : image .next-id ≤ 256
-  tasks : Orderly (image .next-id) 0 (image .tasks)
+pub record Images (image : Image) : Type 0 where
+  pub few : image .next-id ≤ 256
+  pub tasks : Orderly (image .next-id) 0 (image .tasks)
 
-none-image : (image : Image) → read-image [] ≡ sound image → record { next-id = 0; tasks = [] } ≡ image
+pub none-image : (image : Image) → read-image [] ≡ sound image → record { next-id = 0; tasks = [] } ≡ image
 unfolding read-image
 none-image image e = cc
 
-images : (bytes : List ℕ) (image : Image) → read-image bytes ≡ sound image → Images image
+pub images : (bytes : List ℕ) (image : Image) → read-image bytes ≡ sound image → Images image
 images [] image e = subst Images (none-image image e) (record { few = omega arith; tasks = none })
 images (byte ∷ bytes) image e =
     let h = readings.loaded (byte ∷ bytes) image (omega arith) e in
@@ -137,7 +137,7 @@ data Creates (image : List ℕ) : Made → Type 0 where
   not-creates : (refusal : Refusal) (table : List Task) (pool ends i p : List ℕ) → Creates image (made (NotCreated refusal) table pool ends i p)
 
 -- no entry yet
-none-joined : (ends : List ℕ) → end-to-end ends 0 0 ≡ true
+pub none-joined : (ends : List ℕ) → end-to-end ends 0 0 ≡ true
 unfolding end-to-end never-fall start-of
 none-joined ends = refl
 

@@ -21,3 +21,5 @@ pub mod Runs
 pub mod SoundnessCalls
 pub mod Loading
 pub mod Creation
+pub mod Creates
+pub mod Saved

@@ -3,3 +3,5 @@ pub mod Finished
 pub mod After
 pub mod Counted
 pub mod History
+pub mod Creatable
+pub mod Saved

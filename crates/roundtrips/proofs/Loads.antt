@@ -2,22 +2,20 @@
 use Prim.Native.Nat.{ℕ, zero, suc, _+_, _-_, _<_, _≤_, min}
 use mathlib.Core.Bool.{true, false}
 use mathlib.Core.List.{List, [], _∷_, append-nil}
-use mathlib.Core.Path.{_≡_, refl, ap, sym, _∙_, subst}
+use mathlib.Core.Path.{_≡_, refl, ap, _∙_, subst}
 use native.Mathlib.Omega.{arith}
 use lib.ListN.{length, getD, set, replicate, length-set, length-replicate}
-use lib.Seq.{sets, getD-set-same, getD-set-other}
+use lib.Seq.{getD-set-same, getD-set-other}
 use Rattle.roundtrips.proofs.LoadSave.{load-sound, load-save}
 use Rattle.image.proofs.Records.{saved-again}
-use Rattle.roundtrips.proofs.Saves.{Holds, Lists, end, dead, alive, save-lists}
+use Rattle.roundtrips.proofs.Saves.{Holds, Lists, end, dead, alive, saved-lists}
 use Rattle.table_image.proofs.Loads.{load-more, load-none, load-table-tasks}
-use Rattle.table_image.proofs.Saves.{header-length}
 use Rattle.roundtrips.proofs.Stores.{Pool, Stored, stored}
 use Rattle.image.specs.Image.{ImageTask, Image, header, records, written, Fine, Rising, none, more, sound, read-image}
 use Rattle.image.specs.Numbers.{Bytes}
 use Rattle.image.specs.Reading.{instruction-bytes}
 use Rattle.image.specs.Slots.{loaded-task, saved-task, task-in}
-use Rattle.image.specs.Table.{Loading, cleared, next-reference, load-slot, load-tasks, load-read, load-table, saved-table, save-table}
-use Rattle.image.specs.declared.SaveResult.the-variants.{Saved}
+use Rattle.image.specs.Table.{Loading, cleared, next-reference, load-slot, load-tasks, load-read, load-table, saved-over, save-table}
 use Rattle.pools.proofs.Ends.{stands}
 use Rattle.pools.specs.Pool.{entry-of}
 use Rattle.pools.specs.declared.InstructionsRef.{InstructionsRef}
@@ -172,25 +170,21 @@ module _ (bytes : List ℕ) (image : Image) (l : Loading) (b : Bytes bytes) (som
       rw (load-table-tasks bytes image l e)
       (load-done (z .tasks) (cleared l) (omega (arith, z .few)) (λ j h. blanks (length (l .table)) j) (record { lent = p .lent; sound = p .sound }) (record { few = room .few; small = room .small }))
 
-  -- document 01: saving after loading a non-empty image gives the same bytes
-  pub reload : (save : List ℕ) → length bytes ≤ length save
-      → save-table (image .next-id) (load-table bytes l .table) (load-table bytes l .pool) (load-table bytes l .ends) (load-table bytes l .entries) save ≡ saved-table (Saved (length bytes)) (sets save 0 bytes)
-  reload save fits =
-      let w : written image ≡ bytes = load-save bytes image some e b in
-      let short : length (written image) ≤ length save = rw w fits in
-      save-lists image (load-holds .lists (length (load-table bytes l .table)) (omega arith)) save short ∙ rw w
+  -- saving after loading a non-empty image gives the same bytes, 24 where they do not fit
+  pub reload : (save : List ℕ)
+      → save-table (image .next-id) (load-table bytes l .table) (load-table bytes l .pool) (load-table bytes l .ends) (load-table bytes l .entries) save ≡ saved-over bytes save
+  reload save =
+      saved-lists image (load-holds .lists (length (load-table bytes l .table)) (omega arith)) save
+      ∙ ap (λ (written : List ℕ). saved-over written save) (load-save bytes image some e b)
 
 none-written : written (record { next-id = 0; tasks = [] }) ≡ header 0 0
 unfolding written records
 none-written = append-nil (header 0 0)
 
--- document 01: a zero-length image means none, and saving after it gives a lone kind 1 of zeros
-pub reload-none : (l : Loading) (save : List ℕ) → 14 ≤ length save
-    → save-table 0 (load-table [] l .table) (load-table [] l .pool) (load-table [] l .ends) (load-table [] l .entries) save ≡ saved-table (Saved 14) (sets save 0 (header 0 0))
+-- a zero-length image means none, and saving after it gives a lone kind 1 of zeros
+pub reload-none : (l : Loading) (save : List ℕ)
+    → save-table 0 (load-table [] l .table) (load-table [] l .pool) (load-table [] l .ends) (load-table [] l .entries) save ≡ saved-over (header 0 0) save
 unfolding load-table load-read load-tasks read-image
-reload-none l save fits =
-    let w : written (record { next-id = 0; tasks = [] }) ≡ header 0 0 = none-written in
-    let n : length (header 0 0) ≡ 14 = header-length 0 0 in
-    let short : length (written (record { next-id = 0; tasks = [] })) ≤ length save = rw (w, n) fits in
-    save-lists (record { next-id = 0; tasks = [] }) (all-dead (replicate (length (l .table)) blank) (length (replicate (length (l .table)) blank)) 0 (λ j h. blanks (length (l .table)) j)) save short
-    ∙ rw (w, n)
+reload-none l save =
+    saved-lists (record { next-id = 0; tasks = [] }) (all-dead (replicate (length (l .table)) blank) (length (replicate (length (l .table)) blank)) 0 (λ j h. blanks (length (l .table)) j)) save
+    ∙ ap (λ (written : List ℕ). saved-over written save) none-written

@@ -72,8 +72,8 @@ module _ {table : List Task} {pool ends : List ℕ} {entries : ℕ} where
   lists-kept (alive {n} {i} {task} {tasks} h l) sum = rw (slots-from table i (omega arith)) (keeps-living (getD table i blank) (drop (i + 1) table) task tasks h (lists-kept l (omega arith)))
 
 module _ {table : List Task} {pool ends : List ℕ} {entries : ℕ} (image : Image) (l : Lists table pool ends entries (length table) 0 (image .tasks)) (save : List ℕ) where
-  -- the image is written where it fits
-  saved-lists : save-table (image .next-id) table pool ends entries save ≡ saved-over (written image) save
+  -- a table that holds an image's tasks is saved as the image
+  pub saved-lists : save-table (image .next-id) table pool ends entries save ≡ saved-over (written image) save
   unfolding save-table save-tasks saved-unless image-of-tasks
   saved-lists = let k = lists-kept l (omega arith) in rw (k .none-refused, k .tasks-are)
 
