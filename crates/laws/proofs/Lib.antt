@@ -4,6 +4,9 @@ pub mod Phases
 pub mod Calls
 pub mod Living
 pub mod Unsound
+pub mod Refused
+pub mod Along
+pub mod Held
 pub mod Either
 pub mod Values
 pub mod Stack

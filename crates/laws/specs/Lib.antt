@@ -1,5 +1,6 @@
 pub mod Sound
 pub mod Finished
-pub mod After
+pub mod Together
 pub mod Counted
-pub mod History
+pub mod Held
+pub mod Refused
