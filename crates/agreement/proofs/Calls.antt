@@ -30,7 +30,7 @@ use Rattle.machine.specs.declared.Verb.the-variants.{Start}
 use Rattle.machine.specs.Reads.{is-done, readable, value-at, value-read}
 use Rattle.memory.specs.Unbox as unbox
 use Rattle.laws.specs.Sound.{Sound}
-use Rattle.laws.specs.After.{world-after}
+use Rattle.machine.specs.History.{world-after}
 use Rattle.laws.proofs.SoundnessCalls.{ended-sound, allowed-sound}
 use Rattle.rust.specs.Errors.{VMError, Out, ok, err, panic}
 use Rattle.rust.specs.InlineVec as inlinevec

@@ -11,7 +11,7 @@ use Rattle.machine.specs.declared.Outcome.the-variants as outcome
 use Rattle.machine.specs.World.{World, place}
 use Rattle.machine.specs.Calls.{Reported, start, go-on}
 use Rattle.machine.specs.Reads.{value-read}
-use Rattle.laws.specs.After.{world-after}
+use Rattle.machine.specs.History.{world-after}
 use Rattle.rust.specs.Errors.{VMError, ok, err, panic}
 use Rattle.rust.specs.Vm.{VM, at, step}
 use Rattle.rust.specs.Run.{Ran, returned, running, failed, panicked, run}

@@ -27,7 +27,7 @@ use Rattle.table_image.specs.declared.creation.CreationResult.the-variants.{Fit
 use Rattle.machine.specs.Creation.{blank-table, Made, create-behind, create-fit, create, stopped, machine-of}
 use Rattle.machine.specs.Reads.{SavedTo, saved-to, host-save}
 use Rattle.laws.specs.Sound.{Sound}
-use Rattle.laws.specs.After.{world-after}
+use Rattle.machine.specs.History.{world-after}
 use Rattle.laws.proofs.Either.{either}
 use Rattle.laws.proofs.Parts.{machined, tabled}
 use Rattle.laws.proofs.SoundnessCalls.{start-sound}
