@@ -13,7 +13,7 @@ use Rattle.machine.specs.declared.Outcome.{Outcome}
 use Rattle.machine.specs.declared.Outcome.the-variants.{Done, Paused, Refused}
 use Rattle.machine.specs.World.{World, world}
 use Rattle.machine.specs.Run.{End, end-at, run}
-use Rattle.machine.specs.Calls.{may-continue, allowed, phased, ended, report, not-allowed, Reported, reports, at-end, is-sound, call-with, call, start, go-on}
+use Rattle.machine.specs.Calls.{may-continue, allowed, phased, ended, report, Reported, at-end, is-sound, call-with, call, start, go-on}
 use Rattle.machine.specs.World.{with-machine}
 use Rattle.machine.specs.declared.Verb.{Verb}
 use Rattle.machine.specs.declared.Verb.the-variants.{Start, Continue}
@@ -22,6 +22,7 @@ use Rattle.machine.specs.History.{world-after, runs, left-by}
 use Rattle.laws.specs.Sound.{Passes}
 use Rattle.laws.specs.Together.{Together}
 use Rattle.laws.proofs.SoundnessCalls.{left-passes}
+use Rattle.laws.proofs.Refused.{call-not-allowed}
 use Rattle.laws.proofs.Finished.{finished}
 use Rattle.laws.specs.Finished.{Ends, is-done, is-paused, is-refused}
 use Rattle.laws.proofs.Fuel.{outcome-number, fuel}
@@ -85,16 +86,12 @@ module _ (verb : Verb) (w : World) where
   unfolding call call-with
   allowed-is n yes-it-is = simp yes-it-is
 
-  refused-is : (n : ℕ) → allows .allowed ≡ false → call verb n w ≡ reports (not-allowed (w .machine)) w
-  unfolding call call-with
-  refused-is n no-it-is-not = simp no-it-is-not
-
   -- a call that pauses was allowed
   was-allowed : (n : ℕ) (b : Bool) → allows .allowed ≡ b → call verb n w .report .outcome ≡ Paused → allows .allowed ≡ true
   unfolding outcome-number
   was-allowed n true e paused = e
   was-allowed n false e paused =
-      absurd (let z : _≡_ {A = ℕ} 2 1 = ap (λ (r : Reported). outcome-number (r .report .outcome)) (sym (refused-is n e)) ∙ ap outcome-number paused in omega arith)
+      absurd (let z : _≡_ {A = ℕ} 2 1 = ap (λ (r : Reported). outcome-number (r .report .outcome)) (sym (call-not-allowed verb n w e)) ∙ ap outcome-number paused in omega arith)
 
   run-outcome : (n : ℕ) → at-end n (run n begins) .report .outcome ≡ run n begins .outcome
   unfolding report
