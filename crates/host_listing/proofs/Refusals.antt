@@ -14,7 +14,7 @@ use Rattle.table_image.specs.declared.creation.CreationResult.the-variants.{Fit
 use Rattle.machine.specs.declared.Machine.{Machine}
 use Rattle.machine.specs.declared.Outcome.{Outcome}
 use Rattle.machine.specs.declared.Outcome.the-variants.{Refused}
-use Rattle.machine.specs.World.{World, world}
+use Rattle.machine.specs.World.{world}
 use Rattle.machine.specs.declared.CreateResult.{CreateResult}
 use Rattle.machine.specs.declared.CreateResult.the-variants.{NotCreated}
 use Rattle.machine.specs.Sound.{sound-record, sound-world}

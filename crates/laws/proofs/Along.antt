@@ -2,13 +2,9 @@
 use Prim.Native.Nat.{ℕ, zero, suc}
 use mathlib.Core.Bool.{Bool, true, false, cond}
 use mathlib.Core.List.{List, [], _∷_, _++_, append-nil}
-use mathlib.Core.Path.{_≡_, refl, sym, subst}
-use Rattle.storage.specs.declared.Task.{Task}
+use mathlib.Core.Path.{_≡_, refl, subst}
 use Rattle.image.specs.declared.SaveResult.{SaveResult}
 use Rattle.image.specs.declared.SaveResult.the-variants.{Saved, NotSaved}
-use Rattle.image.specs.Table.{SavedTable}
-use Rattle.mechanism.specs.Registers.{settled}
-use Rattle.machine.specs.declared.Machine.{Machine}
 use Rattle.machine.specs.declared.Verb.{Verb}
 use Rattle.machine.specs.declared.Verb.the-variants.{Start, Continue}
 use Rattle.machine.specs.declared.Permission.{Permission}
@@ -19,8 +15,8 @@ use Rattle.machine.specs.World.{World, at-end, with-machine}
 use Rattle.machine.specs.Words.{StepResult, next, refused}
 use Rattle.machine.specs.Step.{step}
 use Rattle.machine.specs.Run.{End, end-at, follow, run}
-use Rattle.machine.specs.Calls.{ended, allowed, report, Reported, is-sound, call-with, call}
-use Rattle.machine.specs.Reads.{host-saved, SavedTo, host-save-as, host-save, value-read, task-read}
+use Rattle.machine.specs.Calls.{ended, allowed, report, is-sound, call-with, call}
+use Rattle.machine.specs.Reads.{host-saved, SavedTo, host-save, value-read, task-read}
 use Rattle.machine.specs.History.{world-after, world-saved, HostCall, runs, saves, reads-value, reads-task, left-by, history}
 use Rattle.laws.specs.Sound.{Passes}
 use Rattle.laws.specs.Counted.{with-others, run-finished, allowance, call-finished, history-finished}

@@ -1,6 +1,6 @@
 -- Fuel over two calls: a call that pauses and a continue after it are one call with the fuel of both, whatever the record was, since one that fails the test of 26 does not pause.
 use Prim.Native.Nat.{ℕ, _+_, _≤_}
-use mathlib.Core.Bool.{Bool, true, false, false≢true}
+use mathlib.Core.Bool.{Bool, true, false}
 use mathlib.Core.Path.{_≡_, refl, sym, ap, _∙_, subst}
 use native.Mathlib.Omega.{arith}
 use lib.ListN.{length}
@@ -22,7 +22,7 @@ use Rattle.machine.specs.History.{world-after, runs, left-by}
 use Rattle.laws.specs.Sound.{Passes}
 use Rattle.laws.specs.Together.{Together}
 use Rattle.laws.proofs.SoundnessCalls.{left-passes}
-use Rattle.laws.proofs.Refused.{call-not-allowed}
+use Rattle.laws.proofs.Refused.{call-allowed, sound-if-allowed, call-not-allowed}
 use Rattle.laws.proofs.Finished.{finished}
 use Rattle.laws.specs.Finished.{Ends, is-done, is-paused, is-refused}
 use Rattle.laws.proofs.Fuel.{outcome-number, fuel}
@@ -82,10 +82,6 @@ module _ (verb : Verb) (w : World) where
   abbrev begins : World
   begins = with-machine w (allows .machine)
 
-  allowed-is : (n : ℕ) → allows .allowed ≡ true → call verb n w ≡ at-end n (run n begins)
-  unfolding call call-with
-  allowed-is n yes-it-is = simp yes-it-is
-
   -- a call that pauses was allowed
   was-allowed : (n : ℕ) (b : Bool) → allows .allowed ≡ b → call verb n w .report .outcome ≡ Paused → allows .allowed ≡ true
   unfolding outcome-number
@@ -96,12 +92,6 @@ module _ (verb : Verb) (w : World) where
   run-outcome : (n : ℕ) → at-end n (run n begins) .report .outcome ≡ run n begins .outcome
   unfolding report
   run-outcome n = refl
-
-  -- so its record passes the test of 26
-  was-sound : (b : Bool) → is-sound w ≡ b → allows .allowed ≡ true → is-sound w ≡ true
-  unfolding allowed
-  was-sound true e yes-it-is = e
-  was-sound false e yes-it-is = absurd (false≢true (simp e at yes-it-is))
 
   module _ (ends-lent : length (w .ends) ≡ 1024) (a b : ℕ) (paused : call verb a w .report .outcome ≡ Paused) where
     allowance : allows .allowed ≡ true
@@ -114,16 +104,16 @@ module _ (verb : Verb) (w : World) where
     run-pauses : run a begins ≡ end-at there 0 Paused
     run-pauses =
         paused-end a begins (run a begins) (finished a begins)
-        (sym (run-outcome a) ∙ ap (λ (r : Reported). r .report .outcome) (sym (allowed-is a allowance)) ∙ paused)
+        (sym (run-outcome a) ∙ ap (λ (r : Reported). r .report .outcome) (sym (call-allowed verb a w allowance)) ∙ paused)
 
     first-is : call verb a w ≡ at-end a (end-at there 0 Paused)
-    first-is = allowed-is a allowance ∙ ap (at-end a) run-pauses
+    first-is = call-allowed verb a w allowance ∙ ap (at-end a) run-pauses
 
     left-is : world-after (call verb a w) ≡ rephased phase.Paused there
     left-is = ap world-after first-is ∙ left-paused a there
 
     passes : Passes w
-    passes = record { tested = was-sound (is-sound w) refl allowance; ends-lent = ends-lent }
+    passes = record { tested = sound-if-allowed verb w allowance; ends-lent = ends-lent }
 
     left-passing : Passes (world-after (call verb a w))
     unfolding left-by
@@ -136,7 +126,7 @@ module _ (verb : Verb) (w : World) where
     second-is = ap (go-on b) left-is ∙ go-on-is b there still-sound ∙ ap (at-end b) (run-phase phase.Paused b there)
 
     whole-is : call verb (a + b) w ≡ at-end (a + b) (run b there)
-    whole-is = allowed-is (a + b) allowance ∙ ap (at-end (a + b)) (fuel a b begins there run-pauses)
+    whole-is = call-allowed verb (a + b) w allowance ∙ ap (at-end (a + b)) (fuel a b begins there run-pauses)
 
     -- a call with fuel a that pauses, and a continue with fuel b after it, are one call with fuel a + b; 1,024 ends are what the type says
     pub fuel-of-calls : Together (call verb a w) (go-on b (world-after (call verb a w))) (call verb (a + b) w)

@@ -65,6 +65,14 @@ frames-are : (frames : Frames) (entries : ℕ) → sound-frames frames entries �
 unfolding sound-frames
 frames-are frames entries sound = framed-by frames entries (eqb (frames .count) 1) (eqb (frames .count) 2) refl refl sound
 
+-- at most two
+few-by : (frames : Frames) (entries : ℕ) → Framed frames entries → frames .count ≤ 2
+few-by frames entries (one single main) = omega (arith, single)
+few-by frames entries (two double main task) = omega (arith, double)
+
+pub few-frames : (frames : Frames) (entries : ℕ) → sound-frames frames entries ≡ true → frames .count ≤ 2
+few-frames frames entries sound = few-by frames entries (frames-are frames entries sound)
+
 one-sound : (frames : Frames) (entries : ℕ) → frames .count ≡ 1 → names (frames .main) entries ≡ true → sound-frames frames entries ≡ true
 unfolding sound-frames
 one-sound frames entries single main = simp (single, main)

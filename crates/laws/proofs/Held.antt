@@ -7,14 +7,14 @@ use native.Mathlib.Omega.{arith}
 use lib.Dec.{eqb}
 use lib.ListN.{length, getD}
 use Rattle.bytecode.specs.Opcodes.{T-CREATE}
-use Rattle.image.specs.Image.{ImageTask, Image, Read, sound, read-image}
+use Rattle.image.specs.Image.{ImageTask, Image, Read, read-image}
 use Rattle.image.specs.Reading.{s-len}
 use Rattle.machine.specs.World.{World, op}
 use Rattle.machine.specs.Words.{next}
 use Rattle.machine.specs.Step.{step}
 use Rattle.machine.specs.History.{FreshWorld, HostCall, history}
 use Rattle.laws.specs.Sound.{Passes}
-use Rattle.laws.specs.Counted.{creates, history-finished}
+use Rattle.laws.specs.Counted.{creates}
 use Rattle.laws.specs.Held.{loaded-ids, given-ids, held-ids, past-greatest, Held}
 use Rattle.laws.proofs.Frames.{Given}
 use Rattle.laws.proofs.Step.{step-given}

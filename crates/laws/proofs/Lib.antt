@@ -7,6 +7,7 @@ pub mod Unsound
 pub mod Refused
 pub mod Along
 pub mod Held
+pub mod RefusedInside
 pub mod Either
 pub mod Values
 pub mod Stack

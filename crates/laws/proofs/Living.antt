@@ -1,11 +1,11 @@
 -- The number of living tasks: those loaded, plus the finished T_CREATEs, less the finished T_DELETEs.
 use Prim.Native.Nat.{ℕ, _+_, _-_}
 use mathlib.Core.List.{List, [], _∷_, _++_}
-use mathlib.Core.Path.{_≡_, refl, ap, subst}
+use mathlib.Core.Path.{_≡_, ap, subst}
 use native.Mathlib.Omega.{arith}
 use Rattle.storage.specs.Table.{living-of}
 use Rattle.image.specs.Image.{task-count}
-use Rattle.machine.specs.World.{World, op}
+use Rattle.machine.specs.World.{World}
 use Rattle.machine.specs.Words.{next}
 use Rattle.machine.specs.Step.{step}
 use Rattle.machine.specs.Run.{End, run}

@@ -1,6 +1,6 @@
 -- A call that is refused outside an instruction writes nothing: creation, start, continue, the save by the host and the reads.
 use Prim.Native.Nat.{ℕ, _+_}
-use mathlib.Core.Bool.{Bool, true, false}
+use mathlib.Core.Bool.{Bool, true, false, false≢true, true≢false}
 use mathlib.Core.List.{List}
 use mathlib.Core.Option.{Option, none, some}
 use mathlib.Core.Path.{_≡_, refl, sym, ap, _∙_, subst}
@@ -9,7 +9,7 @@ use lib.Dec.{leb}
 use lib.ListN.{length}
 use Rattle.errors.specs.declared.Refusal.{Refusal}
 use Rattle.errors.specs.declared.Refusal.the-variants.{WrongPhaseOrUnsound}
-use Rattle.pools.specs.Pool.{Pooled, pooled, has-room, new-entry, interned}
+use Rattle.pools.specs.Pool.{Pooled, has-room, new-entry, interned}
 use Rattle.pools.specs.declared.InternResult.{InternResult}
 use Rattle.pools.specs.declared.InternResult.the-variants.{Interned, NotInterned}
 use Rattle.pools.proofs.Interns.{when-room, when-full}
@@ -26,18 +26,40 @@ use Rattle.machine.specs.declared.Verb.{Verb}
 use Rattle.machine.specs.declared.Verb.the-variants.{Start, Continue}
 use Rattle.machine.specs.declared.CreateResult.{CreateResult}
 use Rattle.machine.specs.declared.CreateResult.the-variants.{NotCreated}
-use Rattle.machine.specs.World.{World}
-use Rattle.machine.specs.Calls.{may-start, may-continue, allowed, not-allowed, reports, is-sound, call-with, call, start, go-on}
+use Rattle.machine.specs.declared.Outcome.the-variants.{Refused}
+use Rattle.machine.specs.World.{World, with-machine}
+use Rattle.machine.specs.Run.{run}
+use Rattle.machine.specs.Calls.{may-start, may-continue, allowed, report, not-allowed, Reported, reports, at-end, is-sound, call-with, call, start, go-on}
 use Rattle.machine.specs.Reads.{readable, value-at, read-to, value-read, task-read, host-saved, SavedTo, saved-to, host-save-as, host-save}
 use Rattle.machine.specs.Creation.{Made, made, create-behind, create-fit, create}
 use Rattle.machine.specs.History.{world-after, world-saved, HostCall, left-by}
+use Rattle.laws.specs.Sound.{Passes}
 use Rattle.laws.specs.Counted.{allowance}
 use Rattle.laws.specs.Refused.{RefusedOutside, not-run, not-saved, no-value, no-task}
 use Rattle.laws.proofs.Either.{either}
+use Rattle.laws.proofs.SoundnessCalls.{allowed-passes}
+use Rattle.laws.proofs.RefusedInside.{run-other}
 
 -- ---- start and continue: 26
 
--- for the record, or for its phase
+-- a call that is allowed runs
+pub call-allowed : (verb : Verb) (fuel : ℕ) (w : World) → allowance verb w .allowed ≡ true → call verb fuel w ≡ at-end fuel (run fuel (with-machine w (allowance verb w .machine)))
+unfolding call call-with
+call-allowed verb fuel w e = simp e
+
+unsound-not-allowed : (verb : Verb) (w : World) → allowed (w .machine) false verb .allowed ≡ false
+unfolding allowed
+unsound-not-allowed verb w = refl
+
+-- and its record passes the test of 26
+pub sound-if-allowed : (verb : Verb) (w : World) → allowance verb w .allowed ≡ true → is-sound w ≡ true
+sound-if-allowed verb w e = by (is-sound w) refl e
+  where
+    by : (b : Bool) → is-sound w ≡ b → allowed (w .machine) b verb .allowed ≡ true → is-sound w ≡ true
+    by true is yes-it-is = is
+    by false is yes-it-is = absurd (false≢true (sym (unsound-not-allowed verb w) ∙ yes-it-is))
+
+-- one that is not allowed, for the record or for its phase, answers 26 and leaves everything
 pub call-not-allowed : (verb : Verb) (fuel : ℕ) (w : World) → allowance verb w .allowed ≡ false → call verb fuel w ≡ reports (not-allowed (w .machine)) w
 unfolding call call-with
 call-not-allowed verb fuel w e = simp e
@@ -102,13 +124,27 @@ save-not-saved w refusal =
 
 -- ---- each
 
--- document 01: a call that is refused outside an instruction writes nothing
-pub nothing-written : (w : World) (asked : HostCall) → RefusedOutside w asked → left-by asked w ≡ w
+-- an instruction is never refused with 26, so a start or a continue that answers 26 was not allowed
+run-outcome : (fuel : ℕ) (w : World) → at-end fuel (run fuel w) .report .outcome ≡ run fuel w .outcome
+unfolding report
+run-outcome fuel w = refl
+
+not-allowed-if-26 : (verb : Verb) (fuel : ℕ) (w : World) → length (w .ends) ≡ 1024 → call verb fuel w .report .outcome ≡ Refused WrongPhaseOrUnsound → (b : Bool) → allowance verb w .allowed ≡ b
+    → allowance verb w .allowed ≡ false
+not-allowed-if-26 verb fuel w lent e false is = is
+not-allowed-if-26 verb fuel w lent e true is =
+    let begins = with-machine w (allowance verb w .machine) in
+    let passes : Passes begins = allowed-passes w (is-sound w) verb (record { tested = sound-if-allowed verb w is; ends-lent = lent }) in
+    let refused : run fuel begins .outcome ≡ Refused WrongPhaseOrUnsound = sym (run-outcome fuel begins) ∙ ap (λ (r : Reported). r .report .outcome) (sym (call-allowed verb fuel w is)) ∙ e in
+    absurd (true≢false (run-other fuel begins WrongPhaseOrUnsound passes refused))
+
+-- document 01: a call that is refused outside an instruction writes nothing; 1,024 ends are what the type says
+pub nothing-written : (w : World) → length (w .ends) ≡ 1024 → (asked : HostCall) → RefusedOutside w asked → left-by asked w ≡ w
 unfolding left-by value-read task-read
-nothing-written w _ (not-run verb fuel e) = ap world-after (call-not-allowed verb fuel w e)
-nothing-written w _ (not-saved refusal e) = ap world-saved (save-not-saved w refusal e)
-nothing-written w _ (no-value position refusal e) = refl
-nothing-written w _ (no-task id refusal e) = refl
+nothing-written w lent _ (not-run verb fuel e) = ap world-after (call-not-allowed verb fuel w (not-allowed-if-26 verb fuel w lent e (allowance verb w .allowed) refl))
+nothing-written w lent _ (not-saved refusal e) = ap world-saved (save-not-saved w refusal e)
+nothing-written w lent _ (no-value position refusal e) = refl
+nothing-written w lent _ (no-task id refusal e) = refl
 
 -- ---- creation: 26, 1, 28, 25, 22
 

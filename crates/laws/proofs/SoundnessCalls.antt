@@ -8,7 +8,6 @@ use lib.ListN.{length}
 use Rattle.machine.specs.declared.Machine.{Machine}
 use Rattle.machine.specs.declared.Phase.{Phase}
 use Rattle.machine.specs.declared.Phase.the-variants.{Done, Paused, Stopped}
-use Rattle.machine.specs.Machines.{with-saved}
 use Rattle.mechanism.specs.Registers.{settled}
 use Rattle.machine.specs.Machines.{rewound, placed}
 use Rattle.mechanism.specs.Registers.{registers-of}
@@ -17,7 +16,7 @@ use Rattle.machine.specs.declared.Outcome.the-variants as outcome
 use Rattle.image.specs.Table.{SavedTable}
 use Rattle.machine.specs.World.{World, world}
 use Rattle.machine.specs.Run.{run}
-use Rattle.machine.specs.Calls.{fresh, allowed, phased, ended, report, is-sound, call-with, call, start, go-on, Reported}
+use Rattle.machine.specs.Calls.{fresh, allowed, phased, ended, report, is-sound, call-with, call, start, Reported}
 use Rattle.machine.specs.World.{with-machine}
 use Rattle.machine.specs.Reads.{host-saved, SavedTo, host-save-as, host-save, value-read, task-read}
 use Rattle.machine.specs.declared.Verb.{Verb}

@@ -1,5 +1,5 @@
 -- A finished instruction leaves what passes the test of 26 passing and a sound world sound, the pool's entries as they were, and as many living tasks and ids given out as it made and deleted.
-use Prim.Native.Nat.{ℕ, _+_, _%_, _^_, _≤_, _<_}
+use Prim.Native.Nat.{ℕ, _+_, _≤_, _<_}
 use mathlib.Core.Bool.{Bool, true, false, true≢false}
 use mathlib.Core.List.{List}
 use mathlib.Core.Path.{_≡_, refl, sym, ap, _∙_, subst}
@@ -10,7 +10,6 @@ use borrow.Author.Tests.{eqb-true}
 use Rattle.errors.specs.declared.Refusal.{Refusal}
 use Rattle.bytecode.specs.Opcodes.{T-CREATE, T-DELETE, S-SAVE}
 use Rattle.pools.specs.Pool.{entry-of}
-use Rattle.storage.specs.declared.Task.{Task}
 use Rattle.storage.specs.Table.{living-of}
 use Rattle.image.specs.Table.{SavedTable}
 use Rattle.mechanism.specs.Registers.{OnMemory}
