@@ -6,6 +6,8 @@ pub mod Living
 pub mod Unsound
 pub mod Refused
 pub mod Along
+pub mod Counted
+pub mod Given
 pub mod Held
 pub mod RefusedInside
 pub mod Either

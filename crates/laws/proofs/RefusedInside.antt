@@ -69,11 +69,11 @@ use Rattle.laws.proofs.Step.{step-passes}
 use Rattle.laws.proofs.Finished.{finished}
 
 -- another number than 26
-abbrev pub Other : Refusal → Type 0
+abbrev Other : Refusal → Type 0
 Other refusal = eqb (number-of refusal) 26 ≡ false
 
 -- finished, or refused with another number
-pub data Fine : StepResult → Type 0 where
+data Fine : StepResult → Type 0 where
   goes : (v : World) → Fine (next v)
   stops : (refusal : Refusal) → Other refusal → Fine (refused refusal)
 
@@ -488,7 +488,7 @@ other-of refusal _ (goes v) e = absurd (let z : _≡_ {A = ℕ} 0 1 = cc in omeg
 other-of refusal _ (stops found other) e = let same : found ≡ refusal = cc in subst Other same other
 
 -- a refused instruction of a machine that passes the test of 26 is refused with another number
-pub step-other : (w : World) (refusal : Refusal) → Passes w → step w ≡ refused refusal → Other refusal
+pub step-other : (w : World) (refusal : Refusal) → Passes w → step w ≡ refused refusal → eqb (number-of refusal) 26 ≡ false
 step-other w refusal p e =
     let m = passes-kept w p .machine-kept in
     other-of refusal (step w) (step-by w (m .values .high) (m .values .few) (few-frames (w .machine .frames) (w .machine .entries) (m .frames))) e
@@ -505,5 +505,5 @@ ends-other fuel w refusal _ p (is-refused n left v found sum way over refuses) e
     subst Other same (step-other v found (passes-on n w v p way) refuses)
 
 -- and so is a run
-pub run-other : (fuel : ℕ) (w : World) (refusal : Refusal) → Passes w → run fuel w .outcome ≡ Refused refusal → Other refusal
+pub run-other : (fuel : ℕ) (w : World) (refusal : Refusal) → Passes w → run fuel w .outcome ≡ Refused refusal → eqb (number-of refusal) 26 ≡ false
 run-other fuel w refusal p e = ends-other fuel w refusal (run fuel w) p (finished fuel w) e
