@@ -16,11 +16,12 @@ use Rattle.machine.specs.declared.Verb.{Verb}
 use Rattle.machine.specs.declared.Verb.the-variants.{Start, Continue}
 use Rattle.machine.specs.Machines.{with-saved}
 use Rattle.machine.specs.World.{World, world}
-use Rattle.machine.specs.Calls.{may-start, may-continue, allowed, not-allowed, Reported, reports, is-sound, call-with, call}
+use Rattle.machine.specs.Calls.{may-start, may-continue, not-allowed, Reported, reports, is-sound, call}
 use Rattle.machine.specs.Reads.{value-read, task-read, host-saved, host-save-as, host-save}
 use Rattle.machine.specs.History.{HostCall, runs, saves, reads-value, reads-task, left-by, history, world-after, world-saved}
 use Rattle.laws.specs.Sound.{Sound}
-use Rattle.laws.proofs.SoundnessCalls.{save-sound}
+use Rattle.laws.proofs.SoundnessCalls.{left-sound}
+use Rattle.laws.proofs.Refused.{start-in-phase, continue-in-phase}
 use Rattle.rust.specs.Errors.{VMError}
 use Rattle.rust.specs.Vm.{VM}
 use Rattle.rust.specs.Run.{Ran, returned, running, failed, panicked}
@@ -90,24 +91,16 @@ module _ {w : World} where
   given-call Continue fuel (it-panicked s phase) takes = absurd (true≢false (sym takes))
 
   -- that the Rust does not take: 26
-  no-start : (fuel : ℕ) → Sound w → may-start (w .machine .phase) ≡ false → call Start fuel w ≡ reports (not-allowed (w .machine)) w
-  unfolding call call-with allowed
-  no-start fuel s may = rw (s .tested, may)
-
-  no-go-on : (fuel : ℕ) → Sound w → may-continue (w .machine .phase) ≡ false → call Continue fuel w ≡ reports (not-allowed (w .machine)) w
-  unfolding call call-with allowed
-  no-go-on fuel s may = rw (s .tested, may)
-
   pub refused-call : {ran : Ran} (verb : Verb) (fuel : ℕ) → Related w ran → rust-takes verb ran ≡ false → call verb fuel w ≡ reports (not-allowed (w .machine)) w
   unfolding rust-takes may-start may-continue
   refused-call Start fuel (both-rest ready done lined values-are is) takes = absurd (true≢false takes)
-  refused-call Start fuel (both-run stale s bytes phase lined is) takes = no-start fuel s (ap may-start phase)
-  refused-call Start fuel (it-failed stale s phase is) takes = no-start fuel s (ap may-start phase)
-  refused-call Start fuel (it-panicked s phase) takes = no-start fuel s (ap may-start phase)
-  refused-call Continue fuel (both-rest ready done lined values-are is) takes = no-go-on fuel (ready .is-sound) (may-not (w .machine .phase) (ready .phase))
+  refused-call Start fuel (both-run stale s bytes phase lined is) takes = start-in-phase fuel w (ap may-start phase)
+  refused-call Start fuel (it-failed stale s phase is) takes = start-in-phase fuel w (ap may-start phase)
+  refused-call Start fuel (it-panicked s phase) takes = start-in-phase fuel w (ap may-start phase)
+  refused-call Continue fuel (both-rest ready done lined values-are is) takes = continue-in-phase fuel w (may-not (w .machine .phase) (ready .phase))
   refused-call Continue fuel (both-run stale s bytes phase lined is) takes = absurd (true≢false takes)
-  refused-call Continue fuel (it-failed stale s phase is) takes = no-go-on fuel s (ap may-continue phase)
-  refused-call Continue fuel (it-panicked s phase) takes = no-go-on fuel s (ap may-continue phase)
+  refused-call Continue fuel (it-failed stale s phase is) takes = continue-in-phase fuel w (ap may-continue phase)
+  refused-call Continue fuel (it-panicked s phase) takes = continue-in-phase fuel w (ap may-continue phase)
 
 not-taken : (verb : Verb) (fuel : ℕ) (ran : Ran) → rust-takes verb ran ≡ false → rust-call verb fuel ran ≡ ran
 unfolding rust-takes rust-call
@@ -189,7 +182,7 @@ sound-related (it-panicked s phase) = s
 left-by-related : {w : World} {ran : Ran} (one : HostCall) → Related w ran → call-meets one w ≡ false → Related (left-by one w) (rust-left-by one ran)
 unfolding left-by rust-left-by call-meets value-read task-read
 left-by-related (runs verb fuel) related none-met = call-related verb fuel related none-met
-left-by-related {w} saves related none-met = image-related (save-is w) (save-sound w (sound-related related)) related
+left-by-related {w} saves related none-met = image-related (save-is w) (left-sound saves w (sound-related related)) related
 left-by-related (reads-value position) related none-met = related
 left-by-related (reads-task id) related none-met = related
 
