@@ -409,18 +409,18 @@ step vm lined = exec (rust.instructions vm) (vm .pc + 1) vm lined (getD (rust.in
 
 -- ---- a run
 
--- what a run returns is aligned
+-- what a run returns, and what it goes on with, is aligned
 pub data Given : Ran → Type 0 where
   given : (values : List ℕ) (vm : VM) → Lined values → Given (returned values vm)
-  not-yet : (vm : VM) → Given (running vm)
-  not-at-all : (error : VMError) → Given (failed error)
+  not-yet : (vm : VM) → Lined (vm .stack) → Given (running vm)
+  not-at-all : (error : VMError) (before : VM) → Given (failed error before)
   never : Given panicked
 
-onwards : (turn : VM → Ran) → ((vm : VM) → Lined (vm .stack) → Given (turn vm)) → (o : Out VM) → Kept o → Given (onward turn o)
+onwards : (turn : VM → Ran) (before : VM) → ((vm : VM) → Lined (vm .stack) → Given (turn vm)) → (o : Out VM) → Kept o → Given (onward turn before o)
 unfolding onward
-onwards turn f _ (goes vm lined) = f vm lined
-onwards turn f _ (errs {error}) = not-at-all error
-onwards turn f _ panics = never
+onwards turn before f _ (goes vm lined) = f vm lined
+onwards turn before f _ (errs {error}) = not-at-all error before
+onwards turn before f _ panics = never
 
 finish-kept : (vm : VM) → Lined (vm .stack) → Kept (finish vm)
 unfolding finish
@@ -428,23 +428,24 @@ finish-kept vm lined = others-seen (vm .call-stack) _ (λ frame. goes _ lined)
 
 finished-given : (vm : VM) → Lined (vm .stack) → Given (finished vm)
 unfolding finished
-finished-given vm lined = onwards (λ after. returned (after .stack) (rust.at after 0 [])) (λ after more. given _ _ more) (finish vm) (finish-kept vm lined)
+finished-given vm lined = onwards (λ after. returned (after .stack) (rust.at after 0 [])) vm (λ after more. given _ _ more) (finish vm) (finish-kept vm lined)
 
 choose : (b : Bool) {x y : Ran} → Given x → Given y → Given (cond b x y)
 choose true p q = p
 choose false p q = q
 
-while-given : (turns : ℕ) (vm : VM) → Lined (vm .stack) → Given (while turns vm)
+-- a loop that goes on with an aligned stack
+pub while-given : (turns : ℕ) (vm : VM) → Lined (vm .stack) → Given (while turns vm)
 unfolding while
-while-given zero vm lined = choose (ltb (vm .pc) (length (rust.instructions vm))) (not-yet vm) (finished-given vm lined)
+while-given zero vm lined = choose (ltb (vm .pc) (length (rust.instructions vm))) (not-yet vm lined) (finished-given vm lined)
 while-given (suc turns) vm lined =
-    choose (ltb (vm .pc) (length (rust.instructions vm))) (onwards (while turns) (λ after more. while-given turns after more) (rust.step vm) (step vm lined)) (finished-given vm lined)
+    choose (ltb (vm .pc) (length (rust.instructions vm))) (onwards (while turns) vm (λ after more. while-given turns after more) (rust.step vm) (step vm lined)) (finished-given vm lined)
 
 begin-kept : (vm : VM) → Lined (vm .stack) → Kept (begin vm)
 unfolding begin
 begin-kept vm lined = others-seen (vm .call-stack) _ (λ frame. an-entry (vm .instructions-pool) (frame .instructions-ref) _ (λ code. goes _ lined))
 
--- a run that begins with an empty stack returns aligned values
+-- a run that begins with an empty stack
 pub run-given : (turns : ℕ) (vm : VM) → vm .stack ≡ [] → Given (run turns vm)
 unfolding run
-run-given turns vm none-there = onwards (while turns) (while-given turns) (begin vm) (begin-kept vm (subst Lined (sym none-there) empty))
+run-given turns vm none-there = onwards (while turns) vm (while-given turns) (begin vm) (begin-kept vm (subst Lined (sym none-there) empty))

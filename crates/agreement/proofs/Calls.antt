@@ -1,4 +1,4 @@
--- Start and continue beside the Rust's run, at any split of fuel, and runs after each other.
+-- Start and continue beside the Rust's run, and the Rust's loop at any split of its turns.
 use Prim.Native.Nat.{ℕ, zero, suc, _+_, _<_}
 use mathlib.Core.Bool.{Bool, true, false}
 use mathlib.Core.Path.{_≡_, refl, sym, ap, subst, _∙_}
@@ -6,7 +6,7 @@ use mathlib.Core.List.{List, [], _∷_}
 use native.Mathlib.Omega.{arith}
 use native.Mathlib.Decide.{ℕ-discrete}
 use lib.Dec.{ltb}
-use lib.ListN.{length, getD, take}
+use lib.ListN.{length, getD}
 use borrow.Author.Tests.{lt-ltb}
 use Rattle.errors.specs.declared.Refusal.{Refusal}
 use Rattle.errors.specs.declared.Refusal.the-variants as refusal
@@ -22,15 +22,14 @@ use Rattle.mechanism.specs.Registers.{registers-of, settled}
 use Rattle.machine.specs.Machines.{rewound, placed}
 use Rattle.machine.specs.declared.Outcome.{Outcome}
 use Rattle.machine.specs.declared.Outcome.the-variants as outcome
-use Rattle.machine.specs.World.{World, place}
+use Rattle.machine.specs.World.{World, place, memory-in-use, with-machine}
 use Rattle.machine.specs.Run.{End, run}
-use Rattle.machine.specs.Calls.{may-start, may-continue, fresh, allowed, ended, report, Reported, at-end, is-sound, call-with, call, start, go-on}
-use Rattle.machine.specs.World.{with-machine}
-use Rattle.machine.specs.declared.Verb.the-variants.{Start}
+use Rattle.machine.specs.Calls.{may-start, may-continue, fresh, allowed, ended, report, Reported, at-end, call-with, call, start, go-on}
+use Rattle.machine.specs.declared.Verb.the-variants.{Start, Continue}
 use Rattle.machine.specs.Reads.{is-done, readable, value-at, value-read}
+use Rattle.machine.specs.History.{runs, world-after}
 use Rattle.memory.specs.Unbox as unbox
 use Rattle.laws.specs.Sound.{Sound}
-use Rattle.laws.specs.After.{world-after}
 use Rattle.laws.proofs.SoundnessCalls.{ended-sound, allowed-sound}
 use Rattle.rust.specs.Errors.{VMError, Out, ok, err, panic}
 use Rattle.rust.specs.InlineVec as inlinevec
@@ -42,10 +41,10 @@ use Rattle.rust.specs.Run.{Ran, returned, running, failed, panicked, onward, fi
 use Rattle.agreement.specs.View.{callers, view}
 use Rattle.agreement.specs.Agreement.{Over, many-tasks, long-title, many-entries, many-bytes, long-memory, long-image, refusal-of}
 use Rattle.agreement.specs.Reads.{Aligned}
-use Rattle.agreement.specs.Runs.{at-rest, ReadAlike, Answers, ends, pauses, errs, panics, meets, Fuels, sum, turns, continued-by, continued, our-run, followed-by, our-runs, rust-next, rust-runs, Alike, no-more, one-more, met}
+use Rattle.agreement.specs.Runs.{rust-call, rust-left-by, rust-history, at-rest, ReadAlike, Answers, ends, pauses, errs, panics, meets}
 use Rattle.agreement.proofs.Facts.{facts}
 use Rattle.agreement.proofs.Views.{current-is, callers-are}
-use Rattle.agreement.proofs.Aligned.{Lined, above, Given, given, run-given}
+use Rattle.agreement.proofs.Aligned.{Lined, above, Given, given}
 use Rattle.agreement.proofs.Unbox.{unbox-agrees}
 use Rattle.agreement.proofs.Run as same
 use Rattle.agreement.proofs.Run.{Same, run-same}
@@ -72,12 +71,13 @@ pub record Leaves (r : Reported) : Type 0 where
   pub bytes : Bytes (r .pool)
   pub phase : r .report .machine .phase ≡ phase-by (r .report .outcome)
 
--- an answer to the Rust's run, and for one that can be gone on from, what it leaves
+-- an answer to the Rust's run, and what it leaves unless an added capacity is met
 pub data Told (r : Reported) : Ran → Type 0 where
   told-end : r .report .outcome ≡ outcome.Done → Leaves r → Told r (returned (values-of (r .report .machine .height) (r .stack)) (at-rest (world-after r)))
   told-pause : (stale : ℕ) → r .report .outcome ≡ outcome.Paused → Leaves r → Told r (running (view stale (world-after r)))
-  told-err : (stale : ℕ) (error : VMError) → r .report .outcome ≡ outcome.Refused (refusal-of error) → rust.step (view stale (world-after r)) ≡ err error → Told r (failed error)
-  told-panic : (stale : ℕ) → r .report .outcome ≡ outcome.Refused refusal.UnexpectedEOB → rust.step (view stale (world-after r)) ≡ panic → Told r panicked
+  told-err : (stale : ℕ) (error : VMError) → r .report .outcome ≡ outcome.Refused (refusal-of error) → Leaves r → rust.step (view stale (world-after r)) ≡ err error
+      → Told r (failed error (view stale (world-after r)))
+  told-panic : (stale : ℕ) → r .report .outcome ≡ outcome.Refused refusal.UnexpectedEOB → Leaves r → rust.step (view stale (world-after r)) ≡ panic → Told r panicked
   told-met : (stale : ℕ) (number : Refusal) (vm : VM) → r .report .outcome ≡ outcome.Refused number → rust.step (view stale (world-after r)) ≡ ok vm → Over (world-after r) number vm → (ran : Ran) → Told r ran
 
 -- a machine that is done, as the Rust leaves it
@@ -100,28 +100,28 @@ rests-done w =
 done-is : (stale : ℕ) (w : World) → finished (view stale w) ≡ returned (values-of (w .machine .height) (w .stack)) (at-rest (with-machine w (ended (w .machine) outcome.Done)))
 done-is stale w = finished-is stale w ∙ ap (returned (values-of (w .machine .height) (w .stack))) (sym (rests-done w))
 
+leaves-by : (w : World) (outcome : Outcome) (fuel left : ℕ) → Sound w → Bytes (w .pool) → Leaves (at-end fuel (record { world = w; left = left; outcome = outcome }))
+unfolding report ended phase-by rewound placed settled
+leaves-by w outcome.Done fuel left s bytes = record { is-sound = ended-sound w outcome.Done s; bytes = bytes; phase = refl }
+leaves-by w outcome.Paused fuel left s bytes = record { is-sound = ended-sound w outcome.Paused s; bytes = bytes; phase = refl }
+leaves-by w (outcome.Refused number) fuel left s bytes = record { is-sound = ended-sound w (outcome.Refused number) s; bytes = bytes; phase = refl }
+
 told : (fuel : ℕ) (e : End) (ran : Ran) → Same e ran → Told (at-end fuel e) ran
-unfolding report ended phase-by view rewound placed settled
-told fuel _ _ (same.both-end stale w left s bytes) =
-    rw (done-is stale w) (told-end refl (record { is-sound = ended-sound w outcome.Done s; bytes = bytes; phase = refl }))
-told fuel _ _ (same.both-pause stale w s bytes) = told-pause stale refl (record { is-sound = ended-sound w outcome.Paused s; bytes = bytes; phase = refl })
-told fuel _ _ (same.both-err stale w left error e) = told-err stale error refl e
-told fuel _ _ (same.both-panic stale w left e) = told-panic stale refl e
+unfolding report ended view rewound placed
+told fuel _ _ (same.both-end stale w left s bytes) = rw (done-is stale w) (told-end refl (leaves-by w outcome.Done fuel left s bytes))
+told fuel _ _ (same.both-pause stale w s bytes) = told-pause stale refl (leaves-by w outcome.Paused fuel 0 s bytes)
+told fuel _ _ (same.both-err stale w left error s bytes e) = told-err stale error refl (leaves-by w (outcome.Refused (refusal-of error)) fuel left s bytes) e
+told fuel _ _ (same.both-panic stale w left s bytes e) = told-panic stale refl (leaves-by w (outcome.Refused refusal.UnexpectedEOB) fuel left s bytes) e
 told fuel _ _ (same.meets stale w left number vm ran e over) = told-met stale number vm refl e (over-same w _ over) ran
 
 -- ---- the Rust's loop after more turns
 
-more : ℕ → Ran → Ran
-more turns (returned values vm) = returned values vm
-more turns (running vm) = while turns vm
-more turns (failed error) = failed error
-more turns panicked = panicked
-
-more-finished : (turns : ℕ) (o : Out VM) → more turns (onward (λ after. returned (after .stack) (at after 0 [])) o) ≡ onward (λ after. returned (after .stack) (at after 0 [])) o
-unfolding more onward
-more-finished turns (ok vm) = refl
-more-finished turns (err error) = refl
-more-finished turns panic = refl
+more-finished : (turns : ℕ) (before : VM) (o : Out VM)
+    → rust-call Continue turns (onward (λ after. returned (after .stack) (at after 0 [])) before o) ≡ onward (λ after. returned (after .stack) (at after 0 [])) before o
+unfolding rust-call onward
+more-finished turns before (ok vm) = refl
+more-finished turns before (err error) = refl
+more-finished turns before panic = refl
 
 none-turned : (turns : ℕ) (vm : VM) → ltb (vm .pc) (length (rust.instructions vm)) ≡ false → while turns vm ≡ finished vm
 unfolding while
@@ -132,33 +132,47 @@ some-turned : (vm : VM) → ltb (vm .pc) (length (rust.instructions vm)) ≡ tru
 unfolding while
 some-turned vm e = rw e
 
-one-turned : (turns : ℕ) (vm : VM) → ltb (vm .pc) (length (rust.instructions vm)) ≡ true → while (suc turns) vm ≡ onward (while turns) (rust.step vm)
+one-turned : (turns : ℕ) (vm : VM) → ltb (vm .pc) (length (rust.instructions vm)) ≡ true → while (suc turns) vm ≡ onward (while turns) vm (rust.step vm)
 unfolding while
 one-turned turns vm e = rw e
 
-more-stays : (turns : ℕ) (vm : VM) → more turns (finished vm) ≡ finished vm
+more-stays : (turns : ℕ) (vm : VM) → rust-call Continue turns (finished vm) ≡ finished vm
 unfolding finished
-more-stays turns vm = more-finished turns (finish vm)
+more-stays turns vm = more-finished turns vm (finish vm)
 
-more-onward : (a b : ℕ) (o : Out VM) → ((vm : VM) → while (a + b) vm ≡ more b (while a vm)) → onward (while (a + b)) o ≡ more b (onward (while a) o)
-unfolding onward more
-more-onward a b (ok vm) later = later vm
-more-onward a b (err error) later = refl
-more-onward a b panic later = refl
+more-onward : (a b : ℕ) (before : VM) (o : Out VM) → ((vm : VM) → while (a + b) vm ≡ rust-call Continue b (while a vm))
+    → onward (while (a + b)) before o ≡ rust-call Continue b (onward (while a) before o)
+unfolding onward rust-call
+more-onward a b before (ok vm) later = later vm
+more-onward a b before (err error) later = refl
+more-onward a b before panic later = refl
 
 -- a turns, then b, are a + b
-more-turns : (a b : ℕ) (vm : VM) → while (a + b) vm ≡ more b (while a vm)
-unfolding more
+more-turns : (a b : ℕ) (vm : VM) → while (a + b) vm ≡ rust-call Continue b (while a vm)
+unfolding rust-call
 more-turns zero b vm = by (ltb (vm .pc) (length (rust.instructions vm))) refl
   where
-    by : (t : Bool) → ltb (vm .pc) (length (rust.instructions vm)) ≡ t → while (0 + b) vm ≡ more b (while 0 vm)
+    by : (t : Bool) → ltb (vm .pc) (length (rust.instructions vm)) ≡ t → while (0 + b) vm ≡ rust-call Continue b (while 0 vm)
     by true e = let z : 0 + b ≡ b = omega arith in rw (z, some-turned vm e)
     by false e = rw (none-turned (0 + b) vm e, none-turned 0 vm e) (sym (more-stays b vm))
 more-turns (suc a) b vm = by (ltb (vm .pc) (length (rust.instructions vm))) refl (λ v. more-turns a b v)
   where
-    by : (t : Bool) → ltb (vm .pc) (length (rust.instructions vm)) ≡ t → ((v : VM) → while (a + b) v ≡ more b (while a v)) → while (suc a + b) vm ≡ more b (while (suc a) vm)
-    by true e later = let z : suc a + b ≡ suc (a + b) = omega arith in rw (z, one-turned (a + b) vm e, one-turned a vm e) (more-onward a b (rust.step vm) later)
+    by : (t : Bool) → ltb (vm .pc) (length (rust.instructions vm)) ≡ t → ((v : VM) → while (a + b) v ≡ rust-call Continue b (while a v)) → while (suc a + b) vm ≡ rust-call Continue b (while (suc a) vm)
+    by true e later = let z : suc a + b ≡ suc (a + b) = omega arith in rw (z, one-turned (a + b) vm e, one-turned a vm e) (more-onward a b vm (rust.step vm) later)
     by false e later = rw (none-turned (suc a + b) vm e, none-turned (suc a) vm e) (sym (more-stays b vm))
+
+-- a start with fuel a and a continue with fuel b leave the Rust as a start with fuel a + b does
+pub start-split : (a b : ℕ) (values : List ℕ) (vm : VM) → rust-history (runs Start a ∷ runs Continue b ∷ []) (returned values vm) ≡ rust-history (runs Start (a + b) ∷ []) (returned values vm)
+unfolding rust-history rust-left-by rust-call loop.run
+start-split a b values vm = sym (more-onward a b vm (begin vm) (more-turns a b))
+
+-- and two continues as one, wherever the Rust is
+pub continue-split : (a b : ℕ) (ran : Ran) → rust-history (runs Continue a ∷ runs Continue b ∷ []) ran ≡ rust-history (runs Continue (a + b) ∷ []) ran
+unfolding rust-history rust-left-by rust-call
+continue-split a b (returned values vm) = refl
+continue-split a b (running vm) = sym (more-turns a b vm)
+continue-split a b (failed error before) = refl
+continue-split a b panicked = refl
 
 -- ---- a machine that may start
 
@@ -192,48 +206,15 @@ run-is : (turns : ℕ) (w : World) → Sound w → loop.run turns (at-rest w) �
 unfolding loop.run onward
 run-is turns w s = rw (begins w s)
 
-start-told : (fuel : ℕ) (w : World) → Ready w → Told (start fuel w) (while fuel (view (place w) (begun w)))
+-- so a start answers the Rust's run, and a continue its loop
+pub start-told : (fuel : ℕ) (w : World) → Ready w → Told (start fuel w) (loop.run fuel (at-rest w))
 start-told fuel w ready =
-    rw (start-is fuel w ready) (told fuel _ _ (run-same fuel (begun w) (place w) (begun-sound w (ready .is-sound)) (ready .bytes)))
+    rw (start-is fuel w ready, run-is fuel w (ready .is-sound)) (told fuel _ _ (run-same fuel (begun w) (place w) (begun-sound w (ready .is-sound)) (ready .bytes)))
 
-go-on-told : (fuel stale : ℕ) (w : World) → Sound w → Bytes (w .pool) → may-continue (w .machine .phase) ≡ true → Told (go-on fuel w) (while fuel (view stale w))
+pub go-on-told : (fuel stale : ℕ) (w : World) → Sound w → Bytes (w .pool) → may-continue (w .machine .phase) ≡ true → Told (go-on fuel w) (while fuel (view stale w))
 go-on-told fuel stale w s bytes may = rw (go-on-is fuel w s may) (told fuel _ _ (run-same fuel w stale s bytes))
 
--- ---- one run at any split of its fuel
-
-paused-may : (r : Reported) → r .report .outcome ≡ outcome.Paused → Leaves r → may-continue (r .report .machine .phase) ≡ true
-unfolding phase-by may-continue
-paused-may r e leaves = rw (leaves .phase, e)
-
-ended-by : (r m : Reported) {ran : Ran} → r .report .outcome ≡ outcome.Done → Told r ran → Told (continued-by (r .report .outcome) r m) ran
-unfolding continued-by
-ended-by r m {ran} e t = subst (λ (o : Outcome). Told (continued-by o r m) ran) (sym e) t
-
-paused-by : (r m : Reported) {ran : Ran} → r .report .outcome ≡ outcome.Paused → Told m ran → Told (continued-by (r .report .outcome) r m) ran
-unfolding continued-by
-paused-by r m {ran} e t = subst (λ (o : Outcome). Told (continued-by o r m) ran) (sym e) t
-
-refused-by : (r m : Reported) {ran : Ran} {number : Refusal} → r .report .outcome ≡ outcome.Refused number → Told r ran → Told (continued-by (r .report .outcome) r m) ran
-unfolding continued-by
-refused-by r m {ran} e t = subst (λ (o : Outcome). Told (continued-by o r m) ran) (sym e) t
-
-continued-told : (fuels : List ℕ) (r : Reported) (a : ℕ) (vm : VM) → Told r (while a vm) → Told (continued fuels r) (while (a + sum fuels) vm)
-unfolding continued sum more
-continued-told [] r a vm t = let z : a + 0 ≡ a = omega arith in rw z t
-continued-told (fuel ∷ fuels) r a vm t = rw (more-turns a (fuel + sum fuels) vm) (by (while a vm) t (λ r a vm t. continued-told fuels r a vm t))
-  where
-    by : (ran : Ran) → Told r ran → ((r : Reported) (a : ℕ) (vm : VM) → Told r (while a vm) → Told (continued fuels r) (while (a + sum fuels) vm))
-        → Told (continued-by (r .report .outcome) r (continued fuels (go-on fuel (world-after r)))) (more (fuel + sum fuels) ran)
-    by _ (told-end e leaves) later = ended-by r _ e (told-end e leaves)
-    by _ (told-pause stale e leaves) later = paused-by r _ e (later _ fuel _ (go-on-told fuel stale (world-after r) (leaves .is-sound) (leaves .bytes) (paused-may r e leaves)))
-    by _ (told-err stale error e f) later = refused-by r _ e (told-err stale error e f)
-    by _ (told-panic stale e f) later = refused-by r _ e (told-panic stale e f)
-    by _ (told-met stale number vm e f over ran) later = refused-by r _ e (told-met stale number vm e f over _)
-
-our-run-told : (fuels : Fuels) (w : World) → Ready w → Told (our-run fuels w) (loop.run (turns fuels) (at-rest w))
-unfolding our-run
-our-run-told fuels w ready =
-    rw (run-is (turns fuels) w (ready .is-sound)) (continued-told (fuels .others) (start (fuels .first) w) (fuels .first) (view (place w) (begun w)) (start-told (fuels .first) w ready))
+-- ---- the values
 
 -- a value on the stack of aligned ones
 lined-at : (stack : List ℕ) (height i : ℕ) → Lined (values-of height stack) → i < height → Aligned (getD stack i 0)
@@ -246,59 +227,28 @@ lined-at stack (suc height) i (above a more) less = by (ℕ-discrete i height) (
     by (no e) later = later (omega arith)
 
 -- a done run lets its values be read
-readable-done : (r : Reported) (i : ℕ) → r .report .outcome ≡ outcome.Done → Leaves r → i < r .report .machine .height
-    → value-read i (world-after r) .answer ≡ unbox.unbox-value (take (r .report .machine .memory) (r .memory)) (r .ends) (r .report .machine .entries) (getD (r .stack) i 0)
-unfolding value-read value-at readable is-done phase-by
-readable-done r i e leaves less = rw (leaves .is-sound .tested, leaves .phase ∙ ap phase-by e, lt-ltb i (r .report .machine .height) less)
+readable-done : (w : World) (i : ℕ) → Sound w → is-done (w .machine .phase) ≡ true → i < w .machine .height
+    → value-read i w .answer ≡ unbox.unbox-value (memory-in-use w) (w .ends) (w .machine .entries) (getD (w .stack) i 0)
+unfolding value-read value-at readable
+readable-done w i s done less = rw (s .tested, done, lt-ltb i (w .machine .height) less)
 
-read-alike : (r : Reported) → r .report .outcome ≡ outcome.Done → Leaves r → Lined (values-of (r .report .machine .height) (r .stack)) → ReadAlike r (at-rest (world-after r))
+-- where there are values, the run is done
+abbrev pub DoneIfAny : World → Type 0
+DoneIfAny w = (i : ℕ) → i < w .machine .height → is-done (w .machine .phase) ≡ true
+
+pub read-alike : (w : World) → Sound w → DoneIfAny w → Lined (values-of (w .machine .height) (w .stack)) → ReadAlike w (at-rest w)
 unfolding view
-read-alike r e leaves lined i less =
-    rw (readable-done r i e leaves less)
-    (unbox-agrees (world-after r) (facts (leaves .is-sound)) (at-rest (world-after r)) refl refl i less (lined-at (r .stack) (r .report .machine .height) i lined less))
+read-alike w s done lined i less =
+    rw (readable-done w i s (done i less) less) (unbox-agrees w (facts s) (at-rest w) refl refl i less (lined-at (w .stack) (w .machine .height) i lined less))
+
+pub done-if-any : (r : Reported) → r .report .outcome ≡ outcome.Done → Leaves r → DoneIfAny (world-after r)
+unfolding is-done phase-by
+done-if-any r e leaves i less = rw (leaves .phase, e)
 
 -- what is told is an answer
-answers : {r : Reported} {ran : Ran} → Told r ran → Given ran → Answers r ran
-answers {r} (told-end e leaves) (given _ _ lined) = ends e (read-alike r e leaves lined)
+pub answers : {r : Reported} {ran : Ran} → Told r ran → Given ran → Answers r ran
+answers {r} (told-end e leaves) (given _ _ lined) = ends e (read-alike (world-after r) (leaves .is-sound) (done-if-any r e leaves) lined)
 answers (told-pause stale e leaves) g = pauses stale e
-answers (told-err stale error e f) g = errs stale error e f
-answers (told-panic stale e f) g = panics stale e f
+answers (told-err stale error e leaves f) g = errs stale error e f
+answers (told-panic stale e leaves f) g = panics stale e f
 answers (told-met stale number vm e f over ran) g = meets stale e f over ran
-
--- a run of a machine that may start, at any split of its fuel, answers the Rust's run of as many turns
-pub run-agrees : (fuels : Fuels) (w : World) → Ready w → Answers (our-run fuels w) (loop.run (turns fuels) (at-rest w))
-run-agrees fuels w ready = answers (our-run-told fuels w ready) (run-given (turns fuels) (at-rest w) refl)
-
--- ---- runs after each other
-
-done-ready : (r : Reported) → r .report .outcome ≡ outcome.Done → Leaves r → Ready (world-after r)
-unfolding phase-by may-start
-done-ready r e leaves = record { is-sound = leaves .is-sound; bytes = leaves .bytes; phase = rw (leaves .phase, e) }
-
-followed-end : (r : Reported) (o : Outcome) (rs : List Reported) (rans : List Ran) {ran : Ran} → o ≡ outcome.Done → Answers r ran → Alike rs rans → Alike (r ∷ followed-by o rs) (ran ∷ rans)
-unfolding followed-by
-followed-end r o rs rans {ran} e a more = subst (λ (o : Outcome). Alike (r ∷ followed-by o rs) (ran ∷ rans)) (sym e) (one-more a more)
-
-followed-none : (r : Reported) (o : Outcome) (rs : List Reported) (rans : List Ran) {ran : Ran} {number : Refusal} → o ≡ outcome.Refused number → Alike (r ∷ []) (ran ∷ rans) → Alike (r ∷ followed-by o rs) (ran ∷ rans)
-unfolding followed-by
-followed-none r o rs rans {ran} e a = subst (λ (o : Outcome). Alike (r ∷ followed-by o rs) (ran ∷ rans)) (sym e) a
-
-followed-pause : (r : Reported) (o : Outcome) (rs : List Reported) {ran : Ran} → o ≡ outcome.Paused → Answers r ran → Alike (r ∷ followed-by o rs) (ran ∷ [])
-unfolding followed-by
-followed-pause r o rs {ran} e a = subst (λ (o : Outcome). Alike (r ∷ followed-by o rs) (ran ∷ [])) (sym e) (one-more a no-more)
-
-next-alike : (ours : World → List Reported) (rusts : VM → List Ran) → ((w : World) → Ready w → Alike (ours w) (rusts (at-rest w))) → (r : Reported) (ran : Ran) → Told r ran → Given ran
-    → Alike (r ∷ followed-by (r .report .outcome) (ours (world-after r))) (ran ∷ rust-next rusts ran)
-unfolding rust-next
-next-alike ours rusts later r _ (told-end e leaves) g = followed-end r _ _ _ e (answers (told-end e leaves) g) (later (world-after r) (done-ready r e leaves))
-next-alike ours rusts later r _ (told-pause stale e leaves) g = followed-pause r _ _ e (pauses stale e)
-next-alike ours rusts later r _ (told-err stale error e f) g = followed-none r _ _ _ e (one-more (errs stale error e f) no-more)
-next-alike ours rusts later r _ (told-panic stale e f) g = followed-none r _ _ _ e (one-more (panics stale e f) no-more)
-next-alike ours rusts later r _ (told-met stale number vm e f over ran) g = followed-none r _ _ _ e (met stale e f over)
-
--- demand 2: run after run until a refusal, at any split of each run's fuel
-pub runs-agree : (runs : List Fuels) (w : World) → Ready w → Alike (our-runs runs w) (rust-runs runs (at-rest w))
-unfolding our-runs rust-runs
-runs-agree [] w ready = no-more
-runs-agree (fuels ∷ runs) w ready =
-    next-alike (our-runs runs) (rust-runs runs) (λ v later. runs-agree runs v later) (our-run fuels w) (loop.run (turns fuels) (at-rest w)) (our-run-told fuels w ready) (run-given (turns fuels) (at-rest w) refl)

@@ -1,83 +1,143 @@
--- Demand 2 as its own statement, from creation on.
+-- Demand 2 as its own statement: from creation on, at every call of every history of a host.
 use Prim.Native.Nat.{ℕ}
-use mathlib.Core.Bool.{true, false, true≢false}
+use mathlib.Core.Bool.{true, false}
 use mathlib.Core.Path.{_≡_, refl, sym, ap, subst, _∙_}
-use mathlib.Core.List.{List}
-use lib.ListN.{length}
-use Rattle.errors.specs.declared.Refusal.{Refusal}
+use mathlib.Core.List.{List, []}
+use native.Mathlib.Omega.{arith}
 use Rattle.image.specs.Numbers.{Bytes}
 use Rattle.image.specs.Image.{Image, sound, read-image}
+use Rattle.pools.specs.declared.InternResult.{InternResult}
+use Rattle.pools.specs.declared.InternResult.the-variants.{Interned, NotInterned}
+use Rattle.inlinevec.specs.Stacks.{values-of}
 use Rattle.storage.specs.declared.Task.{Task}
-use Rattle.machine.specs.declared.Machine.{Machine}
-use Rattle.machine.specs.declared.Outcome.{Outcome}
-use Rattle.machine.specs.declared.Outcome.the-variants as outcome
-use Rattle.machine.specs.World.{World, world}
-use Rattle.machine.specs.Calls.{Reported}
-use Rattle.machine.specs.Creation.{create}
-use Rattle.machine.specs.declared.CreateResult.the-variants.{Created}
+use Rattle.storage.specs.declared.TaskId.{TaskId}
+use Rattle.table_image.specs.declared.creation.CreationResult.{CreationResult}
+use Rattle.table_image.specs.declared.creation.CreationResult.the-variants.{Fit, Unfit}
+use Rattle.machine.specs.declared.Verb.{Verb}
+use Rattle.machine.specs.World.{World}
+use Rattle.machine.specs.Calls.{Reported, not-allowed, reports, call}
+use Rattle.machine.specs.Reads.{task-read}
+use Rattle.machine.specs.Creation.{create-behind, create-fit, create}
+use Rattle.machine.specs.declared.CreateResult.{CreateResult}
+use Rattle.machine.specs.declared.CreateResult.the-variants.{Created, NotCreated}
+use Rattle.machine.specs.History.{FreshWorld, is-created, HostCall, history, world-after}
 use Rattle.rust.specs.Errors.{ok}
 use Rattle.rust.specs.Vm.{VM}
-use Rattle.rust.specs.Run.{Ran, init}
+use Rattle.rust.specs.Run.{Ran, returned, init}
+use Rattle.rust.specs.Unbox.{print-task}
 use Rattle.agreement.specs.View.{view}
-use Rattle.agreement.specs.Agreement.{Over, many-tasks, long-title, many-entries, many-bytes, long-memory, long-image}
-use Rattle.agreement.specs.Runs as runs
-use Rattle.agreement.specs.Runs.{at-rest, Answers, Fuels, our-runs, rust-runs, Alike}
+use Rattle.agreement.specs.Reads.{TaskReads}
+use Rattle.agreement.specs.Runs.{rust-call, rust-takes, rust-history, at-rest, ReadAlike, Answers}
 use Rattle.agreement.specs.Creation.{stored}
-use Rattle.agreement.specs.Demand.{Ends, it-returns, it-fails, is-added, meets-added, Equal, same-end, same-refusal, NoneMet, no-run, not-met, RunAfterRun, no-more, one-more}
-use Rattle.agreement.proofs.Calls.{runs-agree}
-use Rattle.agreement.proofs.Creation.{FromCreation, created-agrees}
+use Rattle.agreement.specs.Demand.{lent-pool, Beginning, Ends, it-returns, it-fails, meets-added, NoneMet, SameMachine, SameValues, Equal, same-end, same-refusal, MachineOf, it-rests, in-a-run, before-failing}
+use Rattle.agreement.proofs.Aligned.{empty, Given, given}
+use Rattle.agreement.proofs.Calls.{Told, told-end, told-err, told-met, done-if-any, read-alike, answers}
+use Rattle.agreement.proofs.Histories.{Related, both-rest, both-run, it-failed, is-met, told-call, given-call, refused-call, sound-related, history-related}
+use Rattle.agreement.proofs.SameMachines as same
+use Rattle.agreement.proofs.Creation.{FromCreation, created-agrees, ok-is, sound-is}
 
--- what is met is one of 20 to 24
-over-added : {w : World} {number : Refusal} {vm : VM} → Over w number vm → is-added number ≡ true
-unfolding is-added
-over-added (many-tasks over) = refl
-over-added (long-title id task is over) = refl
-over-added (many-entries over) = refl
-over-added (many-bytes over) = refl
-over-added (long-memory over) = refl
-over-added (long-image over) = refl
+-- ---- a created machine
 
-is-met : {A : Type 0} {w : World} {number : Refusal} {vm : VM} (o : Outcome) → o ≡ outcome.Refused number → Over w number vm → meets-added o ≡ false → A
-unfolding meets-added
-is-met o e over not-added = absurd (true≢false (sym (over-added over) ∙ sym (ap meets-added e) ∙ not-added))
+-- it has no values
+height-of : CreateResult → ℕ
+height-of (Created machine) = machine .height
+height-of (NotCreated refusal) = 0
 
-equal : {r : Reported} {ran : Ran} → Answers r ran → meets-added (r .report .outcome) ≡ false → Ends ran → Equal r ran
+behind-empty : (table : List Task) (image program : List ℕ) (next-id s-len : ℕ) (pool ends : List ℕ) (i : InternResult) → height-of (create-behind table image program next-id s-len pool ends i .answer) ≡ 0
+unfolding create-behind height-of
+behind-empty table image program next-id s-len pool ends (Interned entry bytes) = refl
+behind-empty table image program next-id s-len pool ends (NotInterned refusal) = refl
+
+fit-empty : (table : List Task) (pool ends image program : List ℕ) (result : CreationResult) → height-of (create-fit table pool ends image program result .answer) ≡ 0
+unfolding create-fit height-of
+fit-empty table pool ends image program (Fit next-id count s-len) = behind-empty table image program _ s-len _ _ _
+fit-empty table pool ends image program (Unfit refusal) = refl
+
+created-empty : (table : List Task) (pool ends image program : List ℕ) → height-of (create table pool ends image program .answer) ≡ 0
+unfolding create
+created-empty table pool ends image program = fit-empty table pool ends image program _
+
+-- it is the Rust's VM of the same program and tasks, and may start
+created-is : {program bytes : List ℕ} {w : World} (fresh : FreshWorld program bytes w) → Bytes (lent-pool fresh) → Bytes bytes → Bytes program → FromCreation bytes program w
+unfolding lent-pool
+created-is {program} {bytes} (is-created table pool ends machine stack memory save ends-lent stack-lent answered) pool-bytes image-bytes program-bytes =
+    created-agrees table pool ends bytes program ends-lent pool-bytes image-bytes program-bytes stack memory save machine answered stack-lent
+
+created-none : {program bytes : List ℕ} {w : World} → FreshWorld program bytes w → w .machine .height ≡ 0
+unfolding height-of
+created-none {program} {bytes} (is-created table pool ends machine stack memory save ends-lent stack-lent answered) = sym (ap height-of answered) ∙ created-empty table pool ends bytes program
+
+-- the two of them before the first call
+first-related : {program bytes : List ℕ} {w : World} → FreshWorld program bytes w → FromCreation bytes program w → Related w (returned [] (at-rest w))
+unfolding values-of
+first-related {w = w} fresh made =
+    let none-there = created-none fresh in
+    both-rest (made .ready) (λ i less. absurd (omega (arith, none-there))) (rw none-there empty) (ap (λ (n : ℕ). values-of n (w .stack)) none-there) refl
+
+-- ---- what is equal
+
+-- what the machine shows is what the Rust has
+machine-same : {w : World} {ran : Ran} {vm : VM} → Related w ran → MachineOf ran vm → SameMachine w vm
 unfolding view
-equal (runs.ends e read) none-met it-returns = same-end e refl read refl refl
-equal (runs.errs stale error e f) none-met it-fails = same-refusal e
-equal {r} (runs.meets stale e f over ran) none-met ended = is-met (r .report .outcome) e over none-met
+machine-same {w} (both-rest ready done lined values-are is) it-rests = subst (λ (v : VM). SameMachine w v) is (same.same-machine w (ready .is-sound) (at-rest w) refl refl refl)
+machine-same {w} (both-run stale s bytes phase lined is) in-a-run = subst (λ (v : VM). SameMachine w v) is (same.same-machine w s (view stale w) refl refl refl)
+machine-same {w} (it-failed stale s phase is) before-failing = subst (λ (v : VM). SameMachine w v) is (same.same-machine w s (view stale w) refl refl refl)
 
-pub run-after-run : {rs : List Reported} {rans : List Ran} → Alike rs rans → NoneMet rs → RunAfterRun rs rans
-run-after-run runs.no-more no-run = no-more
-run-after-run (runs.one-more a more) (not-met none-met others) = one-more (λ ended. equal a none-met ended) (run-after-run more others)
-run-after-run (runs.met {r} stale e f over) (not-met none-met others) = is-met (r .report .outcome) e over none-met
+values-same : {w : World} {values : List ℕ} {vm : VM} → Related w (returned values vm) → SameValues w values vm
+values-same {w} (both-rest ready done lined values-are is) = record { same = values-are; read-alike = subst (λ (v : VM). ReadAlike w v) is (read-alike w (ready .is-sound) done lined) }
 
-ok-is : {a b : VM} → ok a ≡ ok b → a ≡ b
-ok-is e = cc
+equal : {r : Reported} {ran : Ran} → Told r ran → Given ran → meets-added (r .report .outcome) ≡ false → Ends ran → Equal r ran
+unfolding view
+equal {r} (told-end e leaves) (given _ _ lined) none-met it-returns =
+    same-end e (record { same = refl; read-alike = read-alike (world-after r) (leaves .is-sound) (done-if-any r e leaves) lined }) (same.same-machine (world-after r) (leaves .is-sound) (at-rest (world-after r)) refl refl refl)
+equal {r} (told-err stale error e leaves f) g none-met it-fails = same-refusal e (same.same-machine (world-after r) (leaves .is-sound) (view stale (world-after r)) refl refl refl)
+equal {r} (told-met stale number vm e f over ran) g none-met ends = is-met (r .report .outcome) e over none-met
 
-sound-is : {a b : Image} → sound a ≡ sound b → a ≡ b
-sound-is e = cc
+-- ---- demand 2
 
--- what is lent to creation and to its machine: bytes where bytes are lent, 1,024 ends, 1,000 words of stack, any memory and any save buffer
-module _ (table : List Task) (pool ends bytes program stack memory save : List ℕ) (ends-lent : length ends ≡ 1024) (stack-lent : length stack ≡ 1000)
-    (pool-bytes : Bytes pool) (image-bytes : Bytes bytes) (program-bytes : Bytes program) (machine : Machine) (is-created : create table pool ends bytes program .answer ≡ Created machine) where
-  -- the machine that creation makes, with everything lent to it
-  abbrev created : World
-  created = world machine (create table pool ends bytes program .table) stack memory (create table pool ends bytes program .pool) (create table pool ends bytes program .ends) save
+-- the Rust's init, on the tasks that the image holds, makes what the created machine shows
+pub init-agrees : {program bytes : List ℕ} {first : World} (fresh : FreshWorld program bytes first) → Bytes (lent-pool fresh) → Bytes bytes → Bytes program
+    → (image : Image) → read-image bytes ≡ sound image → init program (stored image) ≡ ok (at-rest first)
+init-agrees {program} fresh pool-bytes image-bytes program-bytes image read =
+    let made = created-is fresh pool-bytes image-bytes program-bytes in
+    ap (λ (i : Image). init program (stored i)) (sound-is (sym read ∙ made .read)) ∙ made .init-is
 
-  -- it is the Rust's VM of the same program and tasks, and may start
-  pub made : FromCreation bytes program created
-  made = created-agrees table pool ends bytes program ends-lent pool-bytes image-bytes program-bytes stack memory save machine is-created stack-lent
+-- from creation on, any history of a host in which no added capacity is met
+module _ {program image : List ℕ} {first : World} {vm : VM} (both : Beginning program image first vm) (calls : List HostCall) (none-met : NoneMet calls first) where
+  -- the machine then, and the Rust
+  abbrev later : World
+  later = history calls first
 
-  -- the Rust's init, on the tasks that the image holds, makes what the created machine shows
-  pub init-agrees : (image : Image) → read-image bytes ≡ sound image → init program (stored image) ≡ ok (at-rest created)
-  init-agrees image read = ap (λ (i : Image). init program (stored i)) (sound-is (sym read ∙ made .read)) ∙ made .init-is
+  abbrev rust-later : Ran
+  rust-later = rust-history calls (returned [] vm)
 
-  -- from creation on, every sequence of runs is alike, at any split of each run's fuel
-  pub from-creation : (image : Image) (vm : VM) → read-image bytes ≡ sound image → init program (stored image) ≡ ok vm → (all : List Fuels) → Alike (our-runs all created) (rust-runs all vm)
-  from-creation image vm read is all =
-      subst (λ (v : VM). Alike (our-runs all created) (rust-runs all v)) (ok-is (sym (init-agrees image read) ∙ is)) (runs-agree all created (made .ready))
+  related : Related later rust-later
+  related =
+      let shown : init program (stored (both .holds)) ≡ ok (at-rest first) = init-agrees (both .fresh) (both .pool-bytes) (both .image-bytes) (both .program-bytes) (both .holds) (both .is-read) in
+      let made = created-is (both .fresh) (both .pool-bytes) (both .image-bytes) (both .program-bytes) in
+      history-related calls none-met (subst (λ (v : VM). Related first (returned [] v)) (ok-is (sym shown ∙ both .is-initialised)) (first-related (both .fresh) made))
 
-  -- demand 2: values, tasks, memory and refusals equal the Rust's wherever the Rust ends without a panic and no added capacity is met, run after run until a refusal
-  pub demand-2 : (image : Image) (vm : VM) → read-image bytes ≡ sound image → init program (stored image) ≡ ok vm → (all : List Fuels) → NoneMet (our-runs all created) → RunAfterRun (our-runs all created) (rust-runs all vm)
-  demand-2 image vm read is all none-met = run-after-run (from-creation image vm read is all) none-met
+  -- a start or a continue that the Rust takes answers the Rust's run of as many turns, or meets an added capacity with its reason
+  pub call-answers : (verb : Verb) (fuel : ℕ) → rust-takes verb rust-later ≡ true → Answers (call verb fuel later) (rust-call verb fuel rust-later)
+  call-answers verb fuel takes = answers (told-call verb fuel related takes) (given-call verb fuel related takes)
+
+  -- demand 2: values, tasks, memory and refusals equal the Rust's wherever the Rust ends without a panic and no added capacity is met
+  pub demand-2 : (verb : Verb) (fuel : ℕ) → rust-takes verb rust-later ≡ true → meets-added (call verb fuel later .report .outcome) ≡ false → Ends (rust-call verb fuel rust-later)
+      → Equal (call verb fuel later) (rust-call verb fuel rust-later)
+  demand-2 verb fuel takes not-met ends = equal (told-call verb fuel related takes) (given-call verb fuel related takes) not-met ends
+
+  -- a start or a continue that the Rust does not take is 26, and changes nothing
+  pub not-taken : (verb : Verb) (fuel : ℕ) → rust-takes verb rust-later ≡ false → call verb fuel later ≡ reports (not-allowed (later .machine)) later
+  not-taken verb fuel takes = refused-call verb fuel related takes
+
+  -- between two calls: tasks, memory in use, pool and instructions are the Rust's
+  pub same-between : (now : VM) → MachineOf rust-later now → SameMachine later now
+  same-between now its = machine-same related its
+
+  -- a read of a task is the Rust's print_task
+  pub task-read-agrees : (now : VM) → MachineOf rust-later now → (id : TaskId) → TaskReads (later .pool) (later .ends) (task-read id later .answer) (print-task now (id .0))
+  task-read-agrees now its id = let m = machine-same related its in same.task-reads later (sound-related related) now (m .tasks) (m .pool) id
+
+  -- while the Rust rests, the values are those that its last run returned, and each is read alike
+  pub values-agree : (values : List ℕ) (now : VM) → rust-later ≡ returned values now → SameValues later values now
+  values-agree values now rests = values-same (subst (λ (ran : Ran). Related later ran) rests related)

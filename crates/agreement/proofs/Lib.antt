@@ -17,4 +17,6 @@ pub mod Unbox
 pub mod Aligned
 pub mod Calls
 pub mod Creation
+pub mod Histories
+pub mod SameMachines
 pub mod Demand

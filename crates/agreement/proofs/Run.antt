@@ -30,8 +30,9 @@ use Rattle.agreement.proofs.Step.{agrees}
 pub data Same : End → Ran → Type 0 where
   both-end : (stale : ℕ) (w : World) (left : ℕ) → Sound w → Bytes (w .pool) → Same (end-at w left outcome.Done) (finished (view stale w))
   both-pause : (stale : ℕ) (w : World) → Sound w → Bytes (w .pool) → Same (end-at w 0 outcome.Paused) (running (view stale w))
-  both-err : (stale : ℕ) (w : World) (left : ℕ) (error : VMError) → rust.step (view stale w) ≡ err error → Same (end-at w left (outcome.Refused (refusal-of error))) (failed error)
-  both-panic : (stale : ℕ) (w : World) (left : ℕ) → rust.step (view stale w) ≡ panic → Same (end-at w left (outcome.Refused refusal.UnexpectedEOB)) panicked
+  both-err : (stale : ℕ) (w : World) (left : ℕ) (error : VMError) → Sound w → Bytes (w .pool) → rust.step (view stale w) ≡ err error
+      → Same (end-at w left (outcome.Refused (refusal-of error))) (failed error (view stale w))
+  both-panic : (stale : ℕ) (w : World) (left : ℕ) → Sound w → Bytes (w .pool) → rust.step (view stale w) ≡ panic → Same (end-at w left (outcome.Refused refusal.UnexpectedEOB)) panicked
   meets : (stale : ℕ) (w : World) (left : ℕ) (number : Refusal) (vm : VM) (ran : Ran) → rust.step (view stale w) ≡ ok vm → Over w number vm → Same (end-at w left (outcome.Refused number)) ran
 
 -- the Rust's test of its loop is ours
@@ -50,12 +51,13 @@ module _ (w : World) (stale : ℕ) (s : Sound w) where
 
 -- on from an instruction
 module _ (others : World → End) (turn : VM → Ran) (alike : (v : World) (stale : ℕ) → Sound v → Bytes (v .pool) → Same (others v) (turn (view stale v))) where
-  follows : (w : World) (stale left : ℕ) (a : StepResult) (o : Out VM) → Sound w → step w ≡ a → rust.step (view stale w) ≡ o → Agree w a o → Same (follow others w left a) (onward turn o)
+  follows : (w : World) (stale left : ℕ) (a : StepResult) (o : Out VM) → Sound w → Bytes (w .pool) → step w ≡ a → rust.step (view stale w) ≡ o → Agree w a o
+      → Same (follow others w left a) (onward turn (view stale w) o)
   unfolding follow onward
-  follows w stale left _ _ s e o (goes-on later bytes) = alike _ later (step-sound w _ s e) bytes
-  follows w stale left _ _ s e o (lacks {r} {vm} over) = meets stale w left r vm _ o over
-  follows w stale left _ _ s e o (errs error) = both-err stale w left error o
-  follows w stale left _ _ s e o panics = both-panic stale w left o
+  follows w stale left _ _ s bytes e o (goes-on later after) = alike _ later (step-sound w _ s e) after
+  follows w stale left _ _ s bytes e o (lacks {r} {vm} over) = meets stale w left r vm _ o over
+  follows w stale left _ _ s bytes e o (errs error) = both-err stale w left error s bytes o
+  follows w stale left _ _ s bytes e o panics = both-panic stale w left s bytes o
 
 pub run-same : (fuel : ℕ) (w : World) (stale : ℕ) → Sound w → Bytes (w .pool) → Same (run fuel w) (while fuel (view stale w))
 unfolding run while
@@ -68,4 +70,4 @@ run-same (suc fuel) w stale s bytes = by (at-end w) refl (λ v later sound more.
   where
     by : (b : Bool) → at-end w ≡ b → ((v : World) (later : ℕ) → Sound v → Bytes (v .pool) → Same (run fuel v) (while fuel (view later v))) → Same (run (suc fuel) w) (while (suc fuel) (view stale w))
     by true e ih = rw (e, stops w stale s e) (both-end stale w (suc fuel) s bytes)
-    by false e ih = rw (e, goes w stale s e) (follows (λ v. run fuel v) (while fuel) ih w stale (suc fuel) (step w) (rust.step (view stale w)) s refl refl (agrees w stale s bytes e))
+    by false e ih = rw (e, goes w stale s e) (follows (λ v. run fuel v) (while fuel) ih w stale (suc fuel) (step w) (rust.step (view stale w)) s bytes refl refl (agrees w stale s bytes e))

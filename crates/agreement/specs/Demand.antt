@@ -1,53 +1,122 @@
--- Demand 2, word by word: values, tasks, memory and refusals equal the Rust's wherever the Rust ends without a panic and no added capacity is met, run after run until a refusal.
+-- Demand 2, word by word: values, tasks, memory and refusals equal the Rust's wherever the Rust ends without a panic and no added capacity is met, call after call of a host until a refusal.
 use Prim.Native.Nat.{ℕ}
-use mathlib.Core.Bool.{Bool, false, _&&_}
+use mathlib.Core.Bool.{Bool, false, cond, _&&_}
 use mathlib.Core.Path.{_≡_}
 use mathlib.Core.List.{List, [], _∷_}
-use lib.Dec.{leb}
-use lib.ListN.{take}
+use mathlib.Core.Option.{Option, none, some}
+use lib.Dec.{leb, ltb}
+use lib.ListN.{length, getD}
 use Rattle.errors.specs.declared.Refusal.{Refusal}
 use Rattle.errors.specs.Refusals.{number-of}
+use Rattle.image.specs.Numbers.{Bytes}
+use Rattle.image.specs.Image.{Image, sound, read-image}
 use Rattle.inlinevec.specs.Stacks.{values-of}
+use Rattle.pools.specs.Pool.{entry-of, entries-of}
+use Rattle.storage.specs.declared.Task.{Task}
+use Rattle.storage.specs.Tasks.{blank}
 use Rattle.machine.specs.declared.Outcome.{Outcome}
 use Rattle.machine.specs.declared.Outcome.the-variants as outcome
-use Rattle.machine.specs.Calls.{Reported}
-use Rattle.rust.specs.Errors.{VMError}
+use Rattle.machine.specs.World.{World, memory-in-use}
+use Rattle.machine.specs.Calls.{Reported, call}
+use Rattle.machine.specs.History.{FreshWorld, is-created, HostCall, runs, saves, reads-value, reads-task, left-by, world-after}
+use Rattle.rust.specs.Errors.{VMError, ok}
+use Rattle.rust.specs.TaskTypes.{TaskVM}
+use Rattle.rust.specs.Storage.{get}
 use Rattle.rust.specs.Vm.{VM}
-use Rattle.rust.specs.Run.{Ran, returned, failed}
+use Rattle.rust.specs.Run.{init, Ran, returned, running, failed}
 use Rattle.agreement.specs.View.{storage-of}
 use Rattle.agreement.specs.Agreement.{refusal-of}
 use Rattle.agreement.specs.Runs.{ReadAlike}
+use Rattle.agreement.specs.Creation.{stored}
+
+-- ---- where it holds
+
+-- the pool that was lent to creation
+unfoldable pub lent-pool : {program image : List ℕ} {w : World} → FreshWorld program image w → List ℕ
+lent-pool (is-created table pool ends machine stack memory save ends-lent stack-lent answered) = pool
+
+-- a new machine and a new VM of the Rust, of the same program and of the tasks that the image holds; bytes where bytes are lent
+pub record Beginning (program image : List ℕ) (first : World) (vm : VM) : Type 0 where
+  pub fresh : FreshWorld program image first
+  pub pool-bytes : Bytes (lent-pool fresh)
+  pub image-bytes : Bytes image
+  pub program-bytes : Bytes program
+  pub holds : Image
+  pub is-read : read-image image ≡ sound holds
+  pub is-initialised : init program (stored holds) ≡ ok vm
 
 -- the Rust ends without a panic
 pub data Ends : Ran → Type 0 where
   it-returns : {values : List ℕ} {vm : VM} → Ends (returned values vm)
-  it-fails : {error : VMError} → Ends (failed error)
+  it-fails : {error : VMError} {before : VM} → Ends (failed error before)
 
 -- the refusals of an added capacity: 20 to 24
 unfoldable pub is-added : Refusal → Bool
 is-added number = leb 20 (number-of number) && leb (number-of number) 24
 
+-- a run that is refused so meets one
 unfoldable pub meets-added : Outcome → Bool
 meets-added outcome.Done = false
 meets-added outcome.Paused = false
 meets-added (outcome.Refused number) = is-added number
 
--- the same values, the last one first, each read alike, the same tasks and next id, the same memory in use; or the same refusal
+-- of the calls a start or a continue does; the Rust's host has no save, and no read is refused so
+unfoldable pub call-meets : HostCall → World → Bool
+call-meets (runs verb fuel) w = meets-added (call verb fuel w .report .outcome)
+call-meets saves w = false
+call-meets (reads-value position) w = false
+call-meets (reads-task id) w = false
+
+-- no added capacity is met in a history
+pub data NoneMet : List HostCall → World → Type 0 where
+  no-call : {w : World} → NoneMet [] w
+  not-met : {one : HostCall} {others : List HostCall} {w : World} → call-meets one w ≡ false → NoneMet others (left-by one w) → NoneMet (one ∷ others) w
+
+-- ---- what is equal
+
+-- the instructions of a slot's task: the bytes that its reference names in the pool; none where no task lives there, or no entry is named
+unfoldable pub instructions-in : List ℕ → List ℕ → ℕ → Task → Option (List ℕ)
+instructions-in pool ends entries slot = cond (slot .living && ltb (slot .«instructions_ref» .0) entries) (some (entry-of pool ends (slot .«instructions_ref» .0))) none
+
+-- those of the task with an id
+unfoldable pub instructions-of : World → ℕ → Option (List ℕ)
+instructions-of w id = instructions-in (w .pool) (w .ends) (w .machine .entries) (getD (w .table) id blank)
+
+-- the instructions of a task of the Rust, likewise
+unfoldable pub rust-instructions-in : List (List ℕ) → Option TaskVM → Option (List ℕ)
+rust-instructions-in pool none = none
+rust-instructions-in pool (some task) = cond (ltb (task .instructions-ref) (length pool)) (some (getD pool (task .instructions-ref) [])) none
+
+-- those of the task with an id
+unfoldable pub rust-instructions-of : VM → ℕ → Option (List ℕ)
+rust-instructions-of vm id = rust-instructions-in (vm .instructions-pool) (get (vm .storage) id)
+
+-- the same tasks and next id, the same memory in use, the same pool as a list of entries, and each task's instructions the same bytes
+pub record SameMachine (w : World) (vm : VM) : Type 0 where
+  pub tasks : storage-of (w .machine .«next_id») (w .machine .count) (w .table) ≡ vm .storage
+  pub memory : memory-in-use w ≡ vm .memory
+  pub pool : entries-of (w .pool) (w .ends) (w .machine .entries) ≡ vm .instructions-pool
+  pub instructions : (id : ℕ) → instructions-of w id ≡ rust-instructions-of vm id
+
+-- the values that a run returned: the same, the last one first, and each read alike
+pub record SameValues (w : World) (values : List ℕ) (vm : VM) : Type 0 where
+  pub same : values-of (w .machine .height) (w .stack) ≡ values
+  pub read-alike : ReadAlike w vm
+
+-- done, with the same values and the same machine; or the same refusal, and the same machine as the Rust's before the instruction that failed
 pub data Equal (r : Reported) : Ran → Type 0 where
   same-end : {values : List ℕ} {vm : VM} → r .report .outcome ≡ outcome.Done
-      → values-of (r .report .machine .height) (r .stack) ≡ values
-      → ReadAlike r vm
-      → storage-of (r .report .machine .«next_id») (r .report .machine .count) (r .table) ≡ vm .storage
-      → take (r .report .machine .memory) (r .memory) ≡ vm .memory
+      → SameValues (world-after r) values vm
+      → SameMachine (world-after r) vm
       → Equal r (returned values vm)
-  same-refusal : {error : VMError} → r .report .outcome ≡ outcome.Refused (refusal-of error) → Equal r (failed error)
+  same-refusal : {error : VMError} {before : VM} → r .report .outcome ≡ outcome.Refused (refusal-of error)
+      → SameMachine (world-after r) before
+      → Equal r (failed error before)
 
--- no added capacity is met in any run
-pub data NoneMet : List Reported → Type 0 where
-  no-run : NoneMet []
-  not-met : {r : Reported} {rs : List Reported} → meets-added (r .report .outcome) ≡ false → NoneMet rs → NoneMet (r ∷ rs)
+-- ---- between two calls
 
--- as many runs, and each that the Rust ends is equal
-pub data RunAfterRun : List Reported → List Ran → Type 0 where
-  no-more : RunAfterRun [] []
-  one-more : {r : Reported} {ran : Ran} {rs : List Reported} {rans : List Ran} → (Ends ran → Equal r ran) → RunAfterRun rs rans → RunAfterRun (r ∷ rs) (ran ∷ rans)
+-- the machine that the Rust rests with, is in a run with, or had before the instruction that failed
+pub data MachineOf : Ran → VM → Type 0 where
+  it-rests : {values : List ℕ} {vm : VM} → MachineOf (returned values vm) vm
+  in-a-run : {vm : VM} → MachineOf (running vm) vm
+  before-failing : {error : VMError} {before : VM} → MachineOf (failed error before) before

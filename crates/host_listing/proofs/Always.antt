@@ -2,12 +2,11 @@
 use Prim.Native.Nat.{ℕ, _+_, _-_, _*_, _≤_, _<_}
 use mathlib.Core.Bool.{true, and-eq-true-iff}
 use mathlib.Core.List.{List}
-use mathlib.Core.Path.{_≡_, refl, sym, subst, _∙_}
+use mathlib.Core.Path.{_≡_, refl, sym, ap, subst, _∙_}
 use native.Mathlib.Omega.{arith}
 use lib.ListN.{length, getD, take, drop, length-append, length-take, length-replicate}
 use lib.Seq.{sets}
-use Rattle.errors.specs.declared.Refusal.{Refusal}
-use Rattle.pools.specs.Pool.{start-of, end-of, entry-of, never-fall, end-to-end, interned}
+use Rattle.pools.specs.Pool.{start-of, end-of, entry-of, never-fall, end-to-end}
 use Rattle.pools.proofs.Ends.{within}
 use Rattle.storage.specs.declared.Task.{Task}
 use Rattle.storage.specs.Table.{living-of, sound-counts, sound-slots, sound-table}
@@ -19,19 +18,15 @@ use Rattle.machine.specs.World.{World, world}
 use Rattle.machine.specs.declared.CreateResult.{CreateResult}
 use Rattle.machine.specs.declared.CreateResult.the-variants.{Created, NotCreated}
 use Rattle.machine.specs.Calls.{Reported, is-sound, start}
-use Rattle.pools.specs.declared.InternResult.{InternResult}
-use Rattle.pools.specs.declared.InternResult.the-variants.{Interned, NotInterned}
-use Rattle.table_image.specs.Creation.{creation-tests}
-use Rattle.table_image.specs.declared.creation.CreationResult.{CreationResult}
-use Rattle.table_image.specs.declared.creation.CreationResult.the-variants.{Fit, Unfit}
-use Rattle.machine.specs.Creation.{blank-table, Made, create-behind, create-fit, create, stopped, machine-of}
+use Rattle.machine.specs.Creation.{blank-table, Made, create, stopped, machine-of}
 use Rattle.machine.specs.Reads.{SavedTo, saved-to, host-save}
 use Rattle.laws.specs.Sound.{Sound}
-use Rattle.laws.specs.After.{world-after}
+use Rattle.machine.specs.History.{world-after}
 use Rattle.laws.proofs.Either.{either}
 use Rattle.laws.proofs.Parts.{machined, tabled}
 use Rattle.laws.proofs.SoundnessCalls.{start-sound}
 use Rattle.laws.proofs.Creation.{create-sound}
+use Rattle.laws.proofs.Refused.{creation-not-created}
 use Rattle.listing.specs.declared.Head.{Head}
 use Rattle.listing.specs.declared.Head.the-variants as head
 use Rattle.listing.specs.declared.Counted.the-variants.{Values, Tasks}
@@ -65,22 +60,6 @@ sound-bounded w s =
 stopped-bounded : (ends : List ℕ) → Bounded blank-table ends stopped
 unfolding blank-table end-to-end never-fall start-of
 stopped-bounded ends = record { tasks = table-cleared 256 refl; joined = refl; small = omega arith; high = omega arith }
-
--- a refused creation leaves the table
-not-behind : (table : List Task) (image program : List ℕ) (next-id s-len : ℕ) (pool ends : List ℕ) (refusal : Refusal) (answer : InternResult)
-    → create-behind table image program next-id s-len pool ends answer .answer ≡ NotCreated refusal → create-behind table image program next-id s-len pool ends answer .table ≡ table
-unfolding create-behind
-not-behind table image program next-id s-len pool ends refusal (Interned entry bytes) e = absurd (let z : _≡_ {A = ℕ} 0 1 = cc in omega arith)
-not-behind table image program next-id s-len pool ends refusal (NotInterned other) e = refl
-
-not-fit : (table : List Task) (pool ends image program : List ℕ) (refusal : Refusal) (c : CreationResult) → create-fit table pool ends image program c .answer ≡ NotCreated refusal → create-fit table pool ends image program c .table ≡ table
-unfolding create-fit
-not-fit table pool ends image program refusal (Fit next-id count s-len) e = not-behind table image program next-id s-len _ _ refusal (interned pool ends 0 0 program .answer) e
-not-fit table pool ends image program refusal (Unfit other) e = refl
-
-not-made : (table : List Task) (pool ends image program : List ℕ) (refusal : Refusal) → create table pool ends image program .answer ≡ NotCreated refusal → create table pool ends image program .table ≡ table
-unfolding create
-not-made table pool ends image program refusal e = not-fit table pool ends image program refusal (creation-tests (length table) (length pool) (length program) image) e
 
 -- a save by the host leaves all but its buffer
 beside-save : (w : World) → host-save w ≡ saved-to (host-save w .report) (w .table) (w .stack) (w .memory) (w .pool) (w .ends) (host-save w .save)
@@ -133,7 +112,7 @@ module _ (fuel : ℕ) (stack memory pool ends save image program lines : List �
       sound-bounded (world-after (reported (Created machine))) (start-sound fuel _ (create-sound blank-table pool ends image program machine ends-long is stack memory save stack-long))
   started (NotCreated refusal) is =
       subst (λ (r : Reported). Bounded (r .table) (r .ends) (r .report .machine)) (sym (stays-stopped fuel (made .table) stack memory (made .pool) (made .ends) save))
-      (subst (λ (t : List Task). Bounded t (made .ends) stopped) (sym (not-made blank-table pool ends image program refusal is)) (stopped-bounded (made .ends)))
+      (subst (λ (t : List Task). Bounded t (made .ends) stopped) (sym (ap (λ (m : Made). m .table) (creation-not-created blank-table pool ends image program refusal is))) (stopped-bounded (made .ends)))
 
   -- and so does all that is performed
   leaves : Left (perform fuel blank-table stack memory pool ends save image program lines) lines

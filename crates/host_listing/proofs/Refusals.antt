@@ -14,18 +14,17 @@ use Rattle.table_image.specs.declared.creation.CreationResult.the-variants.{Fit
 use Rattle.machine.specs.declared.Machine.{Machine}
 use Rattle.machine.specs.declared.Outcome.{Outcome}
 use Rattle.machine.specs.declared.Outcome.the-variants.{Refused}
-use Rattle.machine.specs.World.{World, world}
+use Rattle.machine.specs.World.{world}
 use Rattle.machine.specs.declared.CreateResult.{CreateResult}
 use Rattle.machine.specs.declared.CreateResult.the-variants.{NotCreated}
-use Rattle.machine.specs.declared.Permission.{Permission}
 use Rattle.machine.specs.Sound.{sound-record, sound-world}
-use Rattle.machine.specs.declared.Verb.the-variants.{Start}
-use Rattle.machine.specs.Calls.{may-start, allowed, not-allowed, Reported, reports, is-sound, call-with, call, start}
+use Rattle.machine.specs.Calls.{may-start, not-allowed, Reported, reports, is-sound, start}
 use Rattle.pools.specs.Pool.{interned}
 use Rattle.pools.specs.declared.InternResult.{InternResult}
 use Rattle.pools.specs.declared.InternResult.the-variants.{Interned, NotInterned}
 use Rattle.machine.specs.Creation.{blank-table, Made, create-behind, create-fit, create, stopped, machine-of}
 use Rattle.machine.specs.Reads.{saved-to, not-saved, host-save}
+use Rattle.laws.proofs.Refused.{start-in-phase}
 use Rattle.host.specs.Lines.{task-lines}
 use Rattle.host.specs.Hosting.{unsavable, saving, with-lines, with-save, with-run, with-creation, perform, own}
 
@@ -76,21 +75,10 @@ module _ (fuel : ℕ) (stack memory pool ends save image program lines : List �
 
 -- ---- a machine that does not start, and one that no save takes
 
-not-begun : (sound : Bool) → allowed stopped sound Start .allowed ≡ false
-unfolding allowed may-start
-not-begun true = refl
-not-begun false = refl
-
-not-called : (fuel : ℕ) (w : World) (a : Permission) → a .allowed ≡ false → call-with fuel w a ≡ reports (not-allowed (w .machine)) w
-unfolding call-with
-not-called fuel w a test = rw test
-
 pub stays-stopped : (fuel : ℕ) (table : List Task) (stack memory pool ends save : List ℕ)
     → start fuel (world stopped table stack memory pool ends save) ≡ reports (not-allowed stopped) (world stopped table stack memory pool ends save)
-unfolding call
-stays-stopped fuel table stack memory pool ends save =
-    not-called fuel (world stopped table stack memory pool ends save) (allowed stopped (is-sound (world stopped table stack memory pool ends save)) Start)
-    (not-begun (is-sound (world stopped table stack memory pool ends save)))
+unfolding may-start
+stays-stopped fuel table stack memory pool ends save = start-in-phase fuel (world stopped table stack memory pool ends save) refl
 
 too-many : (slots count : ℕ) (test : Bool) → eqb slots 256 ≡ test → sound-counts slots 257 count ≡ false
 unfolding sound-counts

@@ -1,12 +1,12 @@
 -- An instruction that needs a task, a frame or the pool keeps the machine and the table sound, and the pool's entries as they were.
-use Prim.Native.Nat.{ℕ, _+_, _%_, _^_}
+use Prim.Native.Nat.{ℕ, _+_, _%_, _^_, _≤_}
 use mathlib.Core.Bool.{true, false}
 use mathlib.Core.List.{List}
 use mathlib.Core.Path.{_≡_, refl, sym, subst}
 use native.Mathlib.Omega.{arith}
 use lib.Dec.{eqb, leb}
 use lib.ListN.{length, getD}
-use borrow.Author.Tests.{eqb-true}
+use borrow.Author.Tests.{eqb-true, le-ltb}
 use Rattle.errors.specs.declared.Refusal.{Refusal}
 use Rattle.bytecode.specs.Opcodes.{PUSH-CALLDATA, T-CREATE, T-GET-FIELD, T-SET-FIELD, T-DELETE, CALL, END-CALL}
 use Rattle.bytecode.specs.Operands.{extent}
@@ -35,46 +35,56 @@ use Rattle.laws.specs.Counted.{creates, deletes}
 use Rattle.laws.proofs.Either.{either}
 use Rattle.laws.proofs.Parts.{Machined, Tabled}
 use Rattle.laws.proofs.Memory as memories
-use Rattle.laws.proofs.Frames.{Same, WentOn, went-on, registered, settled-sound, placed-sound, call-on, end-call-on}
+use Rattle.laws.proofs.Frames.{Same, Given, none-given, WentOn, went-on, registered, settled-sound, placed-sound, call-on, end-call-on}
 use Rattle.laws.proofs.Frames as frames
 use Rattle.laws.proofs.Pool.{Grows, same-pool, Pushed, pushed, calldata-keeps}
 use Rattle.laws.proofs.Pool as pools
-use Rattle.laws.proofs.Tables.{Lived, none-lived}
+use Rattle.laws.proofs.Tables.{Lived, none-lived, table-counts}
 use Rattle.laws.proofs.Tasks.{Changes, changes, create-makes, delete-deletes, set-field-sets, get-field-keeps}
 use Rattle.laws.proofs.Tasks as tasks
 
 -- finished soundly, so many tasks made and deleted; or refused
-pub data Acts (save : ℕ) (pool ends : List ℕ) (machine : Machine) (table : List Task) (slot made deleted : ℕ) : OnAll → Type 0 where
-  acts : (after : Machine) (change : Change) (stack memory new-pool new-ends : List ℕ) → Machined (length memory) (length new-pool) save stack new-ends after
-      → Tabled (applied table slot change) (after .«next_id») (after .count) → Grows pool ends (machine .entries) new-pool new-ends (after .entries)
-      → Lived table (applied table slot change) made deleted → Acts save pool ends machine table slot made deleted (on-all (acted (Onto after) change) stack memory new-pool new-ends)
+pub data Acts (asked : Type 0) (save : ℕ) (pool ends : List ℕ) (machine : Machine) (table : List Task) (slot made deleted : ℕ) : OnAll → Type 0 where
+  acts : (after : Machine) (change : Change) (stack memory new-pool new-ends : List ℕ) → Machined asked (length memory) (length new-pool) save stack new-ends after
+      → Tabled asked (applied table slot change) (after .«next_id») (after .count) → Grows pool ends (machine .entries) new-pool new-ends (after .entries)
+      → Lived table (applied table slot change) made deleted → Given made machine after → Acts asked save pool ends machine table slot made deleted (on-all (acted (Onto after) change) stack memory new-pool new-ends)
   refused : (refusal : Refusal) (change : Change) (stack memory new-pool new-ends : List ℕ)
-      → Acts save pool ends machine table slot made deleted (on-all (acted (Refused refusal) change) stack memory new-pool new-ends)
+      → Acts asked save pool ends machine table slot made deleted (on-all (acted (Refused refusal) change) stack memory new-pool new-ends)
 
 -- other ids
-ids-sound : {memory pool save : ℕ} {stack ends : List ℕ} {machine : Machine} (next-id count : ℕ) → Machined memory pool save stack ends machine
-    → Machined memory pool save stack ends (with-ids machine next-id count)
+ids-sound : {asked : Type 0} {memory pool save : ℕ} {stack ends : List ℕ} {machine : Machine} (next-id count : ℕ) → Machined asked memory pool save stack ends machine
+    → Machined asked memory pool save stack ends (with-ids machine next-id count)
 ids-sound next-id count m = record { values = m .values; entries = m .entries; frames = m .frames; kept = m .kept }
 
-module _ (save : ℕ) (stack memory pool ends : List ℕ) (machine : Machine) (table : List Task) (slot : ℕ)
-    (m : Machined (length memory) (length pool) save stack ends machine) (t : Tabled table (machine .«next_id») (machine .count)) where
+-- an opcode that is not T_CREATE makes no task
+pub none-made : (op : ℕ) → eqb op T-CREATE ≡ false → creates op ≡ 0
+unfolding creates
+none-made op other = simp other
+
+-- one that is not T_DELETE deletes none
+pub none-deleted : (op : ℕ) → eqb op T-DELETE ≡ false → deletes op ≡ 0
+unfolding deletes
+none-deleted op other = simp other
+
+module _ {asked : Type 0} (save : ℕ) (stack memory pool ends : List ℕ) (machine : Machine) (table : List Task) (slot : ℕ)
+    (m : Machined asked (length memory) (length pool) save stack ends machine) (t : Tabled asked table (machine .«next_id») (machine .count)) where
   abbrev task : Task
   task = getD table slot blank
 
   abbrev On : ℕ → ℕ → OnAll → Type 0
-  On = Acts save pool ends machine table slot
+  On = Acts asked save pool ends machine table slot
 
   -- ---- the opcodes that leave the table
 
-  keeps : (after : Machine) (s mem p e : List ℕ) → Machined (length mem) (length p) save s e after → Same machine after → Grows pool ends (machine .entries) p e (after .entries)
+  keeps : (after : Machine) (s mem p e : List ℕ) → Machined asked (length mem) (length p) save s e after → Same machine after → Grows pool ends (machine .entries) p e (after .entries)
       → On 0 0 (on-all (acted (Onto after) (keep task)) s mem p e)
   unfolding applied
   keeps after s mem p e sound same grows =
       acts after (keep task) s mem p e sound
-      (subst (λ (n : ℕ). Tabled table n (after .count)) (sym (same .next-id)) (subst (λ (c : ℕ). Tabled table (machine .«next_id») c) (sym (same .count)) t)) grows
-      (none-lived table)
+      (subst (λ (n : ℕ). Tabled asked table n (after .count)) (sym (same .next-id)) (subst (λ (c : ℕ). Tabled asked table (machine .«next_id») c) (sym (same .count)) t)) grows
+      (none-lived table) (none-given same)
 
-  pool-acts : (a : OnPool) → Pushed (length memory) save pool ends machine a → On 0 0 (after-pool a memory task)
+  pool-acts : (a : OnPool) → Pushed asked (length memory) save pool ends machine a → On 0 0 (after-pool a memory task)
   pool-acts _ (pushed after s p e sound grows same) = keeps after s memory p e sound same grows
   pool-acts _ (pools.refused refusal s p e) = refused refusal _ s memory p e
 
@@ -82,7 +92,7 @@ module _ (save : ℕ) (stack memory pool ends : List ℕ) (machine : Machine) (t
   same-entries : (after : Machine) → after .entries ≡ machine .entries → Grows pool ends (machine .entries) pool ends (after .entries)
   same-entries after same = subst (λ (n : ℕ). Grows pool ends (machine .entries) pool ends n) (sym same) (same-pool pool ends (machine .entries))
 
-  went-acts : (went : MachineResult) → WentOn (length memory) (length pool) save stack ends machine went → On 0 0 (on-all (acted went (keep task)) stack memory pool ends)
+  went-acts : (went : MachineResult) → WentOn asked (length memory) (length pool) save stack ends machine went → On 0 0 (on-all (acted went (keep task)) stack memory pool ends)
   went-acts _ (went-on after sound many same) = keeps after stack memory pool ends sound same (same-entries after many)
   went-acts _ (frames.refused refusal) = refused refusal _ stack memory pool ends
 
@@ -94,49 +104,55 @@ module _ (save : ℕ) (stack memory pool ends : List ℕ) (machine : Machine) (t
   unfolding settled
   settled-entries registers = refl
 
-  memory-acts : (a : OnMemory) → memories.Keeps (length memory) a → On 0 0 (after-memory machine a pool ends task)
+  memory-acts : (a : OnMemory) → memories.Keeps asked (length memory) a → On 0 0 (after-memory machine a pool ends task)
   unfolding went-by
   memory-acts _ (memories.finished registers s mem r long) =
       keeps (settled machine registers) s mem pool ends
-      (subst (λ (n : ℕ). Machined n (length pool) save s ends (settled machine registers)) (sym long) (settled-sound registers s m r)) (settled-same registers)
+      (subst (λ (n : ℕ). Machined asked n (length pool) save s ends (settled machine registers)) (sym long) (settled-sound registers s m r)) (settled-same registers)
       (same-entries (settled machine registers) (settled-entries registers))
   memory-acts _ (memories.refused refusal s mem) = refused refusal _ s mem pool ends
 
   -- ---- the opcodes that change a slot
 
-  by-acts : (made deleted : ℕ) (a : RegistersAndChange) → Changes (length memory) stack table slot (machine .«next_id») (machine .count) made deleted a → On made deleted (on-all (tasked-by machine a) stack memory pool ends)
+  by-acts : (deleted : ℕ) (a : RegistersAndChange) → Changes asked (length memory) stack table slot (machine .«next_id») (machine .count) 0 deleted a → On 0 deleted (on-all (tasked-by machine a) stack memory pool ends)
   unfolding tasked-by went-by settled
-  by-acts made deleted _ (changes registers change r sound lived) =
-      acts (settled machine registers) change stack memory pool ends (settled-sound registers stack m r) sound (same-entries (settled machine registers) (settled-entries registers)) lived
-  by-acts made deleted _ (tasks.refused refusal change) = refused refusal change stack memory pool ends
+  by-acts deleted _ (changes registers change r sound lived) =
+      acts (settled machine registers) change stack memory pool ends (settled-sound registers stack m r) sound (same-entries (settled machine registers) (settled-entries registers)) lived (none-given (settled-same registers))
+  by-acts deleted _ (tasks.refused refusal change) = refused refusal change stack memory pool ends
 
-  created-acts : (a : RegistersAndChange) → Changes (length memory) stack table slot ((machine .«next_id» + 1) % 2 ^ 32) (len-after (machine .count) (machine .«next_id»)) 1 0 a
+  -- the id given is the next one, which was not above 256
+  one-given : (registers : Registers)
+      → Given 1 machine (with-ids (settled machine registers) ((machine .«next_id» + 1) % 2 ^ 32) (len-after (machine .count) (machine .«next_id»)))
+  unfolding len-after
+  one-given registers =
+      let counts = table-counts table (machine .«next_id») (machine .count) (t .sound) in
+      let small : machine .«next_id» ≤ 256 = counts .next-most in
+      let low : machine .count ≤ machine .«next_id» = counts .count-below in
+      record {
+        next-id = omega arith;
+        none = λ e. absurd (omega arith);
+        one = λ _. simp (le-ltb (machine .«next_id») (machine .count) low) (omega arith);
+      }
+
+  created-acts : (a : RegistersAndChange) → Changes asked (length memory) stack table slot ((machine .«next_id» + 1) % 2 ^ 32) (len-after (machine .count) (machine .«next_id»)) 1 0 a
       → On 1 0 (on-all (created-by machine a) stack memory pool ends)
   unfolding created-by created
   created-acts _ (changes registers change r sound lived) =
-      acts _ change stack memory pool ends (ids-sound _ _ (settled-sound registers stack m r)) sound (same-entries (settled machine registers) (settled-entries registers)) lived
+      acts _ change stack memory pool ends (ids-sound _ _ (settled-sound registers stack m r)) sound (same-entries (settled machine registers) (settled-entries registers)) lived (one-given registers)
   created-acts _ (tasks.refused refusal change) = refused refusal change stack memory pool ends
 
   abbrev creation : ℕ → RegistersAndChange
   creation next = op-t-create stack memory (registers-of machine) next (machine .«next_id») task
 
   created-here : (next : ℕ) → slot ≡ machine .«next_id»
-      → Changes (length memory) stack table slot ((machine .«next_id» + 1) % 2 ^ 32) (len-after (machine .count) (machine .«next_id»)) 1 0 (creation next)
+      → Changes asked (length memory) stack table slot ((machine .«next_id» + 1) % 2 ^ 32) (len-after (machine .count) (machine .«next_id»)) 1 0 (creation next)
   created-here next e =
-      subst (λ (k : ℕ). Changes (length memory) stack table k ((machine .«next_id» + 1) % 2 ^ 32) (len-after (machine .count) (machine .«next_id»)) 1 0 (creation next)) (sym e)
+      subst (λ (k : ℕ). Changes asked (length memory) stack table k ((machine .«next_id» + 1) % 2 ^ 32) (len-after (machine .count) (machine .«next_id»)) 1 0 (creation next)) (sym e)
       (create-makes (length memory) stack table (machine .«next_id») (machine .count) t memory (registers-of machine) next task (registered m))
 
   -- an opcode counts as it is
   by-op : (op k : ℕ) (a : OnAll) → eqb op k ≡ true → On (creates k) (deletes k) a → On (creates op) (deletes op) a
   by-op op k a is on = subst (λ (o : ℕ). On (creates o) (deletes o) a) (sym (eqb-true op k is)) on
-
-  none-made : (op : ℕ) → eqb op T-CREATE ≡ false → creates op ≡ 0
-  unfolding creates
-  none-made op other = simp other
-
-  none-deleted : (op : ℕ) → eqb op T-DELETE ≡ false → deletes op ≡ 0
-  unfolding deletes
-  none-deleted op other = simp other
 
   idle-acts : (next : ℕ) → On 0 0 (on-all (acted (Onto (machine-at machine next (machine .height))) (keep task)) stack memory pool ends)
   idle-acts next =
@@ -157,9 +173,9 @@ module _ (save : ℕ) (stack memory pool ends : List ℕ) (machine : Machine) (t
   task-acts op next here =
       either (OnTask op) (eqb op T-CREATE) _ _ (λ is. by-op op T-CREATE _ is (created-acts _ (created-here next (here is))))
       (λ made. either (OnTask op) (eqb op T-SET-FIELD) _ _
-      (λ is. by-op op T-SET-FIELD _ is (by-acts 0 0 _ (set-field-sets (length memory) stack table slot (machine .«next_id») (machine .count) t memory (registers-of machine) next (registered m))))
+      (λ is. by-op op T-SET-FIELD _ is (by-acts 0 _ (set-field-sets (length memory) stack table slot (machine .«next_id») (machine .count) t memory (registers-of machine) next (registered m))))
       (λ _. either (OnTask op) (eqb op T-DELETE) _ _
-      (λ is. by-op op T-DELETE _ is (by-acts 0 1 _ (delete-deletes (length memory) stack table slot (machine .«next_id») (machine .count) t (registers-of machine) next (registered m))))
+      (λ is. by-op op T-DELETE _ is (by-acts 1 _ (delete-deletes (length memory) stack table slot (machine .«next_id») (machine .count) t (registers-of machine) next (registered m))))
       (λ deleted. as-none op next made deleted)))
 
   frames-acts : (op place next : ℕ) → (eqb op T-CREATE ≡ true → slot ≡ machine .«next_id») → On (creates op) (deletes op) (on-frames stack memory pool ends machine task op place next)

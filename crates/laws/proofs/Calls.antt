@@ -1,8 +1,9 @@
--- Fuel over two calls: a call that pauses and a continue after it are one call with the fuel of both.
+-- Fuel over two calls: a call that pauses and a continue after it are one call with the fuel of both, whatever the record was, since one that fails the test of 26 does not pause.
 use Prim.Native.Nat.{ℕ, _+_, _≤_}
 use mathlib.Core.Bool.{Bool, true, false}
 use mathlib.Core.Path.{_≡_, refl, sym, ap, _∙_, subst}
 use native.Mathlib.Omega.{arith}
+use lib.ListN.{length}
 use Rattle.machine.specs.declared.Machine.{Machine}
 use Rattle.machine.specs.declared.Phase.{Phase}
 use Rattle.machine.specs.declared.Phase.the-variants as phase
@@ -12,14 +13,16 @@ use Rattle.machine.specs.declared.Outcome.{Outcome}
 use Rattle.machine.specs.declared.Outcome.the-variants.{Done, Paused, Refused}
 use Rattle.machine.specs.World.{World, world}
 use Rattle.machine.specs.Run.{End, end-at, run}
-use Rattle.machine.specs.Calls.{may-continue, allowed, phased, ended, report, not-allowed, Reported, reports, at-end, is-sound, call-with, call, start, go-on}
+use Rattle.machine.specs.Calls.{may-continue, allowed, phased, ended, report, Reported, at-end, is-sound, call-with, call, start, go-on}
 use Rattle.machine.specs.World.{with-machine}
 use Rattle.machine.specs.declared.Verb.{Verb}
 use Rattle.machine.specs.declared.Verb.the-variants.{Start, Continue}
 use Rattle.machine.specs.declared.Permission.{Permission}
-use Rattle.laws.specs.Sound.{Sound}
-use Rattle.laws.specs.After.{world-after, Together}
-use Rattle.laws.proofs.SoundnessCalls.{call-sound}
+use Rattle.machine.specs.History.{world-after, runs, left-by}
+use Rattle.laws.specs.Sound.{Passes}
+use Rattle.laws.specs.Together.{Together}
+use Rattle.laws.proofs.SoundnessCalls.{left-passes}
+use Rattle.laws.proofs.Refused.{call-allowed, sound-if-allowed, call-not-allowed}
 use Rattle.laws.proofs.Finished.{finished}
 use Rattle.laws.specs.Finished.{Ends, is-done, is-paused, is-refused}
 use Rattle.laws.proofs.Fuel.{outcome-number, fuel}
@@ -79,26 +82,18 @@ module _ (verb : Verb) (w : World) where
   abbrev begins : World
   begins = with-machine w (allows .machine)
 
-  allowed-is : (n : ℕ) → allows .allowed ≡ true → call verb n w ≡ at-end n (run n begins)
-  unfolding call call-with
-  allowed-is n yes-it-is = simp yes-it-is
-
-  refused-is : (n : ℕ) → allows .allowed ≡ false → call verb n w ≡ reports (not-allowed (w .machine)) w
-  unfolding call call-with
-  refused-is n no-it-is-not = simp no-it-is-not
-
   -- a call that pauses was allowed
   was-allowed : (n : ℕ) (b : Bool) → allows .allowed ≡ b → call verb n w .report .outcome ≡ Paused → allows .allowed ≡ true
   unfolding outcome-number
   was-allowed n true e paused = e
   was-allowed n false e paused =
-      absurd (let z : _≡_ {A = ℕ} 2 1 = ap (λ (r : Reported). outcome-number (r .report .outcome)) (sym (refused-is n e)) ∙ ap outcome-number paused in omega arith)
+      absurd (let z : _≡_ {A = ℕ} 2 1 = ap (λ (r : Reported). outcome-number (r .report .outcome)) (sym (call-not-allowed verb n w e)) ∙ ap outcome-number paused in omega arith)
 
   run-outcome : (n : ℕ) → at-end n (run n begins) .report .outcome ≡ run n begins .outcome
   unfolding report
   run-outcome n = refl
 
-  module _ (sound : Sound w) (a b : ℕ) (paused : call verb a w .report .outcome ≡ Paused) where
+  module _ (ends-lent : length (w .ends) ≡ 1024) (a b : ℕ) (paused : call verb a w .report .outcome ≡ Paused) where
     allowance : allows .allowed ≡ true
     allowance = was-allowed a (allows .allowed) refl paused
 
@@ -109,24 +104,31 @@ module _ (verb : Verb) (w : World) where
     run-pauses : run a begins ≡ end-at there 0 Paused
     run-pauses =
         paused-end a begins (run a begins) (finished a begins)
-        (sym (run-outcome a) ∙ ap (λ (r : Reported). r .report .outcome) (sym (allowed-is a allowance)) ∙ paused)
+        (sym (run-outcome a) ∙ ap (λ (r : Reported). r .report .outcome) (sym (call-allowed verb a w allowance)) ∙ paused)
 
     first-is : call verb a w ≡ at-end a (end-at there 0 Paused)
-    first-is = allowed-is a allowance ∙ ap (at-end a) run-pauses
+    first-is = call-allowed verb a w allowance ∙ ap (at-end a) run-pauses
 
     left-is : world-after (call verb a w) ≡ rephased phase.Paused there
     left-is = ap world-after first-is ∙ left-paused a there
 
+    passes : Passes w
+    passes = record { tested = sound-if-allowed verb w allowance; ends-lent = ends-lent }
+
+    left-passing : Passes (world-after (call verb a w))
+    unfolding left-by
+    left-passing = left-passes (runs verb a) w passes
+
     still-sound : is-sound (rephased phase.Paused there) ≡ true
-    still-sound = subst (λ (v : World). is-sound v ≡ true) left-is (call-sound verb a w sound .tested)
+    still-sound = subst (λ (v : World). is-sound v ≡ true) left-is (left-passing .tested)
 
     second-is : go-on b (world-after (call verb a w)) ≡ at-end b (end-as phase.Paused (run b there))
     second-is = ap (go-on b) left-is ∙ go-on-is b there still-sound ∙ ap (at-end b) (run-phase phase.Paused b there)
 
     whole-is : call verb (a + b) w ≡ at-end (a + b) (run b there)
-    whole-is = allowed-is (a + b) allowance ∙ ap (at-end (a + b)) (fuel a b begins there run-pauses)
+    whole-is = call-allowed verb (a + b) w allowance ∙ ap (at-end (a + b)) (fuel a b begins there run-pauses)
 
-    -- a call with fuel a that pauses, and a continue with fuel b after it, are one call with fuel a + b
+    -- a call with fuel a that pauses, and a continue with fuel b after it, are one call with fuel a + b; 1,024 ends are what the type says
     pub fuel-of-calls : Together (call verb a w) (go-on b (world-after (call verb a w))) (call verb (a + b) w)
     fuel-of-calls =
         subst (λ (r : Reported). Together r (go-on b (world-after (call verb a w))) (call verb (a + b) w)) (sym first-is)
@@ -134,9 +136,9 @@ module _ (verb : Verb) (w : World) where
         (subst (λ (r : Reported). Together (at-end a (end-at there 0 Paused)) (at-end b (end-as phase.Paused (run b there))) r) (sym whole-is) (continued a b there)))
 
 -- a start that pauses, then a continue
-pub start-then-go-on : (a b : ℕ) (w : World) → Sound w → start a w .report .outcome ≡ Paused → Together (start a w) (go-on b (world-after (start a w))) (start (a + b) w)
-start-then-go-on a b w sound paused = fuel-of-calls Start w sound a b paused
+pub start-then-go-on : (a b : ℕ) (w : World) → length (w .ends) ≡ 1024 → start a w .report .outcome ≡ Paused → Together (start a w) (go-on b (world-after (start a w))) (start (a + b) w)
+start-then-go-on a b w ends-lent paused = fuel-of-calls Start w ends-lent a b paused
 
 -- a continue that pauses, then another
-pub go-on-then-go-on : (a b : ℕ) (w : World) → Sound w → go-on a w .report .outcome ≡ Paused → Together (go-on a w) (go-on b (world-after (go-on a w))) (go-on (a + b) w)
-go-on-then-go-on a b w sound paused = fuel-of-calls Continue w sound a b paused
+pub go-on-then-go-on : (a b : ℕ) (w : World) → length (w .ends) ≡ 1024 → go-on a w .report .outcome ≡ Paused → Together (go-on a w) (go-on b (world-after (go-on a w))) (go-on (a + b) w)
+go-on-then-go-on a b w ends-lent paused = fuel-of-calls Continue w ends-lent a b paused

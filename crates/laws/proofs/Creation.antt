@@ -14,6 +14,7 @@ use Rattle.storage.specs.Tasks.{blank}
 use Rattle.storage.proofs.Laws.{living-cleared}
 use Rattle.storage.proofs.Soundness.{Counts, counts-sound, sound-cleared}
 use Rattle.image.specs.Image.{Image, sound, task-count, read-image}
+use Rattle.image.specs.Reading.{s-len}
 use Rattle.image.specs.Table.{Loading}
 use Rattle.table_image.specs.Loops.{load-records}
 use Rattle.table_image.specs.Tables.{in-use, loading}
@@ -27,16 +28,16 @@ use Rattle.image.proofs.Readings as readings
 use Rattle.machine.specs.declared.Machine.{Machine}
 use Rattle.machine.specs.declared.Phase.the-variants.{New}
 use Rattle.machine.specs.Machines.{with-pool}
-use Rattle.machine.specs.World.{world}
+use Rattle.machine.specs.World.{World, world}
 use Rattle.machine.specs.Sound.{sound-frames}
+use Rattle.machine.specs.History.{FreshWorld, is-created as is-created-by}
 use Rattle.machine.specs.Creation.{new-machine, Made, made, create}
 use Rattle.mechanism.specs.Creating.{unfit, with-program, interned-program, prepare-fit, prepare, create-as, create-by-parts}
 use Rattle.mechanism.proofs.Creates.{create-is}
 use Rattle.machine.specs.declared.CreateResult.{CreateResult}
 use Rattle.machine.specs.declared.CreateResult.the-variants.{Created, NotCreated}
-use Rattle.laws.specs.Sound.{Sound}
-use Rattle.laws.proofs.Parts.{Entries, Machined, Tabled}
-use Rattle.laws.proofs.Parts as parts
+use Rattle.laws.specs.Sound.{Passes, Sound}
+use Rattle.laws.proofs.Parts.{Entries, Machined, Tabled, kept-sound}
 use Rattle.laws.proofs.Pool.{Interns, interns, not-interns, intern-keeps}
 use Rattle.laws.proofs.Tables.{blank-title}
 use Rattle.laws.proofs.Loading.{Orderly, none, orderly, s-len-below, Loads, Loaded, load-all}
@@ -98,13 +99,13 @@ module _ (table : List Task) (lent size : ℕ) (bytes : List ℕ) (next-id count
       let e = records-told f table pool ends used ∙ load-table-tasks bytes (f .image .image) (loading table pool ends used) (f .image .read) in
       subst (λ (n : ℕ). Loaded start all len n) (f .image .count-is) (subst (λ (l : Loading). Loaded start l len (length (f .image .image .tasks))) (sym e) d)
 
-  all-tabled : Tabled (all .table) next-id len
+  all-tabled : Tabled (Unit {0}) (all .table) next-id len
   unfolding sound-table
   all-tabled =
       let n = numbers in
       let c : Counts (length (all .table)) next-id len = record { slots-are = loaded .loads .long; next-most = n .0; count-most = omega (arith, n .0, n .1); count-below = n .1 } in
       let s = loaded .loads .slots in
-      record { sound = simp (counts-sound c, s); titles = loaded .loads .titles }
+      record { sound = simp (counts-sound c, s); titles = λ _. loaded .loads .titles }
 
   all-living : living-of (all .table) ≡ task-count bytes
   all-living = let n = living-cleared (length table) in let c = count-told bytes f in omega (arith, loaded .living, n, c)
@@ -116,9 +117,9 @@ unfolding sound-frames
 new-frames bytes next-id count entries some = lt-ltb 0 entries some
 
 new-machined : (memory pool save : ℕ) (stack ends : List ℕ) (before bytes entries next-id count : ℕ) → length stack ≡ 1000 → Entries pool ends bytes entries → 0 < entries
-    → Machined memory pool save stack ends (with-pool (new-machine before 1 next-id count) bytes entries)
+    → Machined (Unit {0}) memory pool save stack ends (with-pool (new-machine before 1 next-id count) bytes entries)
 new-machined memory pool save stack ends before bytes entries next-id count long p some = record {
-  values = record { high = omega arith; few = omega arith; there = omega arith; stack-long = long; inside = λ i less. absurd (omega arith) };
+  values = record { high = omega arith; few = omega arith; there = omega arith; stack-long = λ _. long; inside = λ _ i less. absurd (omega arith) };
   entries = p;
   frames = new-frames before next-id count entries some;
   kept = omega arith;
@@ -126,11 +127,30 @@ new-machined memory pool save stack ends before bytes entries next-id count long
 
 -- ---- creation
 
+-- a machine's numbers are those of a sound image
+pub record Begins (bytes : List ℕ) (machine : Machine) : Type 0 where
+  pub image : Image
+  pub read : read-image bytes ≡ sound image
+  pub tasks : Orderly (image .next-id) 0 (image .tasks)
+  pub next-id : machine .«next_id» ≡ image .next-id
+  pub count : machine .count ≡ s-len (image .tasks)
+
+begins-with : (table : List Task) (lent size : ℕ) (bytes : List ℕ) (next-id count len : ℕ) → Fits (length table) lent size bytes next-id count len → (machine : Machine)
+    → machine .«next_id» ≡ next-id → machine .count ≡ len → Begins bytes machine
+begins-with table lent size bytes next-id count len f machine id-is count-is = record {
+  image = f .image .image;
+  read = f .image .read;
+  tasks = images bytes (f .image .image) (f .image .read) .tasks;
+  next-id = omega (arith, id-is, f .image .next-id-is);
+  count = omega (arith, count-is, f .image .s-len-is);
+}
+
 -- sound beside any stack, memory and save buffer, with the image's tasks living, not yet run
 record Fresh (image : List ℕ) (machine : Machine) (table : List Task) (pool ends : List ℕ) : Type 0 where
   is-sound : (stack memory save : List ℕ) → length stack ≡ 1000 → Sound (world machine table stack memory pool ends save)
   living : living-of table ≡ task-count image
   new : machine .phase ≡ New
+  ids : Begins image machine
 
 data Creates (image : List ℕ) : Made → Type 0 where
   creates : (machine : Machine) (table : List Task) (pool ends i p : List ℕ) → Fresh image machine table pool ends → Creates image (made (Created machine) table pool ends i p)
@@ -149,10 +169,13 @@ module _ (table : List Task) (pool ends image program : List ℕ) (lent : length
       let some : 0 < 1 = omega arith in
       let l : Loaded _ _ len count = loaded table (length pool) (length program) image next-id count len f new-pool new-ends (in-use used 1) s some in
       creates _ _ _ _ image program (record {
-        is-sound = λ stack memory save stack-long. parts.sound _ (new-machined (length memory) _ (length save) stack _ used _ _ next-id len stack-long (l .loads .pool) (l .loads .some))
-            (all-tabled table (length pool) (length program) image next-id count len f new-pool new-ends (in-use used 1) s some);
+        is-sound = λ stack memory save stack-long. kept-sound _ (record {
+          machine-kept = new-machined (length memory) _ (length save) stack _ used _ _ next-id len stack-long (l .loads .pool) (l .loads .some);
+          table-kept = all-tabled table (length pool) (length program) image next-id count len f new-pool new-ends (in-use used 1) s some;
+        });
         living = all-living table (length pool) (length program) image next-id count len f new-pool new-ends (in-use used 1) s some;
         new = refl;
+        ids = begins-with table (length pool) (length program) image next-id count len f _ refl refl;
       })
   with-entry next-id count len _ f (not-interns refusal) = not-creates refusal table pool ends image program
 
@@ -197,3 +220,25 @@ module _ (table : List Task) (pool ends image program : List ℕ) (machine : Mac
   -- and it has not run
   pub create-new : machine .phase ≡ New
   create-new = fresh .new
+
+  -- its numbers are those of the image
+  pub create-ids : Begins image machine
+  create-ids = fresh .ids
+
+-- ---- a fresh machine
+
+-- it is sound
+pub fresh-sound : (program image : List ℕ) (first : World) → FreshWorld program image first → Sound first
+fresh-sound program image _ (is-created-by table pool ends machine stack memory save lent long e) = create-sound table pool ends image program machine lent e stack memory save long
+
+-- so it passes the test of 26
+pub fresh-passes : (program image : List ℕ) (first : World) → FreshWorld program image first → Passes first
+fresh-passes program image first fresh = let s = fresh-sound program image first fresh in record { tested = s .tested; ends-lent = s .ends-lent }
+
+-- as many tasks live as the image counts
+pub fresh-living : (program image : List ℕ) (first : World) → FreshWorld program image first → living-of (first .table) ≡ task-count image
+fresh-living program image _ (is-created-by table pool ends machine stack memory save lent long e) = create-living table pool ends image program machine lent e
+
+-- its numbers are those of the image
+pub fresh-ids : (program image : List ℕ) (first : World) → FreshWorld program image first → Begins image (first .machine)
+fresh-ids program image _ (is-created-by table pool ends machine stack memory save lent long e) = create-ids table pool ends image program machine lent e

@@ -1,16 +1,15 @@
 -- A run is its finished instructions one after the other; the refused one leaves everything as they left it.
-use Prim.Native.Nat.{ℕ, zero, suc, _+_}
-use mathlib.Core.Bool.{Bool, true, false, cond}
+use Prim.Native.Nat.{ℕ, zero, suc}
+use mathlib.Core.Bool.{Bool, true, false}
 use mathlib.Core.Path.{_≡_, refl, sym, subst}
 use native.Mathlib.Omega.{arith}
 use Rattle.errors.specs.declared.Refusal.{Refusal}
-use Rattle.machine.specs.declared.Outcome.{Outcome}
 use Rattle.machine.specs.declared.Outcome.the-variants.{Done, Paused, Refused}
 use Rattle.machine.specs.World.{World, at-end}
 use Rattle.machine.specs.Words.{StepResult, next, refused}
 use Rattle.machine.specs.Step.{step}
 use Rattle.machine.specs.Run.{End, end-at, follow, run}
-use Rattle.laws.specs.Finished.{Reaches, here, onto, Ends, is-done, is-paused, is-refused}
+use Rattle.laws.specs.Finished.{here, onto, Ends, is-done, is-paused, is-refused}
 
 -- by a test
 on-bool : {A : Type 0} (b : Bool) → (b ≡ true → A) → (b ≡ false → A) → A

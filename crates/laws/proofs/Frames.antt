@@ -1,5 +1,5 @@
 -- The machine's record stays sound: registers put back, a frame more or less, CALL and END_CALL.
-use Prim.Native.Nat.{ℕ, _≤_, _<_, min}
+use Prim.Native.Nat.{ℕ, _+_, _≤_, _<_, min}
 use mathlib.Core.Bool.{Bool, true, false, cond, _&&_, false≢true, and-eq-true-iff}
 use mathlib.Core.List.{List}
 use mathlib.Core.Path.{_≡_, refl}
@@ -65,6 +65,14 @@ frames-are : (frames : Frames) (entries : ℕ) → sound-frames frames entries �
 unfolding sound-frames
 frames-are frames entries sound = framed-by frames entries (eqb (frames .count) 1) (eqb (frames .count) 2) refl refl sound
 
+-- at most two
+few-by : (frames : Frames) (entries : ℕ) → Framed frames entries → frames .count ≤ 2
+few-by frames entries (one single main) = omega (arith, single)
+few-by frames entries (two double main task) = omega (arith, double)
+
+pub few-frames : (frames : Frames) (entries : ℕ) → sound-frames frames entries ≡ true → frames .count ≤ 2
+few-frames frames entries sound = few-by frames entries (frames-are frames entries sound)
+
 one-sound : (frames : Frames) (entries : ℕ) → frames .count ≡ 1 → names (frames .main) entries ≡ true → sound-frames frames entries ≡ true
 unfolding sound-frames
 one-sound frames entries single main = simp (single, main)
@@ -88,27 +96,27 @@ frames-more frames entries more less sound = more-by frames entries more less (f
 -- ---- the record
 
 -- a machine's registers are sound
-pub registered : {memory pool save : ℕ} {stack ends : List ℕ} {machine : Machine} → Machined memory pool save stack ends machine → Registered memory (registers-of machine) stack
+pub registered : {asked : Type 0} {memory pool save : ℕ} {stack ends : List ℕ} {machine : Machine} → Machined asked memory pool save stack ends machine → Registered asked memory (registers-of machine) stack
 unfolding registers-of
 registered m = m .values
 
 -- sound registers put back
-pub settled-sound : {memory pool save : ℕ} {stack ends : List ℕ} {machine : Machine} (registers : Registers) (new : List ℕ) → Machined memory pool save stack ends machine
-    → Registered memory registers new → Machined memory pool save new ends (settled machine registers)
+pub settled-sound : {asked : Type 0} {memory pool save : ℕ} {stack ends : List ℕ} {machine : Machine} (registers : Registers) (new : List ℕ) → Machined asked memory pool save stack ends machine
+    → Registered asked memory registers new → Machined asked memory pool save new ends (settled machine registers)
 unfolding settled
 settled-sound {machine = machine} registers new m r =
     record { values = r; entries = m .entries; frames = settled-frames (machine .frames) (machine .entries) (registers .place) (m .frames); kept = m .kept }
 
 -- another place, and a height that is not above
-pub placed-sound : {memory pool save : ℕ} {stack ends : List ℕ} {machine : Machine} (next height : ℕ) → Machined memory pool save stack ends machine → height ≤ machine .height
-    → Machined memory pool save stack ends (machine-at machine next height)
+pub placed-sound : {asked : Type 0} {memory pool save : ℕ} {stack ends : List ℕ} {machine : Machine} (next height : ℕ) → Machined asked memory pool save stack ends machine → height ≤ machine .height
+    → Machined asked memory pool save stack ends (machine-at machine next height)
 unfolding registers-of
-placed-sound {memory} {stack = stack} {machine = machine} next height m low =
+placed-sound {memory = memory} {stack = stack} {machine = machine} next height m low =
     settled-sound (moved (registers-of machine) next height) stack m (lowered memory (registers-of machine) stack next height (registered m) low)
 
 -- other frames
-framed-sound : {memory pool save : ℕ} {stack ends : List ℕ} {machine : Machine} (frames : Frames) → Machined memory pool save stack ends machine
-    → sound-frames frames (machine .entries) ≡ true → Machined memory pool save stack ends (with-frames machine frames)
+framed-sound : {asked : Type 0} {memory pool save : ℕ} {stack ends : List ℕ} {machine : Machine} (frames : Frames) → Machined asked memory pool save stack ends machine
+    → sound-frames frames (machine .entries) ≡ true → Machined asked memory pool save stack ends (with-frames machine frames)
 framed-sound frames m sound = record { values = m .values; entries = m .entries; frames = sound; kept = m .kept }
 
 -- ---- CALL and END_CALL
@@ -118,9 +126,18 @@ pub record Same (machine after : Machine) : Type 0 where
   pub next-id : after .«next_id» ≡ machine .«next_id»
   pub count : after .count ≡ machine .count
 
-pub data WentOn (memory pool save : ℕ) (stack ends : List ℕ) (machine : Machine) : MachineResult → Type 0 where
-  went-on : (after : Machine) → Machined memory pool save stack ends after → after .entries ≡ machine .entries → Same machine after → WentOn memory pool save stack ends machine (Onto after)
-  refused : (refusal : Refusal) → WentOn memory pool save stack ends machine (Refused refusal)
+-- so many ids given out, none or one: the next id goes up by as many, and the S_LEN count is the one given plus 1
+pub record Given (made : ℕ) (machine after : Machine) : Type 0 where
+  pub next-id : after .«next_id» ≡ machine .«next_id» + made
+  pub none : made ≡ 0 → after .count ≡ machine .count
+  pub one : made ≡ 1 → after .count ≡ machine .«next_id» + 1
+
+pub none-given : {machine after : Machine} → Same machine after → Given 0 machine after
+none-given same = record { next-id = omega (arith, same .next-id); none = λ _. same .count; one = λ e. absurd (omega arith) }
+
+pub data WentOn (asked : Type 0) (memory pool save : ℕ) (stack ends : List ℕ) (machine : Machine) : MachineResult → Type 0 where
+  went-on : (after : Machine) → Machined asked memory pool save stack ends after → after .entries ≡ machine .entries → Same machine after → WentOn asked memory pool save stack ends machine (Onto after)
+  refused : (refusal : Refusal) → WentOn asked memory pool save stack ends machine (Refused refusal)
 
 data Pushes (entries : ℕ) : FramesResult → Type 0 where
   pushes : (frames : Frames) → sound-frames frames entries ≡ true → Pushes entries (NewFrames frames)
@@ -162,16 +179,16 @@ unfolding bounds
 bounds-told ends entries entry =
     either (Bounded entries entry) (ltb (entry .0) (min entries 1024)) _ _ (λ less. bounded _ _ (let l = ltb-true (entry .0) (min entries 1024) less in omega (arith, l))) (λ _. not-bounded _)
 
-module _ (memory pool save : ℕ) (stack ends : List ℕ) (machine : Machine) (m : Machined memory pool save stack ends machine) where
+module _ {asked : Type 0} (memory pool save : ℕ) (stack ends : List ℕ) (machine : Machine) (m : Machined asked memory pool save stack ends machine) where
   abbrev On : MachineResult → Type 0
-  On = WentOn memory pool save stack ends machine
+  On = WentOn asked memory pool save stack ends machine
 
-  framed-on : (caller : Machine) (result : FramesResult) → Machined memory pool save stack ends caller → caller .entries ≡ machine .entries → Same machine caller → Pushes (caller .entries) result → On (framed caller result)
+  framed-on : (caller : Machine) (result : FramesResult) → Machined asked memory pool save stack ends caller → caller .entries ≡ machine .entries → Same machine caller → Pushes (caller .entries) result → On (framed caller result)
   unfolding framed
   framed-on caller _ c many same (pushes frames sound) = went-on _ (framed-sound frames c sound) many (record { next-id = same .next-id; count = same .count })
   framed-on caller _ c many same (not-pushes refusal) = refused refusal
 
-  bounded-on : (caller : Machine) (entry : InstructionsRef) (result : BoundsResult) → Machined memory pool save stack ends caller → caller .entries ≡ machine .entries → Same machine caller
+  bounded-on : (caller : Machine) (entry : InstructionsRef) (result : BoundsResult) → Machined asked memory pool save stack ends caller → caller .entries ≡ machine .entries → Same machine caller
       → Bounded (caller .entries) entry result → On (enter-bounded caller entry result)
   unfolding enter-bounded
   bounded-on caller entry _ c many same (bounded start end less) =
@@ -190,7 +207,7 @@ module _ (memory pool save : ℕ) (stack ends : List ℕ) (machine : Machine) (m
   popped-on : (next : ℕ) (task : Task) (result : PopResult) → Pops stack (machine .height) result → On (call-popped ends machine next task result)
   unfolding call-popped enter
   popped-on next task _ (popped new less) =
-      let c : Machined memory pool save stack ends (machine-at machine next new) = placed-sound next new m (omega arith) in
+      let c : Machined asked memory pool save stack ends (machine-at machine next new) = placed-sound next new m (omega arith) in
       either On (task .living) _ _ (λ _. bounded-on (machine-at machine next new) (task .«instructions_ref») _ c (placed-entries next new) (placed-same next new) (bounds-told ends _ (task .«instructions_ref»)))
       (λ _. went-on _ c (placed-entries next new) (placed-same next new))
   popped-on next task _ (not-popped refusal) = refused refusal

@@ -1,13 +1,10 @@
 -- Fuel a, then b, is fuel a + b, if the first run pauses.
 use Prim.Native.Nat.{ℕ, zero, suc, _+_}
-use mathlib.Core.Bool.{false, cond}
-use mathlib.Core.Path.{_≡_, refl, ap, sym, _∙_, subst}
+use mathlib.Core.Path.{_≡_, ap, _∙_, subst}
 use native.Mathlib.Omega.{arith}
 use Rattle.machine.specs.declared.Outcome.{Outcome}
 use Rattle.machine.specs.declared.Outcome.the-variants.{Done, Paused, Refused}
-use Rattle.machine.specs.World.{World, at-end}
-use Rattle.machine.specs.Words.{next}
-use Rattle.machine.specs.Step.{step}
+use Rattle.machine.specs.World.{World}
 use Rattle.machine.specs.Run.{End, end-at, follow, run}
 use Rattle.laws.proofs.Finished.{steps-to, finished}
 use Rattle.laws.specs.Finished.{Reaches, here, onto, Ends, is-done, is-paused, is-refused}

@@ -37,9 +37,9 @@ sized P refuse onward (NoOperand refusal) none some = none refusal
 short : (size : ℕ) → size % 65536 < 2 ^ 16
 short size = omega arith
 
-module _ (registers : Registers) (stack memory code : List ℕ) (next : ℕ) (r : Registered (length memory) registers stack) where
+module _ {asked : Type 0} (registers : Registers) (stack memory code : List ℕ) (next : ℕ) (r : Registered asked (length memory) registers stack) where
   abbrev OverStack : OnStack → Type 0
-  OverStack = stacked.Keeps (length memory)
+  OverStack = stacked.Keeps asked (length memory)
 
   push-u32-keeps : OverStack (push-u32 stack code registers next)
   unfolding push-u32
@@ -53,21 +53,21 @@ module _ (registers : Registers) (stack memory code : List ℕ) (next : ℕ) (r 
   unfolding muli
   muli-all-keeps = sized OverStack _ _ (operand 4 code _) (λ refusal. stacked.refused refusal stack) (λ n. muli-keeps (length memory) registers stack next r n)
 
-  jump-all-goes : Goes (length memory) stack (jump-if-false stack code registers next)
+  jump-all-goes : Goes asked (length memory) stack (jump-if-false stack code registers next)
   unfolding jump-if-false
-  jump-all-goes = sized (Goes (length memory) stack) _ _ (operand 4 code _) (λ refusal. stops refusal) (λ target. jump-goes (length memory) registers stack next r target)
+  jump-all-goes = sized (Goes asked (length memory) stack) _ _ (operand 4 code _) (λ refusal. stops refusal) (λ target. jump-goes (length memory) registers stack next r target)
 
-  m-st-all-keeps : Keeps (length memory) (m-st stack memory code registers next)
+  m-st-all-keeps : Keeps asked (length memory) (m-st stack memory code registers next)
   unfolding m-st
   m-st-all-keeps =
-      sized (Keeps (length memory)) _ _ (operand 1 code _) (λ refusal. refused refusal stack memory) (λ tag. m-st-keeps registers stack memory next r [] (tag % 256))
+      sized (Keeps asked (length memory)) _ _ (operand 1 code _) (λ refusal. refused refusal stack memory) (λ tag. m-st-keeps registers stack memory next r [] (tag % 256))
 
-  m-sti-keeps : Keeps (length memory) (m-sti stack memory code registers next)
+  m-sti-keeps : Keeps asked (length memory) (m-sti stack memory code registers next)
   unfolding m-sti m-sti-of
   m-sti-keeps =
-      sized (Keeps (length memory)) _ _ (operand 2 code _) (λ refusal. refused refusal stack memory)
-      (λ size. sized (Keeps (length memory)) _ _ (operand 1 code _) (λ refusal. refused refusal stack memory)
-      (λ tag. sized (Keeps (length memory)) _ _ (operand 1 code _) (λ refusal. refused refusal stack memory)
+      sized (Keeps asked (length memory)) _ _ (operand 2 code _) (λ refusal. refused refusal stack memory)
+      (λ size. sized (Keeps asked (length memory)) _ _ (operand 1 code _) (λ refusal. refused refusal stack memory)
+      (λ tag. sized (Keeps asked (length memory)) _ _ (operand 1 code _) (λ refusal. refused refusal stack memory)
       (λ signal. store-keeps registers stack memory next r _ (registers .height) (size % 65536) (tag % 256) (omega arith) (short size))))
 
   plain-keeps : (op count : ℕ) → OverStack (plain stack registers next op count)
@@ -96,48 +96,48 @@ module _ (registers : Registers) (stack memory code : List ℕ) (next : ℕ) (r 
       (λ _. either OverStack (eqb op JUMP-IF-FALSE) _ _ (λ _. stacked.unwritten (length memory) stack _ jump-all-goes)
       (λ _. plain-keeps op count))))))
 
-  execute-keeps : (op count : ℕ) → Keeps (length memory) (execute stack memory code registers next op count)
+  execute-keeps : (op count : ℕ) → Keeps asked (length memory) (execute stack memory code registers next op count)
   unfolding execute
   execute-keeps op count =
-      either (Keeps (length memory)) (is-equality op) _ _ (λ _. beside memory _ (eq-keeps (length memory) registers stack next r memory (eqb op EQ)))
-      (λ _. either (Keeps (length memory)) (eqb op M-STI) _ _ (λ _. m-sti-keeps)
-      (λ _. either (Keeps (length memory)) (eqb op M-ST) _ _ (λ _. m-st-all-keeps)
-      (λ _. either (Keeps (length memory)) (eqb op M-MUTA) _ _ (λ _. m-muta-keeps registers stack memory next r)
+      either (Keeps asked (length memory)) (is-equality op) _ _ (λ _. beside memory _ (eq-keeps (length memory) registers stack next r memory (eqb op EQ)))
+      (λ _. either (Keeps asked (length memory)) (eqb op M-STI) _ _ (λ _. m-sti-keeps)
+      (λ _. either (Keeps asked (length memory)) (eqb op M-ST) _ _ (λ _. m-st-all-keeps)
+      (λ _. either (Keeps asked (length memory)) (eqb op M-MUTA) _ _ (λ _. m-muta-keeps registers stack memory next r)
       (λ _. beside memory _ (operated-keeps op count)))))
 
 -- ---- cut by the code's end
 
-module _ (registers : Registers) (stack : List ℕ) (lent : ℕ) (r : Registered lent registers stack) where
-  cut-value-goes : (result : PopResult) → Goes lent stack (cut-value result)
+module _ {asked : Type 0} (registers : Registers) (stack : List ℕ) (lent : ℕ) (r : Registered asked lent registers stack) where
+  cut-value-goes : (result : PopResult) → Goes asked lent stack (cut-value result)
   unfolding cut-value
   cut-value-goes (Popped value height) = stops _
   cut-value-goes (NotPopped refusal) = stops refusal
 
-  cut-size-goes : (result : PopResult) → Goes lent stack (cut-size result)
+  cut-size-goes : (result : PopResult) → Goes asked lent stack (cut-size result)
   unfolding cut-size
-  cut-size-goes (Popped value height) = either (Goes lent stack) (ltb 65535 (to-u32 value)) _ _ (λ _. stops _) (λ _. stops _)
+  cut-size-goes (Popped value height) = either (Goes asked lent stack) (ltb 65535 (to-u32 value)) _ _ (λ _. stops _) (λ _. stops _)
   cut-size-goes (NotPopped refusal) = stops refusal
 
-  cut-skip-goes : (result : PopResult) → Pops stack (registers .height) result → Goes lent stack (cut-skip registers result)
+  cut-skip-goes : (result : PopResult) → Pops stack (registers .height) result → Goes asked lent stack (cut-skip registers result)
   unfolding cut-skip
   cut-skip-goes _ (popped new less) =
-      either (Goes lent stack) (eqb (getD stack new 0) (to-bool-val false)) _ _ (λ _. stops _) (λ _. goes _ (lowered lent registers stack (registers .place + 5) new r (omega arith)))
+      either (Goes asked lent stack) (eqb (getD stack new 0) (to-bool-val false)) _ _ (λ _. stops _) (λ _. goes _ (lowered lent registers stack (registers .place + 5) new r (omega arith)))
   cut-skip-goes _ (not-popped refusal) = stops refusal
 
-  cut-goes : (op : ℕ) → Goes lent stack (cut stack registers op)
+  cut-goes : (op : ℕ) → Goes asked lent stack (cut stack registers op)
   unfolding cut cut-muli cut-m-st cut-jump
   cut-goes op =
-      either (Goes lent stack) (eqb op MULI) _ _ (λ _. cut-value-goes _)
-      (λ _. either (Goes lent stack) (eqb op M-ST) _ _ (λ _. cut-size-goes _)
-      (λ _. either (Goes lent stack) (eqb op JUMP-IF-FALSE) _ _ (λ _. cut-skip-goes _ (pops stack (registers .height))) (λ _. stops _)))
+      either (Goes asked lent stack) (eqb op MULI) _ _ (λ _. cut-value-goes _)
+      (λ _. either (Goes asked lent stack) (eqb op M-ST) _ _ (λ _. cut-size-goes _)
+      (λ _. either (Goes asked lent stack) (eqb op JUMP-IF-FALSE) _ _ (λ _. cut-skip-goes _ (pops stack (registers .height))) (λ _. stops _)))
 
-by-extent-keeps : (registers : Registers) (stack memory code : List ℕ) (op count : ℕ) (extent : Extent) → Registered (length memory) registers stack
-    → Keeps (length memory) (by-extent stack memory code registers op count extent)
+by-extent-keeps : {asked : Type 0} (registers : Registers) (stack memory code : List ℕ) (op count : ℕ) (extent : Extent) → Registered asked (length memory) registers stack
+    → Keeps asked (length memory) (by-extent stack memory code registers op count extent)
 unfolding by-extent
 by-extent-keeps registers stack memory code op count (extents.Next next) r = execute-keeps registers stack memory code next r op count
 by-extent-keeps registers stack memory code op count extents.Cut r = unwritten memory stack _ (cut-goes registers stack (length memory) r op)
 
-pub instruct-keeps : (registers : Registers) (stack memory code : List ℕ) (count : ℕ) → Registered (length memory) registers stack
-    → Keeps (length memory) (instruct stack memory code registers count)
+pub instruct-keeps : {asked : Type 0} (registers : Registers) (stack memory code : List ℕ) (count : ℕ) → Registered asked (length memory) registers stack
+    → Keeps asked (length memory) (instruct stack memory code registers count)
 unfolding instruct
 instruct-keeps registers stack memory code count r = by-extent-keeps registers stack memory code _ count (extent code (registers .place)) r

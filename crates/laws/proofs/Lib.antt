@@ -4,6 +4,12 @@ pub mod Phases
 pub mod Calls
 pub mod Living
 pub mod Unsound
+pub mod Refused
+pub mod Along
+pub mod Counted
+pub mod Given
+pub mod Held
+pub mod RefusedInside
 pub mod Either
 pub mod Values
 pub mod Stack

@@ -41,16 +41,16 @@ use Rattle.laws.proofs.Stack as stacked
 use Rattle.laws.proofs.Stack.{Registered, Goes, goes, stops, Pops, popped, not-popped, pops, PopsTwo, popped-two, not-popped-two, pops-two, lowered, set-inside}
 
 -- finished with sound registers and memory as long, or refused
-pub data Keeps (lent : ℕ) : OnMemory → Type 0 where
-  finished : (registers : Registers) (stack memory : List ℕ) → Registered lent registers stack → length memory ≡ lent → Keeps lent (on-memory (Next registers) stack memory)
-  refused : (refusal : Refusal) (stack memory : List ℕ) → Keeps lent (on-memory (Refused refusal) stack memory)
+pub data Keeps (asked : Type 0) (lent : ℕ) : OnMemory → Type 0 where
+  finished : (registers : Registers) (stack memory : List ℕ) → Registered asked lent registers stack → length memory ≡ lent → Keeps asked lent (on-memory (Next registers) stack memory)
+  refused : (refusal : Refusal) (stack memory : List ℕ) → Keeps asked lent (on-memory (Refused refusal) stack memory)
 
 -- an instruction over the stack alone
-pub beside : (memory : List ℕ) (a : OnStack) → stacked.Keeps (length memory) a → Keeps (length memory) (on-memory (a .did) (a .stack) memory)
+pub beside : {asked : Type 0} (memory : List ℕ) (a : OnStack) → stacked.Keeps asked (length memory) a → Keeps asked (length memory) (on-memory (a .did) (a .stack) memory)
 beside memory _ (stacked.finished registers stack r) = finished registers stack memory r refl
 beside memory _ (stacked.refused refusal stack) = refused refusal stack memory
 
-pub unwritten : (memory stack : List ℕ) (did : RegistersResult) → Goes (length memory) stack did → Keeps (length memory) (on-memory did stack memory)
+pub unwritten : {asked : Type 0} (memory stack : List ℕ) (did : RegistersResult) → Goes asked (length memory) stack did → Keeps asked (length memory) (on-memory did stack memory)
 unwritten memory stack _ (goes registers r) = finished registers stack memory r refl
 unwritten memory stack _ (stops refusal) = refused refusal stack memory
 
@@ -95,37 +95,37 @@ alloc-keeps memory payload used size tag short = stored-keeps memory payload use
 wider : (used more value : ℕ) → used ≤ more → Inside used value → Inside more value
 wider used more value less inside vec = let i = inside vec in omega (arith, i)
 
-placed-keeps : (lent : ℕ) (stack : List ℕ) (registers : Registers) (next height : ℕ) (a : allocation.After) → Registered lent registers stack → height ≤ registers .height → height < 1000
-    → Allocates lent (registers .memory) a → Keeps lent (placed stack registers next height (a .memory) (a .answer))
+placed-keeps : {asked : Type 0} (lent : ℕ) (stack : List ℕ) (registers : Registers) (next height : ℕ) (a : allocation.After) → Registered asked lent registers stack → height ≤ registers .height → height < 1000
+    → Allocates lent (registers .memory) a → Keeps asked lent (placed stack registers next height (a .memory) (a .answer))
 unfolding placed
 placed-keeps lent stack registers next height _ r low room (allocated value more memory no-less fits new long) =
     finished (record { place = next; height = height + 1; loops = registers .loops; memory = more }) (set stack height value) memory (record {
       high = omega arith;
       few = r .few;
       there = fits;
-      stack-long = length-set stack height value ∙ r .stack-long;
-      inside =
-          set-inside more (height + 1) height value stack (omega (arith, r .stack-long)) new
-          (λ i less other. wider (registers .memory) more (getD stack i 0) no-less (r .inside i (omega (arith, other))));
+      stack-long = λ it. length-set stack height value ∙ r .stack-long it;
+      inside = λ it.
+          set-inside more (height + 1) height value stack (omega (arith, r .stack-long it)) new
+          (λ i less other. wider (registers .memory) more (getD stack i 0) no-less (r .inside it i (omega (arith, other))));
     }) long
 placed-keeps lent stack registers next height _ r low room (not-allocated refusal memory) = refused refusal stack memory
 
-module _ (registers : Registers) (stack memory : List ℕ) (next : ℕ) (r : Registered (length memory) registers stack) where
+module _ {asked : Type 0} (registers : Registers) (stack memory : List ℕ) (next : ℕ) (r : Registered asked (length memory) registers stack) where
   pub store-keeps : (payload : List ℕ) (height size tag : ℕ) → height ≤ registers .height → size < 2 ^ 16
-      → Keeps (length memory) (store stack memory payload registers next height size tag)
+      → Keeps asked (length memory) (store stack memory payload registers next height size tag)
   unfolding store
   store-keeps payload height size tag low short =
-      either (Keeps (length memory)) (leb 1000 height) _ _ (λ _. refused _ _ _)
+      either (Keeps asked (length memory)) (leb 1000 height) _ _ (λ _. refused _ _ _)
       (λ room. placed-keeps (length memory) stack registers next height _ r low (leb-false _ _ room) (alloc-keeps memory payload (registers .memory) size tag short))
 
-  sized-keeps : (none : List ℕ) (tag : ℕ) (result : PopResult) → Pops stack (registers .height) result → Keeps (length memory) (sized stack memory none registers next tag result)
+  sized-keeps : (none : List ℕ) (tag : ℕ) (result : PopResult) → Pops stack (registers .height) result → Keeps asked (length memory) (sized stack memory none registers next tag result)
   unfolding sized
   sized-keeps none tag _ (popped new less) =
-      either (Keeps (length memory)) (ltb 65535 (to-u32 (getD stack new 0))) _ _ (λ _. refused _ _ _)
+      either (Keeps asked (length memory)) (ltb 65535 (to-u32 (getD stack new 0))) _ _ (λ _. refused _ _ _)
       (λ short. store-keeps none new (to-u32 (getD stack new 0)) tag (omega arith) (let s = ltb-false 65535 (to-u32 (getD stack new 0)) short in omega (arith, s)))
   sized-keeps none tag _ (not-popped refusal) = refused refusal stack memory
 
-  pub m-st-keeps : (none : List ℕ) (tag : ℕ) → Keeps (length memory) (op-m-st stack memory none registers next tag)
+  pub m-st-keeps : (none : List ℕ) (tag : ℕ) → Keeps asked (length memory) (op-m-st stack memory none registers next tag)
   unfolding op-m-st
   m-st-keeps none tag = sized-keeps none tag _ (pops stack (registers .height))
 
@@ -144,17 +144,17 @@ module _ (registers : Registers) (stack memory : List ℕ) (next : ℕ) (r : Reg
       length-front memory (changed (take (registers .memory) memory) pointer (index .0) payload (element-size-bytes tag) .memory) (registers .memory)
       (changed-long (take (registers .memory) memory) pointer (index .0) payload (element-size-bytes tag))
 
-  mutated-goes : (height : ℕ) (result : ChangeResult) → height ≤ registers .height → Goes (length memory) stack (mutated registers next height result)
+  mutated-goes : (height : ℕ) (result : ChangeResult) → height ≤ registers .height → Goes asked (length memory) stack (mutated registers next height result)
   unfolding mutated
   mutated-goes height Changed low = goes _ (lowered (length memory) registers stack next height r low)
   mutated-goes height (NotChanged refusal) low = stops refusal
 
-  changed-keeps : (m : List ℕ) (did : RegistersResult) → Goes (length memory) stack did → length m ≡ length memory → Keeps (length memory) (on-memory did stack m)
+  changed-keeps : (m : List ℕ) (did : RegistersResult) → Goes asked (length memory) stack did → length m ≡ length memory → Keeps asked (length memory) (on-memory did stack m)
   changed-keeps m _ (goes after sound) long = finished after stack m sound long
   changed-keeps m _ (stops refusal) long = refused refusal stack m
 
   abbrev On : ChangedTo → Type 0
-  On a = Keeps (length memory) (on-memory (a .did) stack (a .memory))
+  On a = Keeps asked (length memory) (on-memory (a .did) stack (a .memory))
 
   mutate-at-keeps : (height : ℕ) (index : ElementIndex) (payload tag : ℕ) (result : PointerResult) → height ≤ registers .height
       → On (mutate-at memory registers next height index payload tag result)

@@ -1,4 +1,4 @@
--- A sound world as facts: those of the machine beside its stack and pool, and those of the table.
+-- A world that passes the test of 26, or is sound, as facts: those of the machine beside its stack and pool, and those of the table.
 use Prim.Native.Nat.{ℕ, _≤_}
 use mathlib.Core.Bool.{Bool, true, false, cond, false≢true, and-eq-true-iff}
 use mathlib.Core.List.{List}
@@ -15,7 +15,7 @@ use Rattle.machine.specs.World.{World}
 use Rattle.machine.specs.Sound.{sound-frames, sound-lengths, sound-record, sound-world}
 use Rattle.machine.specs.Calls.{is-sound}
 use Rattle.laws.proofs.Stack.{Holds}
-use Rattle.laws.specs.Sound.{Sound}
+use Rattle.laws.specs.Sound.{Passes, Sound}
 
 -- so many bytes and entries in use are sound beside a lent pool of a length and its ends
 pub record Entries (lent : ℕ) (ends : List ℕ) (bytes entries : ℕ) : Type 0 where
@@ -25,16 +25,16 @@ pub record Entries (lent : ℕ) (ends : List ℕ) (bytes entries : ℕ) : Type 0
   pub ends-long : length ends ≡ 1024
 
 -- the machine beside memory, a pool and a save buffer of these lengths, the stack and the ends
-pub record Machined (memory pool save : ℕ) (stack ends : List ℕ) (machine : Machine) : Type 0 where
-  pub values : Holds memory (machine .height) (machine .loops .count) (machine .memory) stack
+pub record Machined (asked : Type 0) (memory pool save : ℕ) (stack ends : List ℕ) (machine : Machine) : Type 0 where
+  pub values : Holds asked memory (machine .height) (machine .loops .count) (machine .memory) stack
   pub entries : Entries pool ends (machine .pool) (machine .entries)
   pub frames : sound-frames (machine .frames) (machine .entries) ≡ true
   pub kept : machine .saved ≤ save
 
 -- the table, with the next id and the S_LEN count
-pub record Tabled (table : List Task) (next-id count : ℕ) : Type 0 where
+pub record Tabled (asked : Type 0) (table : List Task) (next-id count : ℕ) : Type 0 where
   pub sound : sound-table table next-id count ≡ true
-  pub titles : (slot : ℕ) → length (getD table slot blank .title) ≡ 128
+  pub titles : asked → (slot : ℕ) → length (getD table slot blank .title) ≡ 128
 
 -- ---- the test, taken apart
 
@@ -97,31 +97,57 @@ tests-hold : (w : World) → Tests w → is-sound w ≡ true
 unfolding sound-world sound-record
 tests-hold w t = simp (t .table, t .all-lengths, t .frames, t .joined)
 
--- ---- a sound world, both ways
+-- ---- a world, both ways
 
-pub machined : (w : World) → Sound w → Machined (length (w .memory)) (length (w .pool)) (length (w .save)) (w .stack) (w .ends) (w .machine)
-machined w s =
-    let t = tests w (s .tested) in
+-- a world that passes the test of 26, and is sound in all else where that is asked
+pub record Kept (asked : Type 0) (w : World) : Type 0 where
+  pub machine-kept : Machined asked (length (w .memory)) (length (w .pool)) (length (w .save)) (w .stack) (w .ends) (w .machine)
+  pub table-kept : Tabled asked (w .table) (w .machine .«next_id») (w .machine .count)
+
+kept : {asked : Type 0} (w : World) → Passes w → (asked → Sound w) → Kept asked w
+kept w p s =
+    let t = tests w (p .tested) in
     let l = lengths _ _ _ (w .machine) (t .all-lengths) in
     record {
-      values = record { high = l .high; few = l .few; there = l .used; stack-long = s .stack-lent; inside = s .vectors-inside };
-      entries = record { small = l .small; there = l .there; joined = t .joined; ends-long = s .ends-lent };
-      frames = t .frames;
-      kept = l .kept;
+      machine-kept = record {
+        values = record { high = l .high; few = l .few; there = l .used; stack-long = λ it. s it .stack-lent; inside = λ it. s it .vectors-inside };
+        entries = record { small = l .small; there = l .there; joined = t .joined; ends-long = p .ends-lent };
+        frames = t .frames;
+        kept = l .kept;
+      };
+      table-kept = record { sound = t .table; titles = λ it. s it .titles-lent };
     }
 
-pub tabled : (w : World) → Sound w → Tabled (w .table) (w .machine .«next_id») (w .machine .count)
-tabled w s = record { sound = tests w (s .tested) .table; titles = s .titles-lent }
+pub passes-kept : (w : World) → Passes w → Kept ⊥ w
+passes-kept w p = kept w p (λ none. absurd none)
 
-pub sound : (w : World) → Machined (length (w .memory)) (length (w .pool)) (length (w .save)) (w .stack) (w .ends) (w .machine)
-    → Tabled (w .table) (w .machine .«next_id») (w .machine .count) → Sound w
-sound w m t =
+pub sound-kept : (w : World) → Sound w → Kept (Unit {0}) w
+sound-kept w s = kept w (record { tested = s .tested; ends-lent = s .ends-lent }) (λ _. s)
+
+pub kept-passes : {asked : Type 0} (w : World) → Kept asked w → Passes w
+kept-passes w k =
+    let m = k .machine-kept in
     let l : Lengths (length (w .memory)) (length (w .pool)) (length (w .save)) (w .machine) =
     record { high = m .values .high; few = m .values .few; used = m .values .there; small = m .entries .small; there = m .entries .there; kept = m .kept } in
     record {
-      tested = tests-hold w (record { table = t .sound; all-lengths = lengths-hold _ _ _ (w .machine) l; frames = m .frames; joined = m .entries .joined });
-      stack-lent = m .values .stack-long;
+      tested = tests-hold w (record { table = k .table-kept .sound; all-lengths = lengths-hold _ _ _ (w .machine) l; frames = m .frames; joined = m .entries .joined });
       ends-lent = m .entries .ends-long;
-      titles-lent = t .titles;
-      vectors-inside = m .values .inside;
     }
+
+pub kept-sound : (w : World) → Kept (Unit {0}) w → Sound w
+kept-sound w k =
+    let p = kept-passes w k in
+    record {
+      tested = p .tested;
+      stack-lent = k .machine-kept .values .stack-long tt;
+      ends-lent = p .ends-lent;
+      titles-lent = k .table-kept .titles tt;
+      vectors-inside = k .machine-kept .values .inside tt;
+    }
+
+-- the facts of a sound world
+pub machined : (w : World) → Sound w → Machined (Unit {0}) (length (w .memory)) (length (w .pool)) (length (w .save)) (w .stack) (w .ends) (w .machine)
+machined w s = sound-kept w s .machine-kept
+
+pub tabled : (w : World) → Sound w → Tabled (Unit {0}) (w .table) (w .machine .«next_id») (w .machine .count)
+tabled w s = sound-kept w s .table-kept

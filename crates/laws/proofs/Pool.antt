@@ -78,28 +78,28 @@ module _ (pool ends : List ℕ) (bytes entries : ℕ) (calldata : List ℕ) (len
 
 -- ---- PUSH_CALLDATA
 
-pub data Pushed (memory save : ℕ) (pool ends : List ℕ) (machine : Machine) : OnPool → Type 0 where
-  pushed : (machine-after : Machine) (stack new-pool new-ends : List ℕ) → Machined memory (length new-pool) save stack new-ends machine-after
+pub data Pushed (asked : Type 0) (memory save : ℕ) (pool ends : List ℕ) (machine : Machine) : OnPool → Type 0 where
+  pushed : (machine-after : Machine) (stack new-pool new-ends : List ℕ) → Machined asked memory (length new-pool) save stack new-ends machine-after
       → Grows pool ends (machine .entries) new-pool new-ends (machine-after .entries) → Same machine machine-after
-      → Pushed memory save pool ends machine (on-pool (Onto machine-after) stack new-pool new-ends)
-  refused : (refusal : Refusal) (stack new-pool new-ends : List ℕ) → Pushed memory save pool ends machine (on-pool (Refused refusal) stack new-pool new-ends)
+      → Pushed asked memory save pool ends machine (on-pool (Onto machine-after) stack new-pool new-ends)
+  refused : (refusal : Refusal) (stack new-pool new-ends : List ℕ) → Pushed asked memory save pool ends machine (on-pool (Refused refusal) stack new-pool new-ends)
 
-module _ (memory save : ℕ) (stack pool ends : List ℕ) (machine : Machine) (m : Machined memory (length pool) save stack ends machine) (next : ℕ) where
+module _ {asked : Type 0} (memory save : ℕ) (stack pool ends : List ℕ) (machine : Machine) (m : Machined asked memory (length pool) save stack ends machine) (next : ℕ) where
   entry-sound : (bytes : ℕ) (new-pool new-ends : List ℕ) → machine .height < 1000 → Entries (length new-pool) new-ends bytes (machine .entries + 1)
-      → Machined memory (length new-pool) save (set stack (machine .height) (to-calldata-val (machine .entries))) new-ends (with-entry machine next (record { 0 = machine .entries }) bytes)
+      → Machined asked memory (length new-pool) save (set stack (machine .height) (to-calldata-val (machine .entries))) new-ends (with-entry machine next (record { 0 = machine .entries }) bytes)
   unfolding with-entry settled registers-of
   entry-sound bytes new-pool new-ends low new =
-      let p : Machined memory (length pool) save stack ends (machine-at machine next (machine .height)) = placed-sound next (machine .height) m (omega arith) in
+      let p : Machined asked memory (length pool) save stack ends (machine-at machine next (machine .height)) = placed-sound next (machine .height) m (omega arith) in
       record {
         values = record {
           high = omega arith;
           few = m .values .few;
           there = m .values .there;
-          stack-long = length-set stack (machine .height) _ ∙ m .values .stack-long;
-          inside =
-              set-inside (machine .memory) (machine .height + 1) (machine .height) (to-calldata-val (machine .entries)) stack (omega (arith, m .values .stack-long))
+          stack-long = λ it. length-set stack (machine .height) _ ∙ m .values .stack-long it;
+          inside = λ it.
+              set-inside (machine .memory) (machine .height + 1) (machine .height) (to-calldata-val (machine .entries)) stack (omega (arith, m .values .stack-long it))
               (no-vec-inside (machine .memory) (to-calldata-val (machine .entries)) (boxed-no-vec 5 (machine .entries)))
-              (λ i less other. m .values .inside i (omega (arith, other)));
+              (λ i less other. m .values .inside it i (omega (arith, other)));
         };
         entries = new;
         frames = frames-more _ (machine .entries) (machine .entries + 1) (omega arith) (p .frames);
@@ -115,7 +115,7 @@ module _ (memory save : ℕ) (stack pool ends : List ℕ) (machine : Machine) (m
   unfolding with-entry
   entry-grows bytes new-pool new-ends grows = grows
 
-  pushed-by : (p : Pooled) → machine .height < 1000 → Interns pool ends (machine .entries) p → Pushed memory save pool ends machine (calldata-pushed stack machine next p (p .answer))
+  pushed-by : (p : Pooled) → machine .height < 1000 → Interns pool ends (machine .entries) p → Pushed asked memory save pool ends machine (calldata-pushed stack machine next p (p .answer))
   unfolding calldata-pushed
   pushed-by _ low (interns bytes new-pool new-ends new grows) =
       pushed (with-entry machine next (record { 0 = machine .entries }) bytes) _ new-pool new-ends (entry-sound bytes new-pool new-ends low new)
@@ -127,8 +127,8 @@ module _ (memory save : ℕ) (stack pool ends : List ℕ) (machine : Machine) (m
   sized-interns place (Operand size) = intern-keeps pool ends (machine .pool) (machine .entries) _ (m .entries .ends-long) (m .entries .joined)
   sized-interns place (NoOperand refusal) = not-interns refusal
 
-  pub calldata-keeps : (place : ℕ) → Pushed memory save pool ends machine (push-calldata stack pool ends machine place next)
+  pub calldata-keeps : (place : ℕ) → Pushed asked memory save pool ends machine (push-calldata stack pool ends machine place next)
   unfolding push-calldata intern-calldata
   calldata-keeps place =
-      either (Pushed memory save pool ends machine) (leb 1000 (machine .height)) _ _ (λ _. refused _ _ _ _)
+      either (Pushed asked memory save pool ends machine) (leb 1000 (machine .height)) _ _ (λ _. refused _ _ _ _)
       (λ low. pushed-by _ (leb-false _ _ low) (sized-interns place _))

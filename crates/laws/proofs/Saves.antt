@@ -36,5 +36,5 @@ unfolding save-table save-tasks
 save-keeps next-id table pool ends entries save = saved-keeps (first-refusal ends entries (living-tasks table)) (written (image-of-tasks next-id (living-tasks table) pool ends)) save
 
 -- the length of that image kept in the machine
-pub image-sound : {memory pool save new : ℕ} {stack ends : List ℕ} {machine : Machine} (size : ℕ) → Machined memory pool save stack ends machine → size ≤ new → Machined memory pool new stack ends (with-saved machine size)
+pub image-sound : {asked : Type 0} {memory pool save new : ℕ} {stack ends : List ℕ} {machine : Machine} (size : ℕ) → Machined asked memory pool save stack ends machine → size ≤ new → Machined asked memory pool new stack ends (with-saved machine size)
 image-sound size m fits = record { values = m .values; entries = m .entries; frames = m .frames; kept = fits }

@@ -41,41 +41,41 @@ use Rattle.laws.specs.Sound.{Inside}
 use Rattle.laws.proofs.Either.{either}
 use Rattle.laws.proofs.Values.{Scalar, scalar, no-scalar, boxed-no-vec, no-vec-inside, mul-scalar, muli-scalar, compare-scalar, eq-scalar}
 
--- a height, so many loops and so many bytes in use are sound beside a stack and so many bytes of lent memory
-pub record Holds (lent height loops used : ℕ) (stack : List ℕ) : Type 0 where
+-- a height, so many loops and so many bytes in use are sound beside a stack and so many bytes of lent memory; what is behind `asked` holds where it is asked
+pub record Holds (asked : Type 0) (lent height loops used : ℕ) (stack : List ℕ) : Type 0 where
   pub high : height ≤ 1000
   pub few : loops ≤ 2
   pub there : used ≤ lent
-  pub stack-long : length stack ≡ 1000
-  pub inside : (i : ℕ) → i < height → Inside used (getD stack i 0)
+  pub stack-long : asked → length stack ≡ 1000
+  pub inside : asked → (i : ℕ) → i < height → Inside used (getD stack i 0)
 
 -- sound registers
-abbrev pub Registered : ℕ → Registers → List ℕ → Type 0
-Registered lent registers stack = Holds lent (registers .height) (registers .loops .count) (registers .memory) stack
+abbrev pub Registered : Type 0 → ℕ → Registers → List ℕ → Type 0
+Registered asked lent registers stack = Holds asked lent (registers .height) (registers .loops .count) (registers .memory) stack
 
 -- finished with sound registers, or refused
-pub data Keeps (lent : ℕ) : OnStack → Type 0 where
-  finished : (registers : Registers) (stack : List ℕ) → Registered lent registers stack → Keeps lent (on-stack (Next registers) stack)
-  refused : (refusal : Refusal) (stack : List ℕ) → Keeps lent (on-stack (Refused refusal) stack)
+pub data Keeps (asked : Type 0) (lent : ℕ) : OnStack → Type 0 where
+  finished : (registers : Registers) (stack : List ℕ) → Registered asked lent registers stack → Keeps asked lent (on-stack (Next registers) stack)
+  refused : (refusal : Refusal) (stack : List ℕ) → Keeps asked lent (on-stack (Refused refusal) stack)
 
 -- the same of an instruction that leaves the stack
-pub data Goes (lent : ℕ) (stack : List ℕ) : RegistersResult → Type 0 where
-  goes : (registers : Registers) → Registered lent registers stack → Goes lent stack (Next registers)
-  stops : (refusal : Refusal) → Goes lent stack (Refused refusal)
+pub data Goes (asked : Type 0) (lent : ℕ) (stack : List ℕ) : RegistersResult → Type 0 where
+  goes : (registers : Registers) → Registered asked lent registers stack → Goes asked lent stack (Next registers)
+  stops : (refusal : Refusal) → Goes asked lent stack (Refused refusal)
 
-pub unwritten : (lent : ℕ) (stack : List ℕ) (did : RegistersResult) → Goes lent stack did → Keeps lent (on-stack did stack)
+pub unwritten : {asked : Type 0} (lent : ℕ) (stack : List ℕ) (did : RegistersResult) → Goes asked lent stack did → Keeps asked lent (on-stack did stack)
 unwritten lent stack _ (goes registers r) = finished registers stack r
 unwritten lent stack _ (stops refusal) = refused refusal stack
 
 -- another place, and a height that is not above
-pub lowered : (lent : ℕ) (registers : Registers) (stack : List ℕ) (place height : ℕ) → Registered lent registers stack → height ≤ registers .height
-    → Registered lent (moved registers place height) stack
+pub lowered : {asked : Type 0} (lent : ℕ) (registers : Registers) (stack : List ℕ) (place height : ℕ) → Registered asked lent registers stack → height ≤ registers .height
+    → Registered asked lent (moved registers place height) stack
 lowered lent registers stack place height r low = record {
   high = omega (arith, r .high);
   few = r .few;
   there = r .there;
   stack-long = r .stack-long;
-  inside = λ i less. r .inside i (omega arith);
+  inside = λ it i less. r .inside it i (omega arith);
 }
 
 -- ---- pops
@@ -129,37 +129,38 @@ set-inside used height at value stack there new old i less = by (ℕ-discrete i 
     by (yes e) = subst (λ (v : ℕ). Inside used v) (sym (subst (λ (k : ℕ). getD (set stack at value) k 0 ≡ value) (sym e) (getD-set-same stack at value 0 there))) new
     by (no other) = subst (λ (v : ℕ). Inside used v) (sym (getD-set-other stack at i value 0 other)) (old i less other)
 
-pushed : (lent : ℕ) (registers : Registers) (stack : List ℕ) (place height value : ℕ) → Registered lent registers stack → height ≤ registers .height → height < 1000
-    → Inside (registers .memory) value → Registered lent (moved registers place (height + 1)) (set stack height value)
+pushed : {asked : Type 0} (lent : ℕ) (registers : Registers) (stack : List ℕ) (place height value : ℕ) → Registered asked lent registers stack → height ≤ registers .height → height < 1000
+    → (asked → Inside (registers .memory) value) → Registered asked lent (moved registers place (height + 1)) (set stack height value)
 pushed lent registers stack place height value r low room new = record {
   high = omega arith;
   few = r .few;
   there = r .there;
-  stack-long = length-set stack height value ∙ r .stack-long;
-  inside = set-inside (registers .memory) (height + 1) height value stack (omega (arith, r .stack-long)) new (λ i less other. r .inside i (omega (arith, other)));
+  stack-long = λ it. length-set stack height value ∙ r .stack-long it;
+  inside = λ it.
+      set-inside (registers .memory) (height + 1) height value stack (omega (arith, r .stack-long it)) (new it) (λ i less other. r .inside it i (omega (arith, other)));
 }
 
 abbrev room : Bool → List ℕ → ℕ → ℕ → Stacked
 room b stack height value = cond b (stacked (NewHeight (height + 1)) (set stack height value)) (stacked (NoNewHeight StackOverflow) stack)
 
-in-room : (b : Bool) (lent : ℕ) (registers : Registers) (stack : List ℕ) (place height value : ℕ) → ltb height 1000 ≡ b → Registered lent registers stack → height ≤ registers .height
-    → Inside (registers .memory) value → Keeps lent (on-stack (pushed-to registers place (room b stack height value .answer)) (room b stack height value .stack))
+in-room : {asked : Type 0} (b : Bool) (lent : ℕ) (registers : Registers) (stack : List ℕ) (place height value : ℕ) → ltb height 1000 ≡ b → Registered asked lent registers stack → height ≤ registers .height
+    → (asked → Inside (registers .memory) value) → Keeps asked lent (on-stack (pushed-to registers place (room b stack height value .answer)) (room b stack height value .stack))
 unfolding pushed-to
 in-room true lent registers stack place height value test r low new = finished _ _ (pushed lent registers stack place height value r low (ltb-true _ _ test) new)
 in-room false lent registers stack place height value test r low new = refused _ _
 
-pub value-pushed : (lent : ℕ) (registers : Registers) (stack : List ℕ) (place height value : ℕ) → Registered lent registers stack → height ≤ registers .height
-    → Inside (registers .memory) value → Keeps lent (push-value stack registers place height value)
+pub value-pushed : {asked : Type 0} (lent : ℕ) (registers : Registers) (stack : List ℕ) (place height value : ℕ) → Registered asked lent registers stack → height ≤ registers .height
+    → (asked → Inside (registers .memory) value) → Keeps asked lent (push-value stack registers place height value)
 unfolding push-value push if-room
 value-pushed lent registers stack place height value r low new = in-room (ltb height 1000) lent registers stack place height value refl r low new
 
 -- a scalar that was boxed
-pub scalar-pushed : (lent : ℕ) (registers : Registers) (stack : List ℕ) (place height value : ℕ) → Registered lent registers stack → height ≤ registers .height
-    → is-vec value ≡ false → Keeps lent (push-value stack registers place height value)
-scalar-pushed lent registers stack place height value r low none = value-pushed lent registers stack place height value r low (no-vec-inside (registers .memory) value none)
+pub scalar-pushed : {asked : Type 0} (lent : ℕ) (registers : Registers) (stack : List ℕ) (place height value : ℕ) → Registered asked lent registers stack → height ≤ registers .height
+    → is-vec value ≡ false → Keeps asked lent (push-value stack registers place height value)
+scalar-pushed lent registers stack place height value r low none = value-pushed lent registers stack place height value r low (λ _. no-vec-inside (registers .memory) value none)
 
-finishes : (lent : ℕ) (registers : Registers) (stack : List ℕ) (place height : ℕ) (result : ValueResult) → Registered lent registers stack → height ≤ registers .height
-    → Scalar result → Keeps lent (finish stack registers place height result)
+finishes : {asked : Type 0} (lent : ℕ) (registers : Registers) (stack : List ℕ) (place height : ℕ) (result : ValueResult) → Registered asked lent registers stack → height ≤ registers .height
+    → Scalar result → Keeps asked lent (finish stack registers place height result)
 unfolding finish
 finishes lent registers stack place height _ r low (scalar v none) = scalar-pushed lent registers stack place height v r low none
 finishes lent registers stack place height _ r low (no-scalar refusal) = refused refusal stack
@@ -193,133 +194,133 @@ loop-closes loops few =
 
 -- ---- the opcodes
 
-module _ (lent : ℕ) (registers : Registers) (stack : List ℕ) (next : ℕ) (r : Registered lent registers stack) where
-  pub push-keeps : (number : ℕ) → Keeps lent (op-push stack registers next number)
+module _ {asked : Type 0} (lent : ℕ) (registers : Registers) (stack : List ℕ) (next : ℕ) (r : Registered asked lent registers stack) where
+  pub push-keeps : (number : ℕ) → Keeps asked lent (op-push stack registers next number)
   unfolding op-push
   push-keeps number = scalar-pushed lent registers stack next (registers .height) _ r (omega arith) (boxed-no-vec 6 number)
 
   on-two-keeps : (calculate : ℕ → ℕ → ValueResult) (result : PopTwoResult) → ((a b : ℕ) → Scalar (calculate a b)) → PopsTwo stack (registers .height) result
-      → Keeps lent (on-two calculate stack registers next result)
+      → Keeps asked lent (on-two calculate stack registers next result)
   unfolding on-two
   on-two-keeps calculate _ scalars (popped-two a b less below) = finishes lent registers stack next b _ r (omega arith) (scalars _ _)
   on-two-keeps calculate _ scalars (not-popped-two refusal) = refused refusal stack
 
-  pub mul-keeps : Keeps lent (op-mul stack registers next)
+  pub mul-keeps : Keeps asked lent (op-mul stack registers next)
   unfolding op-mul
   mul-keeps = on-two-keeps mul-checked _ mul-scalar (pops-two stack (registers .height))
 
-  pub compare-keeps : (is-lt : Bool) → Keeps lent (op-compare stack registers next is-lt)
+  pub compare-keeps : (is-lt : Bool) → Keeps asked lent (op-compare stack registers next is-lt)
   unfolding op-compare
   compare-keeps is-lt = on-two-keeps (λ right left. value-cmp left right is-lt) _ (λ right left. compare-scalar left right is-lt) (pops-two stack (registers .height))
 
-  pub eq-keeps : (memory : List ℕ) (is-eq : Bool) → Keeps lent (op-eq stack memory registers next is-eq)
+  pub eq-keeps : (memory : List ℕ) (is-eq : Bool) → Keeps asked lent (op-eq stack memory registers next is-eq)
   unfolding op-eq
   eq-keeps memory is-eq =
       on-two-keeps (λ right left. turned-if is-eq (eq-values (in-use memory registers) left right)) _ (λ right left. eq-scalar (in-use memory registers) is-eq left right)
       (pops-two stack (registers .height))
 
   on-one-keeps : (calculate : ℕ → ValueResult) (result : PopResult) → ((a : ℕ) → Scalar (calculate a)) → Pops stack (registers .height) result
-      → Keeps lent (on-one calculate stack registers next result)
+      → Keeps asked lent (on-one calculate stack registers next result)
   unfolding on-one
   on-one-keeps calculate _ scalars (popped new less) = finishes lent registers stack next new _ r (omega arith) (scalars _)
   on-one-keeps calculate _ scalars (not-popped refusal) = refused refusal stack
 
-  pub muli-keeps : (number : ℕ) → Keeps lent (op-muli stack registers next number)
+  pub muli-keeps : (number : ℕ) → Keeps asked lent (op-muli stack registers next number)
   unfolding op-muli
   muli-keeps number = on-one-keeps (λ value. mul-checked-i value number) _ (λ value. muli-scalar value number) (pops stack (registers .height))
 
-  dup-last-keeps : (result : LastResult) → Looks stack (registers .height) result → Keeps lent (dup-last stack registers next result)
+  dup-last-keeps : (result : LastResult) → Looks stack (registers .height) result → Keeps asked lent (dup-last stack registers next result)
   unfolding dup-last
-  dup-last-keeps _ (looks at less) = value-pushed lent registers stack next (registers .height) (getD stack at 0) r (omega arith) (r .inside at less)
+  dup-last-keeps _ (looks at less) = value-pushed lent registers stack next (registers .height) (getD stack at 0) r (omega arith) (λ it. r .inside it at less)
   dup-last-keeps _ (no-look refusal) = refused refusal stack
 
-  pub dup-keeps : Keeps lent (op-dup stack registers next)
+  pub dup-keeps : Keeps asked lent (op-dup stack registers next)
   unfolding op-dup
   dup-keeps = dup-last-keeps _ (lasts stack (registers .height))
 
-  swapped-keeps : (result : PopTwoResult) → PopsTwo stack (registers .height) result → Keeps lent (swapped stack registers next result)
+  swapped-keeps : (result : PopTwoResult) → PopsTwo stack (registers .height) result → Keeps asked lent (swapped stack registers next result)
   unfolding swapped
   swapped-keeps _ (popped-two a b less below) =
       finished _ _ (record {
         high = r .high;
         few = r .few;
         there = r .there;
-        stack-long = length-set (set stack b (getD stack a 0)) (b + 1) (getD stack b 0) ∙ length-set stack b (getD stack a 0) ∙ r .stack-long;
-        inside =
-            set-inside (registers .memory) (registers .height) (b + 1) (getD stack b 0) (set stack b (getD stack a 0)) (let l = length-set stack b (getD stack a 0) in omega (arith, r .stack-long, r .high)) (r .inside b (omega arith))
-            (λ i low other. set-inside (registers .memory) (registers .height) b (getD stack a 0) stack (omega (arith, r .stack-long, r .high)) (r .inside a less) (λ k short apart. r .inside k short) i low);
+        stack-long = λ it. length-set (set stack b (getD stack a 0)) (b + 1) (getD stack b 0) ∙ length-set stack b (getD stack a 0) ∙ r .stack-long it;
+        inside = λ it.
+            set-inside (registers .memory) (registers .height) (b + 1) (getD stack b 0) (set stack b (getD stack a 0)) (let l = length-set stack b (getD stack a 0) in omega (arith, r .stack-long it, r .high)) (r .inside it b (omega arith))
+            (λ i low other. set-inside (registers .memory) (registers .height) b (getD stack a 0) stack (omega (arith, r .stack-long it, r .high)) (r .inside it a less) (λ k short apart. r .inside it k short) i low);
       })
   swapped-keeps _ (not-popped-two refusal) = refused refusal stack
 
-  pub swap-keeps : Keeps lent (op-swap stack registers next)
+  pub swap-keeps : Keeps asked lent (op-swap stack registers next)
   unfolding op-swap
   swap-keeps = swapped-keeps _ (pops-two stack (registers .height))
 
-  dropped-goes : (result : PopResult) → Pops stack (registers .height) result → Goes lent stack (dropped registers next result)
+  dropped-goes : (result : PopResult) → Pops stack (registers .height) result → Goes asked lent stack (dropped registers next result)
   unfolding dropped
   dropped-goes _ (popped new less) = goes _ (lowered lent registers stack next new r (omega arith))
   dropped-goes _ (not-popped refusal) = stops refusal
 
-  pub drop-goes : Goes lent stack (op-drop stack registers next)
+  pub drop-goes : Goes asked lent stack (op-drop stack registers next)
   unfolding op-drop
   drop-goes = dropped-goes _ (pops stack (registers .height))
 
   -- an instruction that does nothing
-  pub idle-goes : Goes lent stack (Next (moved registers next (registers .height)))
+  pub idle-goes : Goes asked lent stack (Next (moved registers next (registers .height)))
   idle-goes = goes _ (lowered lent registers stack next (registers .height) r (omega arith))
 
-  jumped-goes : (target : ℕ) (result : PopResult) → Pops stack (registers .height) result → Goes lent stack (jumped registers next target result)
+  jumped-goes : (target : ℕ) (result : PopResult) → Pops stack (registers .height) result → Goes asked lent stack (jumped registers next target result)
   unfolding jumped
   jumped-goes target _ (popped new less) =
-      either (Goes lent stack) (eqb (getD stack new 0) (to-bool-val false)) _ _ (λ _. goes _ (lowered lent registers stack target new r (omega arith)))
+      either (Goes asked lent stack) (eqb (getD stack new 0) (to-bool-val false)) _ _ (λ _. goes _ (lowered lent registers stack target new r (omega arith)))
       (λ _. goes _ (lowered lent registers stack next new r (omega arith)))
   jumped-goes target _ (not-popped refusal) = stops refusal
 
-  pub jump-goes : (target : ℕ) → Goes lent stack (op-jump-if-false stack registers next target)
+  pub jump-goes : (target : ℕ) → Goes asked lent stack (op-jump-if-false stack registers next target)
   unfolding op-jump-if-false
   jump-goes target = jumped-goes target _ (pops stack (registers .height))
 
   -- ---- loops
 
-  looping-sound : (place height : ℕ) (loops : Loops) → height ≤ registers .height → loops .count ≤ 2 → Registered lent (looping registers place height loops) stack
+  looping-sound : (place height : ℕ) (loops : Loops) → height ≤ registers .height → loops .count ≤ 2 → Registered asked lent (looping registers place height loops) stack
   looping-sound place height loops low few = record {
     high = omega (arith, r .high);
     few = few;
     there = r .there;
     stack-long = r .stack-long;
-    inside = λ i less. r .inside i (omega arith);
+    inside = λ it i less. r .inside it i (omega arith);
   }
 
-  opened-goes : (place height : ℕ) (result : LoopsResult) → height ≤ registers .height → Opens result → Goes lent stack (opened-to registers place height result)
+  opened-goes : (place height : ℕ) (result : LoopsResult) → height ≤ registers .height → Opens result → Goes asked lent stack (opened-to registers place height result)
   unfolding opened-to
   opened-goes place height _ low (opens loops few) = goes _ (looping-sound place height loops low few)
   opened-goes place height _ low (not-opens refusal) = stops refusal
 
-  do-two-goes : (result : PopTwoResult) → PopsTwo stack (registers .height) result → Goes lent stack (do-two registers next result)
+  do-two-goes : (result : PopTwoResult) → PopsTwo stack (registers .height) result → Goes asked lent stack (do-two registers next result)
   unfolding do-two
   do-two-goes _ (popped-two a b less below) = opened-goes next b _ (omega arith) (loop-opens (registers .loops) _)
   do-two-goes _ (not-popped-two refusal) = stops refusal
 
-  pub do-goes : Goes lent stack (op-do stack registers next)
+  pub do-goes : Goes asked lent stack (op-do stack registers next)
   unfolding op-do
   do-goes = do-two-goes _ (pops-two stack (registers .height))
 
-  looped-goes : (result : PopLoopResult) → Closes result → Goes lent stack (looped registers next result)
+  looped-goes : (result : PopLoopResult) → Closes result → Goes asked lent stack (looped registers next result)
   unfolding looped
   looped-goes _ (closes last loops few) =
-      either (Goes lent stack) (ltb (last .index + 1) (last .limit)) _ _ (λ _. opened-goes (last .place) (registers .height) _ (omega arith) (loop-opens loops _))
+      either (Goes asked lent stack) (ltb (last .index + 1) (last .limit)) _ _ (λ _. opened-goes (last .place) (registers .height) _ (omega arith) (loop-opens loops _))
       (λ _. goes _ (looping-sound next (registers .height) loops (omega arith) few))
   looped-goes _ (not-closes refusal) = stops refusal
 
-  pub loop-goes : Goes lent stack (op-loop registers next)
+  pub loop-goes : Goes asked lent stack (op-loop registers next)
   unfolding op-loop
   loop-goes = looped-goes _ (loop-closes (registers .loops) (r .few))
 
-  index-keeps : (result : LastLoopResult) → Keeps lent (index-of stack registers next result)
+  index-keeps : (result : LastLoopResult) → Keeps asked lent (index-of stack registers next result)
   unfolding index-of
   index-keeps (LastLoop last) = scalar-pushed lent registers stack next (registers .height) _ r (omega arith) (boxed-no-vec 6 (last .index))
   index-keeps (NoLastLoop refusal) = refused refusal stack
 
-  pub loop-index-keeps : Keeps lent (op-loop-index stack registers next)
+  pub loop-index-keeps : Keeps asked lent (op-loop-index stack registers next)
   unfolding op-loop-index
   loop-index-keeps = index-keeps _

@@ -55,7 +55,7 @@ new-title id title state reference = length-title title
 
 -- ---- the parts of a sound table
 
-table-counts : (table : List Task) (next-id count : ℕ) → sound-table table next-id count ≡ true → Counts (length table) next-id count
+pub table-counts : (table : List Task) (next-id count : ℕ) → sound-table table next-id count ≡ true → Counts (length table) next-id count
 unfolding sound-table
 table-counts table next-id count sound = sound-counted (length table) next-id count (and-eq-true-iff (sound-counts (length table) next-id count) _ .0 sound .0)
 
@@ -101,13 +101,13 @@ state-table table slot state = refl
 
 -- ---- the changes
 
-module _ (table : List Task) (slot next-id count : ℕ) (t : Tabled table next-id count) where
+module _ {asked : Type 0} (table : List Task) (slot next-id count : ℕ) (t : Tabled asked table next-id count) where
   -- another living task over a living one
   pub put-living : (task : Task) → getD table slot blank .living ≡ true → task .living ≡ true → (Living (getD table slot blank) (0 + slot) count → Living task (0 + slot) count)
-      → length (task .title) ≡ 128 → Tabled (set table slot task) next-id count
+      → (asked → length (task .title) ≡ 128) → Tabled asked (set table slot task) next-id count
   put-living task old new rules long = record {
     sound = put-sound table slot next-id count task (t .sound) (living-sound (rules (living-rules table slot next-id count (t .sound) old)));
-    titles = titles-set table slot task (t .titles) long;
+    titles = λ it. titles-set table slot task (t .titles it) (long it);
   }
 
   pub put-lived : (task : Task) → getD table slot blank .living ≡ true → task .living ≡ true → Lived table (set table slot task) 0 0
@@ -115,38 +115,38 @@ module _ (table : List Task) (slot next-id count : ℕ) (t : Tabled table next-i
       let e = living-same table slot task (lives-one task new ∙ sym (lives-one (getD table slot blank) old)) in omega (arith, e)
 
   -- the blank record
-  pub deleted : Tabled (set table slot blank) next-id count
-  deleted = record { sound = table-deleted table slot next-id count (t .sound); titles = titles-set table slot blank (t .titles) blank-title }
+  pub deleted : Tabled asked (set table slot blank) next-id count
+  deleted = record { sound = table-deleted table slot next-id count (t .sound); titles = λ it. titles-set table slot blank (t .titles it) blank-title }
 
   pub deleted-lived : getD table slot blank .living ≡ true → Lived table (set table slot blank) 0 1
   deleted-lived living =
       let e = living-less table slot (living-there table slot living) (lives-one (getD table slot blank) living) in omega (arith, e)
 
   -- a state
-  pub stated : (state : ℕ) → Tabled (set-state-at table slot state .lent) next-id count
+  pub stated : (state : ℕ) → Tabled asked (set-state-at table slot state .lent) next-id count
   stated state = record { sound = table-state table slot next-id count state (t .sound); titles = state-titles }
     where
-      same-title : length (set-state (getD table slot blank) state .lent .title) ≡ 128
-      same-title = set-title-long (getD table slot blank) state (t .titles slot)
+      same-title : asked → length (set-state (getD table slot blank) state .lent .title) ≡ 128
+      same-title it = set-title-long (getD table slot blank) state (t .titles it slot)
 
-      state-titles : (k : ℕ) → length (getD (set-state-at table slot state .lent) k blank .title) ≡ 128
-      state-titles k = subst (λ (l : List Task). length (getD l k blank .title) ≡ 128) (sym (state-table table slot state)) (titles-set table slot _ (t .titles) same-title k)
+      state-titles : asked → (k : ℕ) → length (getD (set-state-at table slot state .lent) k blank .title) ≡ 128
+      state-titles it k = subst (λ (l : List Task). length (getD l k blank .title) ≡ 128) (sym (state-table table slot state)) (titles-set table slot _ (t .titles it) (same-title it) k)
 
   pub stated-lived : (state : ℕ) → Lived table (set-state-at table slot state .lent) 0 0
   stated-lived state = let e = living-state table slot state in omega (arith, e)
 
 -- a new task in the next slot
-module _ (table : List Task) (next-id count : ℕ) (t : Tabled table next-id count) (title : List ℕ) (state : TaskState) (reference : InstructionsRef) (room : next-id < 256) where
+module _ {asked : Type 0} (table : List Task) (next-id count : ℕ) (t : Tabled asked table next-id count) (title : List ℕ) (state : TaskState) (reference : InstructionsRef) (room : next-id < 256) where
   abbrev made : Task
   made = new-task (record { 0 = next-id }) title state reference
 
   wrapped : next-id + 1 ≡ (next-id + 1) % 2 ^ 32
   wrapped = omega arith
 
-  pub created : state .state < state .len → Tabled (set table next-id made) ((next-id + 1) % 2 ^ 32) (len-after count next-id)
+  pub created : state .state < state .len → Tabled asked (set table next-id made) ((next-id + 1) % 2 ^ 32) (len-after count next-id)
   created below = record {
     sound = subst (λ (n : ℕ). sound-table (set table next-id made) n (len-after count next-id) ≡ true) wrapped (table-created table next-id count title state reference (t .sound) room below);
-    titles = titles-set table next-id made (t .titles) (new-title (record { 0 = next-id }) title state reference);
+    titles = λ it. titles-set table next-id made (t .titles it) (new-title (record { 0 = next-id }) title state reference);
   }
 
   -- no living task has an id that was not given out

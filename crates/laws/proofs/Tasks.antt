@@ -53,10 +53,10 @@ use Rattle.laws.proofs.Memory.{beside, store-keeps}
 use Rattle.laws.proofs.Tables.{Lived, put-living, put-lived, deleted, deleted-lived, stated, stated-lived, created, created-lived}
 
 -- finished with a sound table, so many tasks made and deleted; or refused
-pub data Changes (lent : ℕ) (stack : List ℕ) (table : List Task) (slot next-id count made deleted : ℕ) : RegistersAndChange → Type 0 where
-  changes : (registers : Registers) (change : Change) → Registered lent registers stack → Tabled (applied table slot change) next-id count
-      → Lived table (applied table slot change) made deleted → Changes lent stack table slot next-id count made deleted (tasked (Next registers) change)
-  refused : (refusal : Refusal) (change : Change) → Changes lent stack table slot next-id count made deleted (tasked (Refused refusal) change)
+pub data Changes (asked : Type 0) (lent : ℕ) (stack : List ℕ) (table : List Task) (slot next-id count made deleted : ℕ) : RegistersAndChange → Type 0 where
+  changes : (registers : Registers) (change : Change) → Registered asked lent registers stack → Tabled asked (applied table slot change) next-id count
+      → Lived table (applied table slot change) made deleted → Changes asked lent stack table slot next-id count made deleted (tasked (Next registers) change)
+  refused : (refusal : Refusal) (change : Change) → Changes asked lent stack table slot next-id count made deleted (tasked (Refused refusal) change)
 
 -- ---- T_CREATE
 
@@ -78,53 +78,53 @@ default-told : (len : ℕ) → Default (default-state len)
 unfolding default-state
 default-told len = either Default (eqb len 0) _ _ (λ _. no-default _) (λ some. default _ (let n = eqb-false len 0 some in omega (arith, n)))
 
-module _ (lent : ℕ) (stack : List ℕ) (table : List Task) (next-id count : ℕ) (t : Tabled table next-id count) where
+module _ {asked : Type 0} (lent : ℕ) (stack : List ℕ) (table : List Task) (next-id count : ℕ) (t : Tabled asked table next-id count) where
   abbrev Made : RegistersAndChange → Type 0
-  Made = Changes lent stack table next-id ((next-id + 1) % 2 ^ 32) (len-after count next-id) 1 0
+  Made = Changes asked lent stack table next-id ((next-id + 1) % 2 ^ 32) (len-after count next-id) 1 0
 
   abbrev id : TaskId
   id = record { 0 = next-id }
 
   room-makes : (m : List ℕ) (after : Registers) (pointer : FatPointer) (state : TaskState) (reference : InstructionsRef) (task : Task) (result : RoomResult)
-      → Registered lent after stack → state .state < state .len → HasRoom next-id result → Made (with-room m after pointer id state reference task result)
+      → Registered asked lent after stack → state .state < state .len → HasRoom next-id result → Made (with-room m after pointer id state reference task result)
   unfolding with-room applied
   room-makes m after pointer state reference task _ r below (has-room less) =
       changes after _ r (created table next-id count t _ state reference less below) (created-lived table next-id count t _ state reference less)
   room-makes m after pointer state reference task _ r below (no-room refusal) = refused refusal _
 
   within-makes : (m : List ℕ) (after : Registers) (pointer : FatPointer) (state : TaskState) (reference : InstructionsRef) (task : Task) (result : ReadResult)
-      → Registered lent after stack → state .state < state .len → Made (if-within m after pointer id state reference task result)
+      → Registered asked lent after stack → state .state < state .len → Made (if-within m after pointer id state reference task result)
   unfolding if-within
   within-makes m after pointer state reference task Readable r below = room-makes m after pointer state reference task _ r below (room-told next-id (pointer .size))
   within-makes m after pointer state reference task (NotReadable refusal) r below = refused refusal _
 
   vector-makes : (m : List ℕ) (after : Registers) (state : TaskState) (reference : InstructionsRef) (task : Task) (result : PointerResult)
-      → Registered lent after stack → state .state < state .len → Made (if-vector m after id state reference task result)
+      → Registered asked lent after stack → state .state < state .len → Made (if-vector m after id state reference task result)
   unfolding if-vector new
   vector-makes m after state reference task (Pointer pointer) r below = within-makes m after pointer state reference task _ r below
   vector-makes m after state reference task (NoPointer refusal) r below = refused refusal _
 
   title-makes : (m : List ℕ) (before : Registers) (state : TaskState) (reference : InstructionsRef) (task : Task) (result : PopResult)
-      → Registered lent before stack → state .state < state .len → Pops stack (before .height) result → Made (with-title m before id state reference task result)
+      → Registered asked lent before stack → state .state < state .len → Pops stack (before .height) result → Made (with-title m before id state reference task result)
   unfolding with-title
   title-makes m before state reference task _ r below (popped lower less) =
       vector-makes _ (moved before (before .place) lower) state reference task _ (lowered lent before stack (before .place) lower r (omega arith)) below
   title-makes m before state reference task _ r below (not-popped refusal) = refused refusal _
 
   state-makes : (m : List ℕ) (before : Registers) (reference : ℕ) (task : Task) (result : DefaultResult)
-      → Registered lent before stack → Default result → Made (with-state stack m before id reference task result)
+      → Registered asked lent before stack → Default result → Made (with-state stack m before id reference task result)
   unfolding with-state titled
   state-makes m before reference task _ r (default state below) = title-makes m before state _ task _ r below (pops stack (before .height))
   state-makes m before reference task _ r (no-default refusal) = refused refusal _
 
   two-makes : (m : List ℕ) (registers : Registers) (next : ℕ) (task : Task) (result : PopTwoResult)
-      → Registered lent registers stack → PopsTwo stack (registers .height) result → Made (with-two stack m registers next id task result)
+      → Registered asked lent registers stack → PopsTwo stack (registers .height) result → Made (with-two stack m registers next id task result)
   unfolding with-two
   two-makes m registers next task _ r (popped-two a b less below) =
       state-makes m (moved registers next b) _ task _ (lowered lent registers stack next b r (omega arith)) (default-told (to-u32 (getD stack b 0) % 256))
   two-makes m registers next task _ r (not-popped-two refusal) = refused refusal _
 
-  pub create-makes : (m : List ℕ) (registers : Registers) (next : ℕ) (task : Task) → Registered lent registers stack → Made (op-t-create stack m registers next next-id task)
+  pub create-makes : (m : List ℕ) (registers : Registers) (next : ℕ) (task : Task) → Registered asked lent registers stack → Made (op-t-create stack m registers next next-id task)
   unfolding op-t-create
   create-makes m registers next task r = two-makes m registers next task _ r (pops-two stack (registers .height))
 
@@ -162,33 +162,33 @@ field-told : (task : Task) (stack : List ℕ) (height : ℕ) → Fields task hei
 unfolding field-of
 field-told task stack height = popped-told task stack height _ (pops stack height)
 
-module _ (lent : ℕ) (stack : List ℕ) (table : List Task) (slot next-id count : ℕ) (t : Tabled table next-id count) where
+module _ {asked : Type 0} (lent : ℕ) (stack : List ℕ) (table : List Task) (slot next-id count : ℕ) (t : Tabled asked table next-id count) where
   abbrev task : Task
   task = getD table slot blank
 
   -- ---- T_DELETE
 
   abbrev Deletes : RegistersAndChange → Type 0
-  Deletes = Changes lent stack table slot next-id count 0 1
+  Deletes = Changes asked lent stack table slot next-id count 0 1
 
-  found-deletes : (after : Registers) (result : FindResult) → Registered lent after stack → Finds task result → Deletes (delete-found after task result)
+  found-deletes : (after : Registers) (result : FindResult) → Registered asked lent after stack → Finds task result → Deletes (delete-found after task result)
   unfolding delete-found applied
   found-deletes after _ r (finds living) = changes after _ r (deleted table slot next-id count t) (deleted-lived table slot next-id count t living)
   found-deletes after _ r (not-finds refusal) = refused refusal _
 
-  popped-deletes : (registers : Registers) (next : ℕ) (result : PopResult) → Registered lent registers stack → Pops stack (registers .height) result → Deletes (delete-popped registers next task result)
+  popped-deletes : (registers : Registers) (next : ℕ) (result : PopResult) → Registered asked lent registers stack → Pops stack (registers .height) result → Deletes (delete-popped registers next task result)
   unfolding delete-popped
   popped-deletes registers next _ r (popped lower less) = found-deletes (moved registers next lower) _ (lowered lent registers stack next lower r (omega arith)) (find-told task _)
   popped-deletes registers next _ r (not-popped refusal) = refused refusal _
 
-  pub delete-deletes : (registers : Registers) (next : ℕ) → Registered lent registers stack → Deletes (op-t-delete stack registers next task)
+  pub delete-deletes : (registers : Registers) (next : ℕ) → Registered asked lent registers stack → Deletes (op-t-delete stack registers next task)
   unfolding op-t-delete
   delete-deletes registers next r = popped-deletes registers next _ r (pops stack (registers .height))
 
   -- ---- T_SET_FIELD
 
   abbrev Sets : RegistersAndChange → Type 0
-  Sets = Changes lent stack table slot next-id count 0 0
+  Sets = Changes asked lent stack table slot next-id count 0 0
 
   retitled-rules : (title : List ℕ) → Living task (0 + slot) count → Living (retitled task title) (0 + slot) count
   unfolding new-task
@@ -202,70 +202,70 @@ module _ (lent : ℕ) (stack : List ℕ) (table : List Task) (slot next-id count
   unfolding new-task
   retitled-living title = refl
 
-  title-within-sets : (m : List ℕ) (after : Registers) (pointer : FatPointer) (result : ReadResult) → Registered lent after stack → task .living ≡ true
+  title-within-sets : (m : List ℕ) (after : Registers) (pointer : FatPointer) (result : ReadResult) → Registered asked lent after stack → task .living ≡ true
       → Sets (title-within m after pointer task result)
   unfolding title-within applied
   title-within-sets m after pointer Readable r living =
       either Sets (ltb 128 (pointer .size)) _ _ (λ _. refused _ _)
-      (λ _. changes after _ r (put-living table slot next-id count t _ living (retitled-living _) (retitled-rules _) (retitled-long _)) (put-lived table slot next-id count t _ living (retitled-living _)))
+      (λ _. changes after _ r (put-living table slot next-id count t _ living (retitled-living _) (retitled-rules _) (λ _. retitled-long _)) (put-lived table slot next-id count t _ living (retitled-living _)))
   title-within-sets m after pointer (NotReadable refusal) r living = refused refusal _
 
-  title-vector-sets : (m : List ℕ) (after : Registers) (result : PointerResult) → Registered lent after stack → task .living ≡ true → Sets (title-vector m after task result)
+  title-vector-sets : (m : List ℕ) (after : Registers) (result : PointerResult) → Registered asked lent after stack → task .living ≡ true → Sets (title-vector m after task result)
   unfolding title-vector set-title
   title-vector-sets m after (Pointer pointer) r living = title-within-sets m after pointer _ r living
   title-vector-sets m after (NoPointer refusal) r living = refused refusal _
 
-  answered-sets : (after : Registers) (state : ℕ) (result : StateResult) → Registered lent after stack → Sets (state-answered after state task result)
+  answered-sets : (after : Registers) (state : ℕ) (result : StateResult) → Registered asked lent after stack → Sets (state-answered after state task result)
   unfolding state-answered applied
   answered-sets after state Set r = changes after _ r (stated table slot next-id count t state) (stated-lived table slot next-id count t state)
   answered-sets after state (NotSet refusal) r = refused refusal _
 
-  instructions-sets : (after : Registers) (reference : InstructionsRef) → Registered lent after stack → task .living ≡ true → Sets (set-instructions after reference task)
+  instructions-sets : (after : Registers) (reference : InstructionsRef) → Registered asked lent after stack → task .living ≡ true → Sets (set-instructions after reference task)
   unfolding set-instructions applied
   instructions-sets after reference r living =
       changes after _ r
-      (put-living table slot next-id count t (retargeted task reference) living living (λ rules. record { place = rules .place; held = rules .held; title = rules .title; state = rules .state }) (t .titles slot))
+      (put-living table slot next-id count t (retargeted task reference) living living (λ rules. record { place = rules .place; held = rules .held; title = rules .title; state = rules .state }) (λ it. t .titles it slot))
       (put-lived table slot next-id count t (retargeted task reference) living living)
 
-  field-sets : (m : List ℕ) (after : Registers) (field value : ℕ) → Registered lent after stack → task .living ≡ true → Sets (set-field m after field value task)
+  field-sets : (m : List ℕ) (after : Registers) (field value : ℕ) → Registered asked lent after stack → task .living ≡ true → Sets (set-field m after field value task)
   unfolding set-field set-state
   field-sets m after field value r living =
       either Sets (eqb field 0) _ _ (λ _. title-vector-sets m after _ r living)
       (λ _. either Sets (eqb field 1) _ _ (λ _. answered-sets after _ _ r) (λ _. instructions-sets after _ r living))
 
-  popped-sets : (m : List ℕ) (registers : Registers) (next field height : ℕ) (result : PopResult) → height ≤ registers .height → Registered lent registers stack → task .living ≡ true
+  popped-sets : (m : List ℕ) (registers : Registers) (next field height : ℕ) (result : PopResult) → height ≤ registers .height → Registered asked lent registers stack → task .living ≡ true
       → Pops stack height result → Sets (set-popped m registers next field task result)
   unfolding set-popped
   popped-sets m registers next field height _ low r living (popped lower less) =
       field-sets _ (moved registers next lower) field _ (lowered lent registers stack next lower r (omega arith)) living
   popped-sets m registers next field height _ low r living (not-popped refusal) = refused refusal _
 
-  found-sets : (m : List ℕ) (registers : Registers) (next : ℕ) (result : FieldResult) → Registered lent registers stack → Fields task (registers .height) result
+  found-sets : (m : List ℕ) (registers : Registers) (next : ℕ) (result : FieldResult) → Registered asked lent registers stack → Fields task (registers .height) result
       → Sets (set-found stack m registers next task result)
   unfolding set-found
   found-sets m registers next _ r (is-field field lower less living) = popped-sets m registers next field lower _ (omega arith) r living (pops stack lower)
   found-sets m registers next _ r (no-field refusal) = refused refusal _
 
-  pub set-field-sets : (m : List ℕ) (registers : Registers) (next : ℕ) → Registered lent registers stack → Sets (op-t-set-field stack m registers next task)
+  pub set-field-sets : (m : List ℕ) (registers : Registers) (next : ℕ) → Registered asked lent registers stack → Sets (op-t-set-field stack m registers next task)
   unfolding op-t-set-field
   set-field-sets m registers next r = found-sets m registers next _ r (field-told task stack (registers .height))
 
 -- ---- T_GET_FIELD
 
-module _ (stack memory : List ℕ) (registers : Registers) (next : ℕ) (task : Task) (r : Registered (length memory) registers stack) where
+module _ {asked : Type 0} (stack memory : List ℕ) (registers : Registers) (next : ℕ) (task : Task) (r : Registered asked (length memory) registers stack) where
   wrapped : (n : ℕ) → n % 65536 < 2 ^ 16
   wrapped n = omega arith
 
-  found-keeps : (result : FieldResult) → Fields task (registers .height) result → memories.Keeps (length memory) (get-found stack memory registers next task result)
+  found-keeps : (result : FieldResult) → Fields task (registers .height) result → memories.Keeps asked (length memory) (get-found stack memory registers next task result)
   unfolding get-found get-field
   found-keeps _ (is-field field lower less living) =
-      either (memories.Keeps (length memory)) (eqb field 0) _ _
+      either (memories.Keeps asked (length memory)) (eqb field 0) _ _
       (λ _. store-keeps registers stack memory next r (title-bytes task) lower (title-length task % 65536) 4 (omega arith) (wrapped (title-length task)))
-      (λ _. either (memories.Keeps (length memory)) (eqb field 1) _ _
+      (λ _. either (memories.Keeps asked (length memory)) (eqb field 1) _ _
       (λ _. beside memory _ (scalar-pushed (length memory) registers stack next lower _ r (omega arith) (boxed-no-vec 6 (task .state .state))))
       (λ _. beside memory _ (scalar-pushed (length memory) registers stack next lower _ r (omega arith) (boxed-no-vec 5 (task .«instructions_ref» .0)))))
   found-keeps _ (no-field refusal) = memories.refused refusal stack memory
 
-  pub get-field-keeps : memories.Keeps (length memory) (op-t-get-field stack memory registers next task)
+  pub get-field-keeps : memories.Keeps asked (length memory) (op-t-get-field stack memory registers next task)
   unfolding op-t-get-field
   get-field-keeps = found-keeps _ (field-told task stack (registers .height))

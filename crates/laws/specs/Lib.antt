@@ -1,7 +1,8 @@
 pub mod Sound
 pub mod Finished
-pub mod After
+pub mod Together
 pub mod Counted
-pub mod History
 pub mod Creatable
 pub mod Saved
+pub mod Held
+pub mod Refused

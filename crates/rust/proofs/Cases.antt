@@ -16,10 +16,10 @@ use Rattle.rust.specs.Storage as storage
 use Rattle.rust.specs.Vm as vm
 use Rattle.rust.specs.Run.{init, onward, finish, finished, while, begin, run}
 use Rattle.rust.specs.Unbox.{unbox-as, unbox-value}
-use Rattle.rust.specs.Cases.{answer-by, run-over, first-run, loaded-run, second-run, third-run, read-run, unboxed, saved-run, Cases}
+use Rattle.rust.specs.Cases.{answer-by, first-by, run-over, first-run, loaded-run, second-run, third-run, read-run, unboxed, saved-run, Cases}
 
 pub cases : Cases
-unfolding answer-by run-over first-run loaded-run second-run third-run read-run unboxed saved-run unbox-as unbox-value get-value-type vec-type scalar-type is-scalar is-u32-val bool-not valid from lead holds UTF8-char init intern-instructions storage.load storage.from-tasks storage.resize storage.put storage.add storage.get storage.len storage.changed storage.delete storage.save storage.to-tasks push pop last get run begin onward while finished finish vm.step vm.exec vm.push-u32 vm.push-calldata vm.push-state vm.mul vm.muli vm.t-create vm.get-field vm.t-get-field vm.set-field vm.t-set-field vm.t-delete vm.s-save vm.s-len vm.«do» vm.loop vm.loop-index vm.jump-if-false vm.dup vm.swap vm.drop vm.eq vm.neq vm.compare vm.m-sti vm.m-st vm.m-muta vm.allocs vm.enters vm.call vm.end-call vm.pushes vm.last-pc prepare-u32-from-be-checked prepare-u16-from-be-checked byte slice big-endian little-endian offset-aligned resize element-size-bytes boxed alloc mut-vec get-slice-bytes get-slice-as-str get-slice-as-u32 words is-m-slice-eq default set-state try-from to-task values.to-vec-val values.tag values.to-fat-pointer values.product values.mul-checked values.mul-checked-i values.alike values.value-eq values.value-neq values.value-cmp to-u32 make-scalar-tagged make-vec-tagged to-bool-val is-qnan is-vec raw-tag fat-pointer same
+unfolding answer-by first-by run-over first-run loaded-run second-run third-run read-run unboxed saved-run unbox-as unbox-value get-value-type vec-type scalar-type is-scalar is-u32-val bool-not valid from lead holds UTF8-char init intern-instructions storage.load storage.from-tasks storage.resize storage.put storage.add storage.get storage.len storage.changed storage.delete storage.save storage.to-tasks push pop last get run begin onward while finished finish vm.step vm.exec vm.push-u32 vm.push-calldata vm.push-state vm.mul vm.muli vm.t-create vm.get-field vm.t-get-field vm.set-field vm.t-set-field vm.t-delete vm.s-save vm.s-len vm.«do» vm.loop vm.loop-index vm.jump-if-false vm.dup vm.swap vm.drop vm.eq vm.neq vm.compare vm.m-sti vm.m-st vm.m-muta vm.allocs vm.enters vm.call vm.end-call vm.pushes vm.last-pc prepare-u32-from-be-checked prepare-u16-from-be-checked byte slice big-endian little-endian offset-aligned resize element-size-bytes boxed alloc mut-vec get-slice-bytes get-slice-as-str get-slice-as-u32 words is-m-slice-eq default set-state try-from to-task values.to-vec-val values.tag values.to-fat-pointer values.product values.mul-checked values.mul-checked-i values.alike values.value-eq values.value-neq values.value-cmp to-u32 make-scalar-tagged make-vec-tagged to-bool-val is-qnan is-vec raw-tag fat-pointer same
 cases = record {
   one-turn = refl;
   index-above-limit = refl;

@@ -4,11 +4,11 @@ use mathlib.Core.Bool.{true, false}
 use mathlib.Core.List.{List, [], _∷_, map}
 use mathlib.Core.Path.{_≡_}
 use Rattle.values.specs.Values.{make-vec-tagged, to-u32-val, to-calldata-val, to-bool-val}
-use Rattle.rust.specs.Errors.{VMError, TaskNotFound, InvalidInstructionsIndex, StackUnderflow, StackOverflow, MSliceParamOverflow, MSliceOutOfBounds, TypeMismatch, InvalidType, EmptyInstructions, MaxStatesError, InvalidStatus, InvalidTaskField, BytesToStringConversionError, AlignmentMismatch, MultiplicationOverflowed, SliceSizeMismatch, Out, ok, err}
+use Rattle.rust.specs.Errors.{VMError, TaskNotFound, InvalidInstructionsIndex, StackUnderflow, StackOverflow, MSliceParamOverflow, MSliceOutOfBounds, TypeMismatch, InvalidType, EmptyInstructions, MaxStatesError, InvalidStatus, InvalidTaskField, BytesToStringConversionError, AlignmentMismatch, MultiplicationOverflowed, SliceSizeMismatch, Out, ok, err, panic}
 use Rattle.rust.specs.TaskTypes.{StorageData}
 use Rattle.rust.specs.Storage.{save}
 use Rattle.rust.specs.Vm.{VM}
-use Rattle.rust.specs.Run.{init, Ran, returned, running, failed, panicked, onward, run}
+use Rattle.rust.specs.Run.{init, Ran, returned, running, failed, panicked, run}
 use Rattle.rust.specs.Unbox.{Return, U32, String, CallData, Truth, VecU32, Null, unbox-value}
 
 -- what a run comes to, within 20 turns: its values top first, each read, or what is saved after it
@@ -24,12 +24,18 @@ pub data Answer : Type 0 where
 unfoldable pub answer-by : (List ℕ → VM → Answer) → Ran → Answer
 answer-by told (returned values after) = told values after
 answer-by told (running after) = goes-on
-answer-by told (failed error) = fails error
+answer-by told (failed error before) = fails error
 answer-by told panicked = panics
 
+-- where init makes a machine, what its first run comes to
+unfoldable pub first-by : (List ℕ → VM → Answer) → Out VM → Answer
+first-by told (ok vm) = answer-by told (run 20 vm)
+first-by told (err error) = fails error
+first-by told panic = panics
+
 -- a run of a program over stored tasks
-unfoldable pub run-over : StorageData → List ℕ → Ran
-run-over stored program = onward (run 20) (init program stored)
+unfoldable pub run-over : (List ℕ → VM → Answer) → StorageData → List ℕ → Answer
+run-over told stored program = first-by told (init program stored)
 
 -- no tasks, and one task: id 1, "Ab", in state 2 of 3, whose instructions are 03 09 12; the next id is 3
 abbrev pub no-tasks : StorageData
@@ -40,28 +46,28 @@ one-stored = record { tasks = record { id = 1; title = 0x41 ∷ 0x62 ∷ []; sta
 
 -- the values of a first run, without tasks and over the stored one
 unfoldable pub first-run : List ℕ → Answer
-first-run program = answer-by (λ values after. gives values) (run-over no-tasks program)
+first-run program = run-over (λ values after. gives values) no-tasks program
 
 unfoldable pub loaded-run : List ℕ → Answer
-loaded-run program = answer-by (λ values after. gives values) (run-over one-stored program)
+loaded-run program = run-over (λ values after. gives values) one-stored program
 
 -- those of a second run after it, and of a third
 unfoldable pub second-run : List ℕ → Answer
-second-run program = answer-by (λ first after. answer-by (λ values after. gives values) (run 20 after)) (run-over no-tasks program)
+second-run program = run-over (λ first after. answer-by (λ values after. gives values) (run 20 after)) no-tasks program
 
 unfoldable pub third-run : List ℕ → Answer
-third-run program = answer-by (λ first after. answer-by (λ second after. answer-by (λ values after. gives values) (run 20 after)) (run 20 after)) (run-over no-tasks program)
+third-run program = run-over (λ first after. answer-by (λ second after. answer-by (λ values after. gives values) (run 20 after)) (run 20 after)) no-tasks program
 
 -- the values of a first run as unbox_value reads them, and other values so
 unfoldable pub read-run : List ℕ → Answer
-read-run program = answer-by (λ values after. reads (map (unbox-value after) values)) (run-over no-tasks program)
+read-run program = run-over (λ values after. reads (map (unbox-value after) values)) no-tasks program
 
 unfoldable pub unboxed : List ℕ → List ℕ → Answer
-unboxed program values = answer-by (λ first after. reads (map (unbox-value after) values)) (run-over no-tasks program)
+unboxed program values = run-over (λ first after. reads (map (unbox-value after) values)) no-tasks program
 
 -- what is saved after a first run
 unfoldable pub saved-run : List ℕ → Answer
-saved-run program = answer-by (λ values after. saves (save (after .storage) (after .instructions-pool) ok)) (run-over no-tasks program)
+saved-run program = run-over (λ values after. saves (save (after .storage) (after .instructions-pool) ok)) no-tasks program
 
 -- every arm of run, and every kind of value
 pub record Cases : Type 0 where

@@ -1,7 +1,7 @@
 -- errors.rs: the errors that a run and a read answer, and what a call comes to. A `?` is the continuation that a call is given; what a failing call leaves is not said.
 use Prim.Native.Nat.{ℕ}
 
--- VMError, as far as init, run and unbox answer it, what is loaded and saved being values
+-- VMError, as far as init, run, unbox and print_task answer it, what is loaded and saved being values
 pub data VMError : Type 0 where
   TaskNotFound : ℕ → VMError
   InvalidInstructionsIndex : ℕ → VMError

@@ -10,3 +10,4 @@ pub mod Vm
 pub mod Run
 pub mod Unbox
 pub mod Cases
+pub mod PrintedTasks

@@ -30,30 +30,30 @@ init program stored =
       pc = 0;
     }))
 
--- what a run comes to: it returned the values on its stack, the last one first; it goes on; it failed; it panicked
+-- what a run comes to: it returned the values on its stack, the last one first; it goes on; it failed, the machine being the one before what failed; it panicked
 pub data Ran : Type 0 where
   returned : List ℕ → VM → Ran
   running : VM → Ran
-  failed : VMError → Ran
+  failed : VMError → VM → Ran
   panicked : Ran
 
--- a step's answer
-unfoldable pub onward : (VM → Ran) → Out VM → Ran
-onward others (ok vm) = others vm
-onward others (err error) = failed error
-onward others panic = panicked
+-- on from a machine, by what a part of a run answers on it
+unfoldable pub onward : (VM → Ran) → VM → Out VM → Ran
+onward others before (ok vm) = others vm
+onward others before (err error) = failed error before
+onward others before panic = panicked
 
 -- after the loop: the pc of the last frame becomes 0, and the stack is taken
 unfoldable pub finish : VM → Out VM
 finish vm = last (vm .call-stack) λ frame. ok (with-call-stack vm (last-pc (vm .call-stack) 0))
 
 unfoldable pub finished : VM → Ran
-finished vm = onward (λ after. returned (after .stack) (at after 0 [])) (finish vm)
+finished vm = onward (λ after. returned (after .stack) (at after 0 [])) vm (finish vm)
 
 -- while pc < instructions.len(), at most so many turns
 unfoldable pub while : ℕ → VM → Ran
 while zero vm = cond (ltb (vm .pc) (length (instructions vm))) (running vm) (finished vm)
-while (suc turns) vm = cond (ltb (vm .pc) (length (instructions vm))) (onward (while turns) (step vm)) (finished vm)
+while (suc turns) vm = cond (ltb (vm .pc) (length (instructions vm))) (onward (while turns) vm (step vm)) (finished vm)
 
 -- before the loop: new memory, instructions_ref and pc of the last frame, whose instructions must be in the pool
 unfoldable pub begin : VM → Out VM
@@ -63,4 +63,4 @@ begin vm =
     ok (in-frame (with-memory vm []) frame)
 
 unfoldable pub run : ℕ → VM → Ran
-run turns vm = onward (while turns) (begin vm)
+run turns vm = onward (while turns) vm (begin vm)

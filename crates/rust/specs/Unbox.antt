@@ -1,4 +1,4 @@
--- vm.rs: unbox_value, by which a host reads a value that a run returned. The type of a value is said once, in the crate values: NoType is InvalidType.
+-- vm.rs: what a host reads: unbox_value of a value that a run returned, and print_task. The type of a value is said once, in the crate values: NoType is InvalidType.
 use Prim.Native.Nat.{ℕ}
 use mathlib.Core.Bool.{Bool, true}
 use mathlib.Core.List.{List}
@@ -6,10 +6,12 @@ use lib.Dec.{eqb}
 use Rattle.values.specs.Values.{to-u32, to-bool-val, get-value-type}
 use Rattle.values.specs.declared.ValueType.{ValueType}
 use Rattle.values.specs.declared.ValueType.the-variants as type
-use Rattle.rust.specs.Errors.{Out, ok, err, InvalidType}
+use Rattle.rust.specs.Errors.{Out, ok, err, InvalidType, TaskNotFound}
 use Rattle.rust.specs.Values.{to-fat-pointer}
 use Rattle.rust.specs.Memory.{get-slice-as-str, get-slice-as-u32}
 use Rattle.rust.specs.Instructions.{get}
+use Rattle.rust.specs.TaskTypes.{Task, to-task}
+use Rattle.rust.specs.Storage as storage
 use Rattle.rust.specs.Vm.{VM}
 
 pub data Return : Type 0 where
@@ -37,3 +39,8 @@ unbox-as vm val type.NoType = err InvalidType
 
 unfoldable pub unbox-value : VM → ℕ → Out Return
 unbox-value vm val = unbox-as vm val (get-value-type val)
+
+unfoldable pub print-task : VM → ℕ → Out Task
+print-task vm id =
+    storage.if-some (storage.get (vm .storage) id) (λ task-vm. to-task task-vm (vm .instructions-pool) ok)
+    (err (TaskNotFound id))

@@ -1,8 +1,8 @@
--- Calls to a machine that holds an admitted program, and saves between them: what each leaves, and what it is refused with.
+-- Calls of a host to a machine that holds an admitted program: what each leaves, and what it is refused with.
 use Prim.Native.Nat.{ℕ, _≤_}
 use mathlib.Core.Path.{_≡_, refl, sym, ap, _∙_, subst}
 use mathlib.Core.Bool.{Bool, true, false, false≢true}
-use mathlib.Core.List.{List, []}
+use mathlib.Core.List.{List, [], _∷_}
 use native.Mathlib.Omega.{arith}
 use lib.Dec.{leb}
 use lib.ListN.{length}
@@ -27,12 +27,12 @@ use Rattle.machine.specs.World.{with-machine}
 use Rattle.machine.specs.Calls as calls
 use Rattle.machine.specs.declared.Verb.{Verb}
 use Rattle.machine.specs.declared.Verb.the-variants.{Start, Continue}
-use Rattle.machine.specs.Reads.{host-saved, SavedTo, saved-to, host-save}
+use Rattle.machine.specs.Reads.{host-saved, SavedTo, saved-to, host-save, value-read, task-read}
 use Rattle.labels.specs.declared.Kind.{Kind}
 use Rattle.labels.specs.Labels.{Label, zeroth, Labelled}
 use Rattle.mechanism.proofs.Either.{either}
-use Rattle.laws.specs.After.{world-after, world-saved}
-use Rattle.safety.specs.Lives.{ruled-out, may-come, allows, Safe}
+use Rattle.machine.specs.History.{world-after, world-saved, HostCall, runs, saves, reads-value, reads-task, left-by, history}
+use Rattle.safety.specs.Safe.{ruled-out, may-come, allows, Safe}
 use Rattle.safety.proofs.Kinded.{nil}
 use Rattle.safety.proofs.Rules.{on-bool}
 use Rattle.safety.proofs.Holds.{May, Looping, none-open, Holds, starts}
@@ -195,8 +195,22 @@ module _ (program : List ℕ) (kinds : List Kind) (labelled : Labelled program k
   save-by w (NotSaved refusal) save (rests c r) = rests c (record { lent = r .lent; main = r .main; at-zero = r .at-zero; closed = r .closed })
   save-by w (NotSaved refusal) save (on-its-way s t) = on-its-way s (record { lent = t .lent; main = t .main; holds = t .holds })
 
-  pub save-keeps : (w : World) → Ready w → Ready (world-saved (host-save w))
+  save-keeps : (w : World) → Ready w → Ready (world-saved (host-save w))
   unfolding host-save
   save-keeps w ready =
       either (λ (s : SavedTo). Ready (world-saved s)) (is-sound w) _ _
       (save-by w (saving w .answer) (saving w .save) ready) ready
+
+  -- ---- a history
+
+  left-ready : (one : HostCall) (w : World) → Ready w → Ready (left-by one w)
+  unfolding left-by value-read task-read
+  left-ready (runs verb fuel) w ready = call-keeps w verb fuel ready .ready
+  left-ready saves w ready = save-keeps w ready
+  left-ready (reads-value position) w ready = ready
+  left-ready (reads-task id) w ready = ready
+
+  pub history-ready : (calls : List HostCall) (w : World) → Ready w → Ready (history calls w)
+  unfolding history
+  history-ready [] w ready = ready
+  history-ready (one ∷ others) w ready = history-ready others (left-by one w) (left-ready one w ready)

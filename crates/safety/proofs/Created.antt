@@ -28,7 +28,7 @@ use Rattle.mechanism.proofs.Creates.{create-is}
 use Rattle.machine.specs.declared.CreateResult.the-variants.{Created, NotCreated}
 use Rattle.labels.specs.declared.Kind.{Kind}
 use Rattle.labels.specs.Labels.{Labelled}
-use Rattle.safety.specs.Lives.{new-world}
+use Rattle.machine.specs.History.{new-world}
 use Rattle.safety.proofs.Rules.{on-bool}
 use Rattle.safety.proofs.Stands.{Main}
 use Rattle.safety.proofs.Interned.{joins-one, none-pooled}

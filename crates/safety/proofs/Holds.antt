@@ -24,7 +24,7 @@ use Rattle.labels.specs.declared.Kind.{Kind}
 use Rattle.labels.specs.declared.Kind.the-variants.{Number, Calldata, Text}
 use Rattle.labels.specs.Labels.{Open, opened, Label, label, Start}
 use Rattle.safety.specs.Kinds.{HasKind}
-use Rattle.safety.specs.Lives.{may-come}
+use Rattle.safety.specs.Safe.{may-come}
 use Rattle.safety.proofs.Kinded.{Kinded, lengths, pushed}
 
 -- a refusal that may still come at run
