@@ -107,9 +107,16 @@ ended-sound w outcome s = kept-sound (with-machine w (ended (w .machine) outcome
 pub allowed-sound : (w : World) (test : Bool) (verb : Verb) → Sound w → Sound (with-machine w (allowed (w .machine) test verb .machine))
 allowed-sound w test verb s = kept-sound (with-machine w (allowed (w .machine) test verb .machine)) (allowed-kept w test verb (sound-kept w s))
 
--- a start leaves a sound world sound
+-- a start or a continue leaves a sound world sound
+pub call-sound : (verb : Verb) (fuel : ℕ) (w : World) → Sound w → Sound (world-after (call verb fuel w))
+call-sound verb fuel w s = kept-sound (world-after (call verb fuel w)) (call-kept verb fuel w (sound-kept w s))
+
 pub start-sound : (fuel : ℕ) (w : World) → Sound w → Sound (world-after (start fuel w))
-start-sound fuel w s = kept-sound (world-after (start fuel w)) (call-kept Start fuel w (sound-kept w s))
+start-sound fuel w s = call-sound Start fuel w s
+
+-- and so does a save by the host
+pub save-sound : (w : World) → Sound w → Sound (world-saved (host-save w))
+save-sound w s = kept-sound (world-saved (host-save w)) (save-kept w (sound-kept w s))
 
 -- each call of a host leaves a sound world sound
 pub left-sound : (one : HostCall) (w : World) → Sound w → Sound (left-by one w)
