@@ -92,7 +92,7 @@ module _ (R : World → List World → World → Type 0) (none : (w v : World) �
   with-permission false fuel w a e begins begun = simp e (same w)
 
   -- a call
-  pub along-call : (asked : HostCall) (w : World) → Passes w → R w (call-finished asked w) (left-by asked w)
+  pub along-call : (host-call : HostCall) (w : World) → Passes w → R w (call-finished host-call w) (left-by host-call w)
   unfolding left-by call call-finished value-read task-read
   along-call (runs verb fuel) w passes =
       with-permission (allowance verb w .allowed) fuel w (allowance verb w) refl (allowed-passes w (is-sound w) verb passes) (allowed-same w (is-sound w) verb)
@@ -104,4 +104,4 @@ module _ (R : World → List World → World → Type 0) (none : (w v : World) �
   pub along-history : (calls : List HostCall) (w : World) → Passes w → R w (history-finished calls w) (history calls w)
   unfolding history history-finished
   along-history [] w passes = same w
-  along-history (asked ∷ others) w passes = chain w (left-by asked w) _ _ _ (along-call asked w passes) (along-history others (left-by asked w) (left-passes asked w passes))
+  along-history (first ∷ others) w passes = chain w (left-by first w) _ _ _ (along-call first w passes) (along-history others (left-by first w) (left-passes first w passes))

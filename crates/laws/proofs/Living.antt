@@ -57,8 +57,8 @@ pub living-after-run : (fuel : ℕ) (w : World) → Passes w
 living-after-run = along-run Balanced none one chain
 
 -- of each call of a host
-pub living-after-call : (asked : HostCall) (w : World) → Passes w
-    → living-of (left-by asked w .table) + total deletes (call-finished asked w) ≡ living-of (w .table) + total creates (call-finished asked w)
+pub living-after-call : (host-call : HostCall) (w : World) → Passes w
+    → living-of (left-by host-call w .table) + total deletes (call-finished host-call w) ≡ living-of (w .table) + total creates (call-finished host-call w)
 living-after-call = along-call Balanced none one chain
 
 -- document 01: the number of living tasks always equals those loaded plus finished T_CREATEs less finished T_DELETEs

@@ -2,10 +2,8 @@
 use Prim.Native.Nat.{ℕ, _+_}
 use mathlib.Core.Bool.{Bool, true, false, false≢true, true≢false}
 use mathlib.Core.List.{List}
-use mathlib.Core.Option.{Option, none, some}
 use mathlib.Core.Path.{_≡_, refl, sym, ap, _∙_, subst}
 use native.Mathlib.Omega.{arith}
-use lib.Dec.{leb}
 use lib.ListN.{length}
 use Rattle.errors.specs.declared.Refusal.{Refusal}
 use Rattle.errors.specs.declared.Refusal.the-variants.{WrongPhaseOrUnsound}
@@ -14,10 +12,10 @@ use Rattle.pools.specs.declared.InternResult.{InternResult}
 use Rattle.pools.specs.declared.InternResult.the-variants.{Interned, NotInterned}
 use Rattle.pools.proofs.Interns.{when-room, when-full}
 use Rattle.storage.specs.declared.Task.{Task}
-use Rattle.image.specs.Image.{written}
-use Rattle.image.specs.Table.{living-tasks, first-refusal, image-of-tasks, SavedTable, saved-table, saved-over, saved-unless, save-tasks, save-table}
+use Rattle.storage.specs.declared.TaskId.{TaskId}
+use Rattle.image.specs.Table.{SavedTable}
 use Rattle.image.specs.declared.SaveResult.{SaveResult}
-use Rattle.image.specs.declared.SaveResult.the-variants.{Saved, NotSaved}
+use Rattle.image.specs.declared.SaveResult.the-variants.{NotSaved}
 use Rattle.memory.specs.declared.unbox.Return.the-variants.{NoReturn}
 use Rattle.table_image.specs.Creation.{creation-tests}
 use Rattle.table_image.specs.declared.creation.CreationResult.{CreationResult}
@@ -32,11 +30,12 @@ use Rattle.machine.specs.Run.{run}
 use Rattle.machine.specs.Calls.{may-start, may-continue, allowed, report, not-allowed, Reported, reports, at-end, is-sound, call-with, call, start, go-on}
 use Rattle.machine.specs.Reads.{readable, value-at, read-to, value-read, task-read, host-saved, SavedTo, saved-to, host-save-as, host-save}
 use Rattle.machine.specs.Creation.{Made, made, create-behind, create-fit, create}
-use Rattle.machine.specs.History.{world-after, world-saved, HostCall, left-by}
+use Rattle.machine.specs.History.{world-after, world-saved, HostCall, reads-value, reads-task, left-by}
 use Rattle.laws.specs.Sound.{Passes}
 use Rattle.laws.specs.Counted.{allowance}
 use Rattle.laws.specs.Refused.{RefusedOutside, not-run, not-saved, no-value, no-task}
 use Rattle.laws.proofs.Either.{either}
+use Rattle.laws.proofs.Saves.{Saves, saves, not-saves, save-keeps}
 use Rattle.laws.proofs.SoundnessCalls.{allowed-passes}
 use Rattle.laws.proofs.RefusedInside.{run-other}
 
@@ -85,42 +84,33 @@ pub value-not-readable : (position : ℕ) (w : World) → readable (w .machine) 
 unfolding value-read value-at
 value-not-readable position w e = simp e
 
+-- no read writes, refused or not
+pub value-leaves : (position : ℕ) (w : World) → left-by (reads-value position) w ≡ w
+unfolding left-by value-read
+value-leaves position w = refl
+
+pub task-leaves : (id : TaskId) (w : World) → left-by (reads-task id) w ≡ w
+unfolding left-by task-read
+task-leaves id w = refl
+
 -- ---- the save by the host: 26, 12, 15, 24
 
--- a save that is refused leaves the buffer
-data Leaves (save : List ℕ) : SavedTable → Type 0 where
-  wrote : (size : ℕ) (after : List ℕ) → Leaves save (saved-table (Saved size) after)
-  left : (refusal : Refusal) → Leaves save (saved-table (NotSaved refusal) save)
+-- an answer, with everything as it was
+abbrev answered : World → SaveResult → SavedTo
+answered w result = saved-to (record { machine = w .machine; result = result }) (w .table) (w .stack) (w .memory) (w .pool) (w .ends) (w .save)
 
-over-leaves : (image save : List ℕ) → Leaves save (saved-over image save)
-unfolding saved-over
-over-leaves image save = either (Leaves save) (leb (length image) (length save)) _ _ (λ _. wrote _ _) (λ _. left _)
-
-unless-leaves : (refusal : Option Refusal) (image save : List ℕ) → Leaves save (saved-unless refusal image save)
-unfolding saved-unless
-unless-leaves (some refusal) image save = left refusal
-unless-leaves none image save = over-leaves image save
-
-table-leaves : (next-id : ℕ) (table : List Task) (pool ends : List ℕ) (entries : ℕ) (save : List ℕ) → Leaves save (save-table next-id table pool ends entries save)
-unfolding save-table save-tasks
-table-leaves next-id table pool ends entries save = unless-leaves (first-refusal ends entries (living-tasks table)) (written (image-of-tasks next-id (living-tasks table) pool ends)) save
-
--- the answer to a refusal, with everything as it was
-abbrev as-it-was : World → Refusal → SavedTo
-as-it-was w refusal = saved-to (record { machine = w .machine; result = NotSaved refusal }) (w .table) (w .stack) (w .memory) (w .pool) (w .ends) (w .save)
-
-saved-leaves : (w : World) (refusal : Refusal) (a : SavedTable) → Leaves (w .save) a → host-save-as w a .report .result ≡ NotSaved refusal → host-save-as w a ≡ as-it-was w refusal
+table-not-saved : (w : World) (refusal : Refusal) (a : SavedTable) → Saves (w .save) a → host-save-as w a .report .result ≡ NotSaved refusal → host-save-as w a ≡ answered w (NotSaved refusal)
 unfolding host-saved
-saved-leaves w refusal _ (wrote size after) e = absurd (let z : _≡_ {A = ℕ} 0 1 = cc in omega arith)
-saved-leaves w refusal _ (left other) e = ap (λ (r : SaveResult). saved-to (record { machine = w .machine; result = r }) (w .table) (w .stack) (w .memory) (w .pool) (w .ends) (w .save)) e
+table-not-saved w refusal _ (saves size after fits long) e = absurd (let z : _≡_ {A = ℕ} 0 1 = cc in omega arith)
+table-not-saved w refusal _ (not-saves other) e = ap (answered w) e
 
 -- whatever it is refused for
-pub save-not-saved : (w : World) (refusal : Refusal) → host-save w .report .result ≡ NotSaved refusal → host-save w ≡ as-it-was w refusal
+pub save-not-saved : (w : World) (refusal : Refusal) → host-save w .report .result ≡ NotSaved refusal
+    → host-save w ≡ saved-to (record { machine = w .machine; result = NotSaved refusal }) (w .table) (w .stack) (w .memory) (w .pool) (w .ends) (w .save)
 unfolding host-save
 save-not-saved w refusal =
-    either (λ (s : SavedTo). s .report .result ≡ NotSaved refusal → s ≡ as-it-was w refusal) (is-sound w) _ _
-    (λ _ e. saved-leaves w refusal _ (table-leaves (w .machine .«next_id») (w .table) (w .pool) (w .ends) (w .machine .entries) (w .save)) e)
-    (λ _ e. ap (λ (r : SaveResult). saved-to (record { machine = w .machine; result = r }) (w .table) (w .stack) (w .memory) (w .pool) (w .ends) (w .save)) e)
+    either (λ (s : SavedTo). s .report .result ≡ NotSaved refusal → s ≡ answered w (NotSaved refusal)) (is-sound w) _ _
+    (λ _. table-not-saved w refusal _ (save-keeps (w .machine .«next_id») (w .table) (w .pool) (w .ends) (w .machine .entries) (w .save))) (λ _ e. ap (answered w) e)
 
 -- ---- each
 
@@ -139,12 +129,12 @@ not-allowed-if-26 verb fuel w lent e true is =
     absurd (true≢false (run-other fuel begins WrongPhaseOrUnsound passes refused))
 
 -- document 01: a call that is refused outside an instruction writes nothing; 1,024 ends are what the type says
-pub nothing-written : (w : World) → length (w .ends) ≡ 1024 → (asked : HostCall) → RefusedOutside w asked → left-by asked w ≡ w
-unfolding left-by value-read task-read
+pub nothing-written : (w : World) → length (w .ends) ≡ 1024 → (host-call : HostCall) → RefusedOutside w host-call → left-by host-call w ≡ w
+unfolding left-by
 nothing-written w lent _ (not-run verb fuel e) = ap world-after (call-not-allowed verb fuel w (not-allowed-if-26 verb fuel w lent e (allowance verb w .allowed) refl))
 nothing-written w lent _ (not-saved refusal e) = ap world-saved (save-not-saved w refusal e)
-nothing-written w lent _ (no-value position refusal e) = refl
-nothing-written w lent _ (no-task id refusal e) = refl
+nothing-written w lent _ (no-value position refusal e) = value-leaves position w
+nothing-written w lent _ (no-task id refusal e) = task-leaves id w
 
 -- ---- creation: 26, 1, 28, 25, 22
 

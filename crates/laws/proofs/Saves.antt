@@ -1,8 +1,8 @@
--- S_SAVE leaves the save buffer as long as it was, with an image that lies in it.
+-- A save leaves the save buffer as long as it was, with an image that lies in it; one that is refused leaves it as it was.
 use Prim.Native.Nat.{ℕ, _≤_}
 use mathlib.Core.List.{List}
 use mathlib.Core.Option.{Option, none, some}
-use mathlib.Core.Path.{_≡_, refl}
+use mathlib.Core.Path.{_≡_}
 use lib.Dec.{leb}
 use lib.ListN.{length}
 use lib.Seq.{length-sets}
@@ -17,21 +17,21 @@ use Rattle.machine.specs.Machines.{with-saved}
 use Rattle.laws.proofs.Either.{either}
 use Rattle.laws.proofs.Parts.{Machined}
 
-pub data Saves (lent : ℕ) : SavedTable → Type 0 where
-  saves : (size : ℕ) (save : List ℕ) → size ≤ lent → length save ≡ lent → Saves lent (saved-table (Saved size) save)
-  not-saves : (refusal : Refusal) (save : List ℕ) → length save ≡ lent → Saves lent (saved-table (NotSaved refusal) save)
+-- an image that lies in the buffer, which is as long as before; or a refusal, and the buffer as it was
+pub data Saves (save : List ℕ) : SavedTable → Type 0 where
+  saves : (size : ℕ) (after : List ℕ) → size ≤ length save → length after ≡ length save → Saves save (saved-table (Saved size) after)
+  not-saves : (refusal : Refusal) → Saves save (saved-table (NotSaved refusal) save)
 
-saved-over-keeps : (image save : List ℕ) → Saves (length save) (saved-over image save)
+saved-over-keeps : (image save : List ℕ) → Saves save (saved-over image save)
 unfolding saved-over
-saved-over-keeps image save =
-    either (Saves (length save)) (leb (length image) (length save)) _ _ (λ fits. saves (length image) _ (leb-true _ _ fits) (length-sets save 0 image)) (λ _. not-saves _ save refl)
+saved-over-keeps image save = either (Saves save) (leb (length image) (length save)) _ _ (λ fits. saves (length image) _ (leb-true _ _ fits) (length-sets save 0 image)) (λ _. not-saves _)
 
-saved-keeps : (refusal : Option Refusal) (image save : List ℕ) → Saves (length save) (saved-unless refusal image save)
+saved-keeps : (refusal : Option Refusal) (image save : List ℕ) → Saves save (saved-unless refusal image save)
 unfolding saved-unless
-saved-keeps (some refusal) image save = not-saves refusal save refl
+saved-keeps (some refusal) image save = not-saves refusal
 saved-keeps none image save = saved-over-keeps image save
 
-pub save-keeps : (next-id : ℕ) (table : List Task) (pool ends : List ℕ) (entries : ℕ) (save : List ℕ) → Saves (length save) (save-table next-id table pool ends entries save)
+pub save-keeps : (next-id : ℕ) (table : List Task) (pool ends : List ℕ) (entries : ℕ) (save : List ℕ) → Saves save (save-table next-id table pool ends entries save)
 unfolding save-table save-tasks
 save-keeps next-id table pool ends entries save = saved-keeps (first-refusal ends entries (living-tasks table)) (written (image-of-tasks next-id (living-tasks table) pool ends)) save
 

@@ -2,9 +2,7 @@
 use Prim.Native.Nat.{ℕ}
 use mathlib.Core.Bool.{Bool}
 use mathlib.Core.List.{List, [], _∷_}
-use mathlib.Core.Path.{sym, subst}
 use native.Mathlib.Omega.{arith}
-use lib.ListN.{length}
 use Rattle.machine.specs.declared.Machine.{Machine}
 use Rattle.machine.specs.declared.Phase.{Phase}
 use Rattle.machine.specs.declared.Phase.the-variants.{Done, Paused, Stopped}
@@ -74,14 +72,10 @@ call-kept verb fuel w s = with-kept fuel w (allowed (w .machine) (is-sound w) ve
 
 -- ---- the save by the host
 
-host-saved-kept : {asked : Type 0} (w : World) (a : SavedTable) → Kept asked w → Saves (length (w .save)) a → Kept asked (world-saved (host-save-as w a))
+host-saved-kept : {asked : Type 0} (w : World) (a : SavedTable) → Kept asked w → Saves (w .save) a → Kept asked (world-saved (host-save-as w a))
 unfolding host-saved
 host-saved-kept w _ s (saves size save fits long) = record { machine-kept = image-sound size (s .machine-kept) (omega (arith, fits, long)); table-kept = s .table-kept }
-host-saved-kept {asked} w _ s (not-saves refusal save long) =
-    record {
-      machine-kept = subst (λ (n : ℕ). Machined asked (length (w .memory)) (length (w .pool)) n (w .stack) (w .ends) (w .machine)) (sym long) (s .machine-kept);
-      table-kept = s .table-kept;
-    }
+host-saved-kept w _ s (not-saves refusal) = s
 
 save-kept : {asked : Type 0} (w : World) → Kept asked w → Kept asked (world-saved (host-save w))
 unfolding host-save
@@ -113,9 +107,16 @@ ended-sound w outcome s = kept-sound (with-machine w (ended (w .machine) outcome
 pub allowed-sound : (w : World) (test : Bool) (verb : Verb) → Sound w → Sound (with-machine w (allowed (w .machine) test verb .machine))
 allowed-sound w test verb s = kept-sound (with-machine w (allowed (w .machine) test verb .machine)) (allowed-kept w test verb (sound-kept w s))
 
--- a start leaves a sound world sound
+-- a start or a continue leaves a sound world sound
+pub call-sound : (verb : Verb) (fuel : ℕ) (w : World) → Sound w → Sound (world-after (call verb fuel w))
+call-sound verb fuel w s = kept-sound (world-after (call verb fuel w)) (call-kept verb fuel w (sound-kept w s))
+
 pub start-sound : (fuel : ℕ) (w : World) → Sound w → Sound (world-after (start fuel w))
-start-sound fuel w s = kept-sound (world-after (start fuel w)) (call-kept Start fuel w (sound-kept w s))
+start-sound fuel w s = call-sound Start fuel w s
+
+-- and so does a save by the host
+pub save-sound : (w : World) → Sound w → Sound (world-saved (host-save w))
+save-sound w s = kept-sound (world-saved (host-save w)) (save-kept w (sound-kept w s))
 
 -- each call of a host leaves a sound world sound
 pub left-sound : (one : HostCall) (w : World) → Sound w → Sound (left-by one w)

@@ -156,11 +156,11 @@ module _ {asked : Type 0} (w : World) (s : Kept asked w) where
     table-kept = settled-tabled _;
   }
 
-  saved-steps : (a : SavedTable) → eqb (op w) S-SAVE ≡ true → Saves (length (w .save)) a → Steps asked w (saves-went w (a .save) (save-went (w .machine) (a .answer)))
+  saved-steps : (a : SavedTable) → eqb (op w) S-SAVE ≡ true → Saves (w .save) a → Steps asked w (saves-went w (a .save) (save-went (w .machine) (a .answer)))
   unfolding saves-went save-went
   saved-steps _ is (saved.saves size save fits long) =
       idle-steps (saved-world size save) (save-idle (op w) is) (saved-kept size save fits long) (settled-pools _) refl (saved-same size _)
-  saved-steps _ is (saved.not-saves refusal save long) = refused refusal
+  saved-steps _ is (saved.not-saves refusal) = refused refusal
 
   saves-steps : eqb (op w) S-SAVE ≡ true → Steps asked w (saves w)
   unfolding saves
