@@ -37,7 +37,7 @@ pub data Equal (r : Reported) : Ran → Type 0 where
   same-end : {values : List ℕ} {vm : VM} → r .report .outcome ≡ outcome.Done
       → values-of (r .report .machine .height) (r .stack) ≡ values
       → ReadAlike r vm
-      → storage-of (r .report .machine .«next_id») (r .report .machine .count) (r .table) ≡ vm .storage
+      → storage-of (r .report .machine .«next_id» .0) (r .report .machine .count) (r .table) ≡ vm .storage
       → take (r .report .machine .memory) (r .memory) ≡ vm .memory
       → Equal r (returned values vm)
   same-refusal : {error : VMError} → r .report .outcome ≡ outcome.Refused (refusal-of error) → Equal r (failed error)

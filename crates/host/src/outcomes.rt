@@ -8,6 +8,7 @@ use machine::Machine;
 use machine::Outcome;
 use machine::Report;
 use machine::SaveReport;
+use storage::TaskId;
 use text::LineResult;
 
 // A machine that no save takes: its next id is above 256.
@@ -15,7 +16,8 @@ fn unsavable(machine: Machine) -> Machine
     ensures { λ r. ⌜ r ≡ unsavable machine ⌝ }
 {
     let mut after = machine;
-    after.next_id = 257;
+    let next_id = TaskId(257);
+    after.next_id = next_id;
     after
 }
 

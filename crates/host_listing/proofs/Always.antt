@@ -50,7 +50,7 @@ use Rattle.host_listing.proofs.Values.{taken-bytes, values-short, value
 
 -- a table, the ends of a pool and a machine that keep each line short
 record Bounded (table : List Task) (ends : List ℕ) (machine : Machine) : Type 0 where
-  tasks : sound-table table (machine .«next_id») (machine .count) ≡ true
+  tasks : sound-table table (machine .«next_id» .0) (machine .count) ≡ true
   joined : end-to-end ends (machine .pool) (machine .entries) ≡ true
   small : machine .pool ≤ 65536
   high : machine .height ≤ 1000
@@ -75,7 +75,7 @@ not-behind table image program next-id s-len pool ends refusal (NotInterned othe
 
 not-fit : (table : List Task) (pool ends image program : List ℕ) (refusal : Refusal) (c : CreationResult) → create-fit table pool ends image program c .answer ≡ NotCreated refusal → create-fit table pool ends image program c .table ≡ table
 unfolding create-fit
-not-fit table pool ends image program refusal (Fit next-id count s-len) e = not-behind table image program next-id s-len _ _ refusal (interned pool ends 0 0 program .answer) e
+not-fit table pool ends image program refusal (Fit next-id count s-len) e = not-behind table image program (next-id .0) s-len _ _ refusal (interned pool ends 0 0 program .answer) e
 not-fit table pool ends image program refusal (Unfit other) e = refl
 
 not-made : (table : List Task) (pool ends image program : List ℕ) (refusal : Refusal) → create table pool ends image program .answer ≡ NotCreated refusal → create table pool ends image program .table ≡ table
@@ -162,10 +162,10 @@ module _ (p : RunSummaryIn) (lines : List ℕ) (left : Left p lines) (typed : Ty
   count = left .machine .count
 
   -- the table has 256 slots, and each is sound
-  table-parts : Counts (length (p .table)) (left .machine .«next_id») count × (sound-slots (p .table) 0 count ≡ true)
+  table-parts : Counts (length (p .table)) (left .machine .«next_id» .0) count × (sound-slots (p .table) 0 count ≡ true)
   unfolding sound-table
   table-parts =
-      let both = and-eq-true-iff (sound-counts (length (p .table)) (left .machine .«next_id») count) (sound-slots (p .table) 0 count) .0 (left .bounded .tasks) in
+      let both = and-eq-true-iff (sound-counts (length (p .table)) (left .machine .«next_id» .0) count) (sound-slots (p .table) 0 count) .0 (left .bounded .tasks) in
       (sound-counted _ _ _ (both .0), both .1)
 
   -- a living task keeps to its numbers

@@ -159,7 +159,7 @@ module _ (table : List Task) (pool ends image program : List ℕ) (lent : length
   by-tests : (result : CreationResult) → creation-tests (length table) (length pool) (length program) image ≡ result → Creates image (create-as table (prepare-fit pool ends image program result))
   unfolding create-as prepare-fit unfit
   by-tests (Fit next-id count len) e =
-      with-entry next-id count len _ (fits (length table) (length pool) (length program) image next-id count len e) (intern-keeps pool ends 0 0 program lent (none-joined ends))
+      with-entry (next-id .0) count len _ (fits (length table) (length pool) (length program) image (next-id .0) count len e) (intern-keeps pool ends 0 0 program lent (none-joined ends))
   by-tests (Unfit refusal) e = not-creates refusal table pool ends image program
 
   creating : Creates image (create table pool ends image program)

@@ -115,7 +115,7 @@ framed-sound frames m sound = record { values = m .values; entries = m .entries;
 
 -- the ids are as they were
 pub record Same (machine after : Machine) : Type 0 where
-  pub next-id : after .«next_id» ≡ machine .«next_id»
+  pub next-id : after .«next_id» .0 ≡ machine .«next_id» .0
   pub count : after .count ≡ machine .count
 
 pub data WentOn (memory pool save : ℕ) (stack ends : List ℕ) (machine : Machine) : MachineResult → Type 0 where

@@ -80,7 +80,7 @@ lengths-hold memory pool save machine l =
     )
 
 record Tests (w : World) : Type 0 where
-  table : sound-table (w .table) (w .machine .«next_id») (w .machine .count) ≡ true
+  table : sound-table (w .table) (w .machine .«next_id» .0) (w .machine .count) ≡ true
   all-lengths : sound-lengths (length (w .memory)) (length (w .pool)) (length (w .save)) (w .machine) ≡ true
   frames : sound-frames (w .machine .frames) (w .machine .entries) ≡ true
   joined : end-to-end (w .ends) (w .machine .pool) (w .machine .entries) ≡ true
@@ -88,7 +88,7 @@ record Tests (w : World) : Type 0 where
 tests : (w : World) → is-sound w ≡ true → Tests w
 unfolding sound-world sound-record
 tests w e =
-    let a = and-eq-true-iff (sound-table (w .table) (w .machine .«next_id») (w .machine .count)) _ .0 e in
+    let a = and-eq-true-iff (sound-table (w .table) (w .machine .«next_id» .0) (w .machine .count)) _ .0 e in
     let b = and-eq-true-iff (sound-lengths (length (w .memory)) (length (w .pool)) (length (w .save)) (w .machine)) _ .0 (a .1) in
     let c = and-eq-true-iff (sound-frames (w .machine .frames) (w .machine .entries)) _ .0 (b .1) in
     record { table = a .0; all-lengths = b .0; frames = c .0; joined = c .1 }
@@ -110,11 +110,11 @@ machined w s =
       kept = l .kept;
     }
 
-pub tabled : (w : World) → Sound w → Tabled (w .table) (w .machine .«next_id») (w .machine .count)
+pub tabled : (w : World) → Sound w → Tabled (w .table) (w .machine .«next_id» .0) (w .machine .count)
 tabled w s = record { sound = tests w (s .tested) .table; titles = s .titles-lent }
 
 pub sound : (w : World) → Machined (length (w .memory)) (length (w .pool)) (length (w .save)) (w .stack) (w .ends) (w .machine)
-    → Tabled (w .table) (w .machine .«next_id») (w .machine .count) → Sound w
+    → Tabled (w .table) (w .machine .«next_id» .0) (w .machine .count) → Sound w
 sound w m t =
     let l : Lengths (length (w .memory)) (length (w .pool)) (length (w .save)) (w .machine) =
     record { high = m .values .high; few = m .values .few; used = m .values .there; small = m .entries .small; there = m .entries .there; kept = m .kept } in

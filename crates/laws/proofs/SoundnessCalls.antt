@@ -96,4 +96,4 @@ pub save-sound : (w : World) → Sound w → Sound (world-saved (host-save w))
 unfolding host-save
 save-sound w s =
     either (λ (r : SavedTo). Sound (world-saved r)) (is-sound w) _ _
-    (λ _. host-saved-sound w _ s (save-keeps (w .machine .«next_id») (w .table) (w .pool) (w .ends) (w .machine .entries) (w .save))) (λ _. s)
+    (λ _. host-saved-sound w _ s (save-keeps (w .machine .«next_id» .0) (w .table) (w .pool) (w .ends) (w .machine .entries) (w .save))) (λ _. s)

@@ -76,7 +76,7 @@ save-counted table op is = subst (λ (o : ℕ). Lived table table (creates o) (d
 module _ (w : World) (s : Sound w) where
   -- ---- an instruction that needs no task, frame or pool
 
-  settled-tabled : (registers : Registers) → Tabled (w .table) (settled (w .machine) registers .«next_id») (settled (w .machine) registers .count)
+  settled-tabled : (registers : Registers) → Tabled (w .table) (settled (w .machine) registers .«next_id» .0) (settled (w .machine) registers .count)
   unfolding settled
   settled-tabled registers = tabled w s
 
@@ -104,7 +104,7 @@ module _ (w : World) (s : Sound w) where
       steps _ (sound (world after (applied (w .table) slot change) stack memory pool ends (w .save)) m t) grows lived
   went-steps slot _ (acted.refused refusal change stack memory pool ends) = refused refusal
 
-  named : eqb (op w) T-CREATE ≡ true → wanted (w .stack) (w .machine) (op w) ≡ w .machine .«next_id»
+  named : eqb (op w) T-CREATE ≡ true → wanted (w .stack) (w .machine) (op w) ≡ w .machine .«next_id» .0
   unfolding wanted
   named is = simp is
 
@@ -134,7 +134,7 @@ module _ (w : World) (s : Sound w) where
 
   saves-steps : eqb (op w) S-SAVE ≡ true → Steps w (saves w)
   unfolding saves
-  saves-steps is = saved-steps _ is (save-keeps (w .machine .«next_id») (w .table) (w .pool) (w .ends) (w .machine .entries) (w .save))
+  saves-steps is = saved-steps _ is (save-keeps (w .machine .«next_id» .0) (w .table) (w .pool) (w .ends) (w .machine .entries) (w .save))
 
   -- ---- each
 
