@@ -35,16 +35,17 @@ use Rattle.laws.proofs.Creation.{create-sound}
 use Rattle.listing.specs.declared.Head.{Head}
 use Rattle.listing.specs.declared.Head.the-variants as head
 use Rattle.listing.specs.declared.Counted.the-variants.{Values, Tasks}
-use Rattle.listing.specs.Listing.{Read, line-of-count, lines-of-tasks, listing}
+use Rattle.listing.specs.Listing.{Read, values-of, line-of-count, lines-of-tasks, listing}
+use Rattle.listing.proofs.LineByLine.{values-length}
 use Rattle.listing.proofs.Short.{numbers-told, head-short, count-short, Small, task-short, tasks-short, living-most}
 use Rattle.host.specs.Lines.{task-lines}
 use Rattle.host.specs.Hosting.{to-save, height-of, performed, RunSummaryIn, with-lines, with-save, with-run, with-creation, perform, without-table, own}
-use Rattle.host.specs.Listings.{Listing, listing-of, with-lengths, values-of, list, list-run}
+use Rattle.host.specs.Listings.{Listing, listing-of, with-lengths, list, list-run}
 use Rattle.host.specs.Answering.{new-stack, new-ends, new-pool, new-lines, new-scratch, with-listing, with-run as list-after, rafenuma-run}
 use Rattle.host_listing.proofs.Tasks.{text-of}
 use Rattle.host_listing.proofs.Whole.{Short, text, text-length, Fits, whole-listing, no-listing, tasks-listed}
 use Rattle.host_listing.proofs.Refusals.{stays-stopped}
-use Rattle.host_listing.proofs.Values.{taken-bytes, values-short, values-length, lines-short}
+use Rattle.host_listing.proofs.Values.{taken-bytes, values-short, lines-short}
 
 -- ---- what a run leaves
 
