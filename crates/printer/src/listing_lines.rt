@@ -10,6 +10,7 @@ use listing::lines::line_count;
 use listing::lines::words_of;
 use machine::CreateResult;
 use storage::Task;
+use text::LineResult;
 
 // Room for any value's line: a text of 65,535 bytes, 16,383 numbers, or 65,536 bytes in hex.
 fn value_room() -> [u8; 196608] {
@@ -43,15 +44,7 @@ pub(crate) fn listed(answered: CallOutcome) -> usize
     1000
 }
 
-// Whether a line is a value's, where so many are listed.
-fn is_value(values: usize, number: usize) -> bool {
-    if number < 2 {
-        return false;
-    }
-    number - 2 < values
-}
-
-// A line of the listing, by its number.
+// A line of the listing, by its number, where a room holds it.
 fn print_line<'a>(
     room: &mut [u8],
     words: &[u64],
@@ -63,7 +56,7 @@ fn print_line<'a>(
     living: usize,
     task: Task,
     number: usize,
-) {
+) -> LineResult {
     let line = line_at(
         room,
         words,
@@ -77,6 +70,7 @@ fn print_line<'a>(
         number,
     );
     emit(room, line);
+    line
 }
 
 // A line of the listing of a call, by its number, with the count of living tasks and the task in the line's slot.
@@ -94,27 +88,10 @@ pub(crate) fn show_line(
 {
     let head = answered.head;
     let entries = answered.machine.entries;
-    let values = listed(answered);
-    let words = words_of(stack, values);
+    let words = words_of(stack, listed(answered));
     let used = slices::part(memory, 0, answered.machine.memory);
-    if is_value(values, number) {
-        let mut room = value_room();
-        print_line(
-            &mut room,
-            words,
-            used,
-            pool,
-            ends,
-            head,
-            entries,
-            living,
-            task,
-            number,
-        );
-        return;
-    }
     let mut room = io::buffer();
-    print_line(
+    match print_line(
         &mut room,
         words,
         used,
@@ -125,7 +102,24 @@ pub(crate) fn show_line(
         living,
         task,
         number,
-    );
+    ) {
+        LineResult::Line(_) => {}
+        LineResult::NoLine(_) => {
+            let mut large = value_room();
+            print_line(
+                &mut large,
+                words,
+                used,
+                pool,
+                ends,
+                head,
+                entries,
+                living,
+                task,
+                number,
+            );
+        }
+    }
 }
 
 // The listing of a refusal with no values and no tasks.
