@@ -4,7 +4,7 @@ use denote.Ref.{now}
 use mathlib.Core.Path.{_≡_}
 use lib.ListN.{take}
 use Rattle.labels.specs.Check.{admission}
-use Rattle.listing.specs.Listing.{values-of, line-of-count, line-of-task, line-by, line-count, slot-shown}
+use Rattle.listing.specs.Listing.{height-of, values-of, line-of-count, line-of-task, line-by, line-count, slot-shown}
 use Rattle.report.specs.Reports.{line-of-report, text-of-word}
 use Rattle.text.specs.Lines.{lined, put-line}
 use Rattle.verdict.specs.Verdicts.{line-of-verdict}
@@ -26,6 +26,13 @@ listing-task-line _ out task r =
 
 pub listing-task-line-says : {M : Type 1} → listing.task_line.task_line.Statement.statement M → Answers M listing.task_line.task_line.ended listing.task_line.task_line.Symbol.routine listing-task-line
 listing-task-line-says met = met
+
+abbrev pub listing-height-of : Line listing.lines.height_of.ended
+listing-height-of _ head height r =
+    r ≡ height-of (head .entry) (height .entry)
+
+pub listing-height-of-says : {M : Type 1} → listing.lines.height_of.Statement.statement M → Answers M listing.lines.height_of.ended listing.lines.height_of.Symbol.routine listing-height-of
+listing-height-of-says met = met
 
 abbrev pub listing-words-of : Line listing.lines.words_of.ended
 listing-words-of _ stack height r =

@@ -13,7 +13,7 @@ use Rattle.text.specs.Lines.{formed, line, said, lined, put-line, hex-count, pa
 use Rattle.memory.specs.declared.unbox.Return.the-variants.{U32, CallData, VecU32, Null, NoReturn}
 use Rattle.listing.specs.declared.Head.the-variants.{Done, Paused, Refused}
 use Rattle.listing.specs.declared.Counted.the-variants.{Values, Tasks}
-use Rattle.listing.specs.Listing.{line-of-refusal, line-of-head, line-of-count, line-of-numbers, line-of-value, line-of-task, lines-of-values, lines-of-tasks, listing, line-behind, line-by, line-count, slot-shown}
+use Rattle.listing.specs.Listing.{line-of-refusal, line-of-head, line-of-count, line-of-numbers, line-of-value, line-of-task, lines-of-values, lines-of-tasks, listing, height-of, line-behind, line-by, line-count, slot-shown}
 
 -- C1, whole
 pub c1 : listing (Done 5) (record { answer = U32 99; part = [] } ∷ []) [] ≡ ascii "done 5\nvalues 1\nu32 99\ntasks 0\n"
@@ -46,6 +46,15 @@ c1-first-slot = refl
 pub c1-third-slot : slot-shown 1 6 ≡ 2
 unfolding slot-shown
 c1-third-slot = refl
+
+-- the values of a run that is done are listed, and those of a paused one are not
+pub done-listed : height-of (Done 5) 3 ≡ 3
+unfolding height-of
+done-listed = refl
+
+pub paused-not-listed : height-of (Paused 5) 3 ≡ 0
+unfolding height-of
+paused-not-listed = refl
 
 -- the words that are listed are those at the bottom, and no more than there are
 pub words-listed : take 2 (7 ∷ 8 ∷ 9 ∷ []) ≡ 7 ∷ 8 ∷ []

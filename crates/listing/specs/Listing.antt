@@ -79,6 +79,13 @@ unfoldable pub values-of : List ℕ → List ℕ → List ℕ → ℕ → List �
 values-of memory pool ends entries [] = []
 values-of memory pool ends entries (word ∷ more) = read-of memory pool ends entries word ∷ values-of memory pool ends entries more
 
+-- how high the stack is that is listed: that of a run that is done
+unfoldable pub height-of : Head → ℕ → ℕ
+height-of (Done count) height = height
+height-of (Paused count) height = 0
+height-of (Refused refusal) height = 0
+height-of (Saved length) height = 0
+
 -- the lines of values, bottom first
 unfoldable pub lines-of-values : List Read → List ℕ
 lines-of-values [] = []

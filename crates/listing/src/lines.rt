@@ -1,9 +1,9 @@
-// The lines of a listing by their numbers, counted from 0: how many there are, the slot that each shows, and each of them into a lent buffer.
+// The lines of a listing by their numbers, counted from 0: the words that are listed, how many lines there are, the slot that each shows, and each of them into a lent buffer.
 ghost use mathlib.Core.Path.{_≡_};
 ghost use Prim.Native.Nat.{_%_, _^_};
 ghost use lib.ListN.{take};
 ghost use Rattle.text.specs.Lines.{lined, put-line};
-ghost use Rattle.listing.specs.Listing.{values-of, line-by, line-count, slot-shown};
+ghost use Rattle.listing.specs.Listing.{height-of, values-of, line-by, line-count, slot-shown};
 use crate::Counted;
 use crate::Head;
 use crate::count_line;
@@ -12,6 +12,18 @@ use crate::task_line::task_line;
 use crate::value_line::value_line;
 use storage::Task;
 use text::LineResult;
+
+// How high the stack is that is listed: that of a run that is done.
+pub fn height_of(head: Head, height: usize) -> usize
+    ensures { λ r. ⌜ r ≡ height-of head height ⌝ }
+{
+    match head {
+        Head::Done(_) => height,
+        Head::Paused(_) => 0,
+        Head::Refused(_) => 0,
+        Head::Saved(_) => 0,
+    }
+}
 
 // The words of a stack that are listed: the first so many.
 pub fn words_of<'a>(stack: &'a [u64], height: usize) -> &'a [u64]

@@ -1,10 +1,12 @@
 // A line of the listing on standard output. What is printed is no part of a contract.
 ghost use mathlib.Core.Path.{_≡_};
-ghost use Prim.Native.Nat.{_≤_};
+ghost use Rattle.text.specs.Lines.{lined, put-line};
+ghost use Rattle.printer.specs.Listed.{listed, call-line};
 use crate::CallOutcome;
 use crate::emit;
 use errors::Refusal;
 use listing::Head;
+use listing::lines::height_of;
 use listing::lines::line_at;
 use listing::lines::line_count;
 use listing::lines::words_of;
@@ -22,55 +24,47 @@ fn no_ends() -> [u32; 1024] {
     [0u32; 1024]
 }
 
-// How high the stack is that is listed: that of a run that is done.
-fn height_of(answered: CallOutcome) -> usize {
-    let head = answered.head;
-    match head {
-        Head::Done(_) => answered.machine.height,
-        Head::Paused(_) => 0,
-        Head::Refused(_) => 0,
-        Head::Saved(_) => 0,
-    }
-}
-
 // How many values are listed: no more than a stack has.
 pub(crate) fn listed(answered: CallOutcome) -> usize
-    ensures { λ r. ⌜ r ≤ 1000 ⌝ }
+    ensures { λ r. ⌜ r ≡ listed answered ⌝ }
 {
-    let height = height_of(answered);
+    let head = answered.head;
+    let height = height_of(head, answered.machine.height);
     if height < 1000 {
         return height;
     }
     1000
 }
 
-// A line of the listing, by its number, where a room holds it.
-fn print_line<'a>(
+// A line of the listing of a call, by its number, into a room.
+fn call_line<'a>(
     room: &mut [u8],
-    words: &[u64],
+    stack: &[u64],
     memory: &'a [u8],
     pool: &'a [u8],
     ends: &[u32; 1024],
-    head: Head,
-    entries: usize,
+    answered: CallOutcome,
     living: usize,
     task: Task,
     number: usize,
-) -> LineResult {
-    let line = line_at(
+) -> LineResult
+    ensures { λ r. ⌜ lined r (now (room .exit)) ≡ put-line (now (room .entry)) (call-line answered (now (stack .entry)) (now (memory .entry)) (now (pool .entry)) (now (ends .entry)) living task number) ⌝ }
+{
+    let head = answered.head;
+    let words = words_of(stack, listed(answered));
+    let used = slices::part(memory, 0, answered.machine.memory);
+    line_at(
         room,
         words,
-        memory,
+        used,
         pool,
         ends,
         head,
-        entries,
+        answered.machine.entries,
         living,
         task,
         number,
-    );
-    emit(room, line);
-    line
+    )
 }
 
 // A line of the listing of a call, by its number, with the count of living tasks and the task in the line's slot.
@@ -86,38 +80,36 @@ pub(crate) fn show_line(
 )
     ensures { λ _. ⌜ (now (stack .exit) ≡ now (stack .entry)) × (now (memory .exit) ≡ now (memory .entry)) × (now (pool .exit) ≡ now (pool .entry)) × (now (ends .exit) ≡ now (ends .entry)) ⌝ }
 {
-    let head = answered.head;
-    let entries = answered.machine.entries;
-    let words = words_of(stack, listed(answered));
-    let used = slices::part(memory, 0, answered.machine.memory);
     let mut room = io::buffer();
-    match print_line(
+    let line = call_line(
         &mut room,
-        words,
-        used,
+        stack,
+        memory,
         pool,
         ends,
-        head,
-        entries,
+        answered,
         living,
         task,
         number,
-    ) {
-        LineResult::Line(_) => {}
+    );
+    match line {
+        LineResult::Line(_) => {
+            emit(&room, line);
+        }
         LineResult::NoLine(_) => {
             let mut large = value_room();
-            print_line(
+            let long = call_line(
                 &mut large,
-                words,
-                used,
+                stack,
+                memory,
                 pool,
                 ends,
-                head,
-                entries,
+                answered,
                 living,
                 task,
                 number,
             );
+            emit(&large, long);
         }
     }
 }
@@ -132,7 +124,7 @@ fn show_refusal(refusal: Refusal) {
     let count = line_count(0, 0);
     let mut number = 0;
     while number < count {
-        print_line(
+        let line = line_at(
             &mut room,
             &words,
             &bytes,
@@ -144,6 +136,7 @@ fn show_refusal(refusal: Refusal) {
             blank,
             number,
         );
+        emit(&room, line);
         number = number + 1;
     }
 }

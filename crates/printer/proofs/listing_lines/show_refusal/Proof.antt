@@ -27,20 +27,26 @@ line-count-requires c κs = search needs
 loop-holds : tie.Need-loop-holds Inv-loop μ-loop
 loop-holds c = search needs
 
-slice-aggregate-print-line : tie.Need-slice-aggregate-print-line Inv-loop μ-loop
-slice-aggregate-print-line c = search needs
+slice-aggregate-line-at : tie.Need-slice-aggregate-line-at Inv-loop μ-loop
+slice-aggregate-line-at c = search needs
 
-slice-aggregate-print-line-2 : tie.Need-slice-aggregate-print-line-2 Inv-loop μ-loop
-slice-aggregate-print-line-2 c = search needs
+slice-aggregate-line-at-2 : tie.Need-slice-aggregate-line-at-2 Inv-loop μ-loop
+slice-aggregate-line-at-2 c = search needs
 
-slice-aggregate-print-line-3 : tie.Need-slice-aggregate-print-line-3 Inv-loop μ-loop
-slice-aggregate-print-line-3 c = search needs
+slice-aggregate-line-at-3 : tie.Need-slice-aggregate-line-at-3 Inv-loop μ-loop
+slice-aggregate-line-at-3 c = search needs
 
-slice-aggregate-print-line-4 : tie.Need-slice-aggregate-print-line-4 Inv-loop μ-loop
-slice-aggregate-print-line-4 c = search needs
+slice-aggregate-line-at-4 : tie.Need-slice-aggregate-line-at-4 Inv-loop μ-loop
+slice-aggregate-line-at-4 c = search needs
 
-print-line-requires : tie.Need-print-line-requires Inv-loop μ-loop
-print-line-requires c κs = search needs
+line-at-requires : tie.Need-line-at-requires Inv-loop μ-loop
+line-at-requires c κs = search needs
+
+slice-aggregate-emit : tie.Need-slice-aggregate-emit Inv-loop μ-loop
+slice-aggregate-emit c = search needs
+
+emit-requires : tie.Need-emit-requires Inv-loop μ-loop
+emit-requires c κs = search needs
 
 add-number : tie.Need-add-number Inv-loop μ-loop
 add-number c = search needs
@@ -65,11 +71,13 @@ show-refusal-spec =
     buffer-requires
     line-count-requires
     loop-holds
-    slice-aggregate-print-line
-    slice-aggregate-print-line-2
-    slice-aggregate-print-line-3
-    slice-aggregate-print-line-4
-    print-line-requires
+    slice-aggregate-line-at
+    slice-aggregate-line-at-2
+    slice-aggregate-line-at-3
+    slice-aggregate-line-at-4
+    line-at-requires
+    slice-aggregate-emit
+    emit-requires
     add-number
     loop-less
     loop-again
