@@ -1,3 +1,4 @@
 mod Values
 mod Bytes
 pub mod Performing
+pub mod Listings
