@@ -152,7 +152,7 @@ module _ (w : World) (stale : ℕ) (h : Facts w) (bytes : Bytes (w .pool)) where
       goes w stale bytes (looping r at-place height loops) (w .stack) (w .memory) _
       (ap (λ (l : List Loop). shown (record { instructions-ref = current (w .machine .frames) .entry .0; pc = at-place }) stale (callers (w .machine .frames))
       (values-of height (w .stack)) l (take (w .machine .memory) (w .memory))
-      (entries-of (w .pool) (w .ends) (w .machine .entries)) (storage-of (w .machine .«next_id») (w .machine .count) (w .table))) e)
+      (entries-of (w .pool) (w .ends) (w .machine .entries)) (storage-of (w .machine .«next_id» .0) (w .machine .count) (w .table))) e)
 
   -- one loop more
   loop-pushed : (at-place height : ℕ) (loops : Loops) (new : Loop) → loops .count ≤ 2

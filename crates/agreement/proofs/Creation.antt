@@ -205,8 +205,8 @@ module _ (table : List Task) (pool ends image program : List ℕ) where
   by-tests : (result : CreationResult) → creation-tests (length table) (length pool) (length program) image ≡ result → Creates table pool ends image program (create-as table (prepare-fit pool ends image program result))
   unfolding create-as prepare-fit with-program unfit
   by-tests (Fit next-id count len) e =
-      let f = fits (length table) (length pool) (length program) image next-id count len e in
-      rw (when-room pool ends 0 0 program (first-room next-id count len f)) (creates next-id count len f)
+      let f = fits (length table) (length pool) (length program) image (next-id .0) count len e in
+      rw (when-room pool ends 0 0 program (first-room (next-id .0) count len f)) (creates (next-id .0) count len f)
   by-tests (Unfit number) e = not-creates number table pool ends image program
 
   creating : Creates table pool ends image program (create table pool ends image program)

@@ -32,7 +32,7 @@ pub record Facts (w : World) : Type 0 where
   pub main : w .machine .frames .main .entry .0 < w .machine .entries
   pub frame : current (w .machine .frames) .entry .0 < w .machine .entries
   pub ends : end-to-end (w .ends) (w .machine .pool) (w .machine .entries) ≡ true
-  pub counts : Counts (length (w .table)) (w .machine .«next_id») (w .machine .count)
+  pub counts : Counts (length (w .table)) (w .machine .«next_id» .0) (w .machine .count)
   pub living : (slot : ℕ) → getD (w .table) slot blank .living ≡ true → Living (getD (w .table) slot blank) slot (w .machine .count)
   pub stack-lent : length (w .stack) ≡ 1000
   pub ends-lent : length (w .ends) ≡ 1024
@@ -84,7 +84,7 @@ unfolding sound-table
 facts {w} s =
     let m = w .machine in
     let parts = machined w s in
-    let d = both (sound-counts (length (w .table)) (m .«next_id») (m .count)) (sound-slots (w .table) 0 (m .count)) (tabled w s .sound) in
+    let d = both (sound-counts (length (w .table)) (m .«next_id» .0) (m .count)) (sound-slots (w .table) 0 (m .count)) (tabled w s .sound) in
     let f = framed (m .frames) (m .entries) (parts .frames) in
     record {
       height = parts .values .high;

@@ -38,7 +38,7 @@ module _ (w : World) (h : Facts w) where
   all = entries-of (w .pool) (w .ends) (w .machine .entries)
 
   -- the task of an id in what is shown
-  task-shown : (id : ℕ) → storage.get (storage-of (w .machine .«next_id») (w .machine .count) (w .table)) id ≡ task-of (getD (w .table) id blank)
+  task-shown : (id : ℕ) → storage.get (storage-of (w .machine .«next_id» .0) (w .machine .count) (w .table)) id ≡ task-of (getD (w .table) id blank)
   unfolding storage.get storage-of
   task-shown id = slots.get-is w h id
 
@@ -94,7 +94,7 @@ module _ (w : World) (h : Facts w) where
           (no-entry (slot .«instructions_ref» .0) slot)
       by false names text l n t = rw (slots.no-task slot l, finds-none id slot l) (no-task (id .0) slot)
 
-module _ (w : World) (s : Sound w) (vm : VM) (storage-is : storage-of (w .machine .«next_id») (w .machine .count) (w .table) ≡ vm .storage)
+module _ (w : World) (s : Sound w) (vm : VM) (storage-is : storage-of (w .machine .«next_id» .0) (w .machine .count) (w .table) ≡ vm .storage)
     (pool-is : entries-of (w .pool) (w .ends) (w .machine .entries) ≡ vm .instructions-pool) where
   pub same-machine : memory-in-use w ≡ vm .memory → SameMachine w vm
   unfolding instructions-of rust-instructions-of

@@ -151,7 +151,7 @@ module _ (w : World) (stale : ℕ) (h : Facts w) (bytes : Bytes (w .pool)) where
   -- ---- the instruction
 
   abbrev saving : Measured → SavedTable
-  saving x = saved-as (m .«next_id») (w .table) (w .pool) (w .ends) (w .save) x
+  saving x = saved-as (m .«next_id» .0) (w .table) (w .pool) (w .ends) (w .save) x
 
   abbrev by-measure : Measured → StepResult
   by-measure x = saves-went w (saving x .save) (save-went m (saving x .answer))
@@ -180,12 +180,12 @@ module _ (w : World) (stale : ℕ) (h : Facts w) (bytes : Bytes (w .pool)) where
       by : (b : Bool) → leb size (length (w .save)) ≡ b → Agree w (by-measure (measured size count)) (ok (at (view stale w) (p + 1) (values-of (m .height) (w .stack))))
       by true e = rw e (saved-goes _ size)
       by false e =
-          let long : length (header (m .«next_id») (length (image-tasks entries tasks)) ++ records (image-tasks entries tasks)) ≡ 14 + length (records (image-tasks entries tasks)) = length-append (header (m .«next_id») (length (image-tasks entries tasks))) (records (image-tasks entries tasks)) ∙ ap (λ (n : ℕ). n + length (records (image-tasks entries tasks))) (header-length (m .«next_id») (length (image-tasks entries tasks))) in
-          let over : length (w .save) < length (header (m .«next_id») (length (image-tasks entries tasks)) ++ records (image-tasks entries tasks)) = let z : length (w .save) < size = leb-false _ _ e in omega arith in
+          let long : length (header (m .«next_id» .0) (length (image-tasks entries tasks)) ++ records (image-tasks entries tasks)) ≡ 14 + length (records (image-tasks entries tasks)) = length-append (header (m .«next_id» .0) (length (image-tasks entries tasks))) (records (image-tasks entries tasks)) ∙ ap (λ (n : ℕ). n + length (records (image-tasks entries tasks))) (header-length (m .«next_id» .0) (length (image-tasks entries tasks))) in
+          let over : length (w .save) < length (header (m .«next_id» .0) (length (image-tasks entries tasks)) ++ records (image-tasks entries tasks)) = let z : length (w .save) < size = leb-false _ _ e in omega arith in
           rw e (lacks (long-image over))
 
   pub s-save : p < length (code w) → Agree w (saves w) (rust.s-save (p + 1) (view stale w))
   unfolding saves save-by-slots rust.s-save rust-storage.save view storage-of
   s-save inside =
-      rw (← save-table-is (m .«next_id») (w .table) (w .pool) (w .ends) (m .entries) (w .save), h .counts .slots-are)
+      rw (← save-table-is (m .«next_id» .0) (w .table) (w .pool) (w .ends) (m .entries) (w .save), h .counts .slots-are)
       (all-saved by-measure (ok (at (view stale w) (p + 1) (values-of (m .height) (w .stack)))) not-measured (length (w .save) + 1) 256 0 (omega arith) 0 14 (λ count size fits. measured-agrees inside count size fits))

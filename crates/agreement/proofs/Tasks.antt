@@ -167,7 +167,7 @@ module _ (w : World) (stale : ℕ) (h : Facts w) (bytes : Bytes (w .pool)) where
   -- on with another record in a slot below the count
   slot-goes : (place height i : ℕ) (task : Task) (new : Option TaskVM) → i < w .machine .count → task-of task ≡ new
       → Agree w (next (world (settled (w .machine) (moved r place height)) (set (w .table) i task) (w .stack) (w .memory) (w .pool) (w .ends) (w .save)))
-      (ok (with-storage (at (view stale w) place (values-of height (w .stack))) (record { tasks-vm = set tasks i new; next-id = w .machine .«next_id» })))
+      (ok (with-storage (at (view stale w) place (values-of height (w .stack))) (record { tasks-vm = set tasks i new; next-id = w .machine .«next_id» .0 })))
   unfolding registers-of view storage-of
   slot-goes place height i task new less is =
       goes-by stale bytes (view-settled stale (w .machine) (moved r place height) (set (w .table) i task) (w .stack) (w .memory) (w .pool) (w .ends) (w .save) ∙ rw (put-is w h i task less, is))
@@ -239,7 +239,7 @@ module _ (w : World) (stale : ℕ) (h : Facts w) (bytes : Bytes (w .pool)) where
 
   -- a change of a task that the Rust writes back
   abbrev writes : ℕ → ℕ → TaskVM → List ℕ → Out VM
-  writes place i after stack = ok (with-storage (at (view stale w) place stack) (rust-storage.changed (storage-of (w .machine .«next_id») (w .machine .count) (w .table)) i after))
+  writes place i after stack = ok (with-storage (at (view stale w) place stack) (rust-storage.changed (storage-of (w .machine .«next_id» .0) (w .machine .count) (w .table)) i after))
 
   set-owner : (place height field : ℕ) (k : ℕ → TaskVM → List ℕ → Out VM) → height ≤ w .machine .height
       → ((i j : ℕ) → slot i .living ≡ true → j < w .machine .height → Agree w (tasked-as w i (set-popped (w .memory) r place field (slot i) (pop (w .stack) j))) (k i (held (slot i)) (values-of j (w .stack))))
@@ -329,7 +329,7 @@ module _ (w : World) (stale : ℕ) (h : Facts w) (bytes : Bytes (w .pool)) where
   -- ---- T_CREATE
 
   abbrev next-id : ℕ
-  next-id = w .machine .«next_id»
+  next-id = w .machine .«next_id» .0
 
   counted : len-after (w .machine .count) next-id ≡ (next-id + 1) % 2 ^ 32
   unfolding len-after

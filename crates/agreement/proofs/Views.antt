@@ -57,7 +57,7 @@ module _ (stale : ℕ) (m : Machine) (registers : Registers) (table : List Task)
   pub view-settled : view stale (world (settled m registers) table stack memory pool ends save)
       ≡ shown (record { instructions-ref = current (m .frames) .entry .0; pc = registers .place }) stale (callers (m .frames))
       (values-of (registers .height) stack) (loops-of (registers .loops)) (take (registers .memory) memory)
-      (entries-of pool ends (m .entries)) (storage-of (m .«next_id») (m .count) table)
+      (entries-of pool ends (m .entries)) (storage-of (m .«next_id» .0) (m .count) table)
   unfolding view settled
   view-settled = rw (current-is (m .frames) (record { entry = current (m .frames) .entry; place = registers .place }), callers-are (m .frames) (record { entry = current (m .frames) .entry; place = registers .place }))
 
@@ -78,7 +78,7 @@ module _ (w : World) (stale : ℕ) (bytes : Bytes (w .pool)) where
   pub goes : (registers : Registers) (stack memory : List ℕ) (vm : VM)
       → shown (record { instructions-ref = current (w .machine .frames) .entry .0; pc = registers .place }) stale (callers (w .machine .frames))
       (values-of (registers .height) stack) (loops-of (registers .loops)) (take (registers .memory) memory)
-      (entries-of (w .pool) (w .ends) (w .machine .entries)) (storage-of (w .machine .«next_id») (w .machine .count) (w .table)) ≡ vm
+      (entries-of (w .pool) (w .ends) (w .machine .entries)) (storage-of (w .machine .«next_id» .0) (w .machine .count) (w .table)) ≡ vm
       → Agree w (stepped w (on-memory (Next registers) stack memory)) (ok vm)
   unfolding inner-did
   goes registers stack memory vm e =
@@ -92,7 +92,7 @@ module _ (w : World) (stale : ℕ) (bytes : Bytes (w .pool)) where
       goes (moved (registers-of (w .machine)) place height) stack (w .memory) _
       (ap (λ (l : List ℕ). shown (record { instructions-ref = current (w .machine .frames) .entry .0; pc = place }) stale (callers (w .machine .frames))
       l (loops-of (w .machine .loops)) (take (w .machine .memory) (w .memory))
-      (entries-of (w .pool) (w .ends) (w .machine .entries)) (storage-of (w .machine .«next_id») (w .machine .count) (w .table))) e)
+      (entries-of (w .pool) (w .ends) (w .machine .entries)) (storage-of (w .machine .«next_id» .0) (w .machine .count) (w .table))) e)
 
   -- a value more, at a height
   pub pushed : Facts w → (place height value : ℕ)

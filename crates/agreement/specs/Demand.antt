@@ -93,7 +93,7 @@ rust-instructions-of vm id = rust-instructions-in (vm .instructions-pool) (get (
 
 -- the same tasks and next id, the same memory in use, the same pool as a list of entries, and each task's instructions the same bytes
 pub record SameMachine (w : World) (vm : VM) : Type 0 where
-  pub tasks : storage-of (w .machine .«next_id») (w .machine .count) (w .table) ≡ vm .storage
+  pub tasks : storage-of (w .machine .«next_id» .0) (w .machine .count) (w .table) ≡ vm .storage
   pub memory : memory-in-use w ≡ vm .memory
   pub pool : entries-of (w .pool) (w .ends) (w .machine .entries) ≡ vm .instructions-pool
   pub instructions : (id : ℕ) → instructions-of w id ≡ rust-instructions-of vm id

@@ -62,4 +62,4 @@ view stale w =
     (loops-of (w .machine .loops))
     (take (w .machine .memory) (w .memory))
     (entries-of (w .pool) (w .ends) (w .machine .entries))
-    (storage-of (w .machine .«next_id») (w .machine .count) (w .table))
+    (storage-of (w .machine .«next_id» .0) (w .machine .count) (w .table))

@@ -131,7 +131,7 @@ lent save program =
       memory = 0;
       pool = length program;
       entries = 1;
-      «next_id» = 0;
+      «next_id» = record { 0 = 0 };
       count = 0;
       saved = 0;
     }) (replicate 256 blank) (replicate 1000 0) (replicate 64 0) (program ++ replicate 16 0) (length program ∷ replicate 1023 0) save
@@ -209,7 +209,7 @@ pub record Instructions : Type 0 where
   -- JUMP_IF_FALSE on another value than FALSE skips its operand, even past the end
   pub jump-cut : (after Jump-cut .outcome ≡ Done) × (after Jump-cut .left ≡ 98)
   -- ids are never used twice: S_LEN is 2 after a task was created, deleted and another created
-  pub ids : (after (A ++ Delete ++ A) .world .machine .«next_id» ≡ 2) × (after (A ++ Delete ++ A) .world .machine .count ≡ 2)
+  pub ids : (after (A ++ Delete ++ A) .world .machine .«next_id» .0 ≡ 2) × (after (A ++ Delete ++ A) .world .machine .count ≡ 2)
   -- S_SAVE writes the image from the save buffer's start; a buffer too short is 24
   pub save : run 100 (lent (replicate 15 9) Save) .world .save ≡ 0x08 ∷ 0 ∷ 0 ∷ 0 ∷ 0x01 ∷ 0 ∷ 0 ∷ 0 ∷ 0 ∷ 0 ∷ 0 ∷ 0 ∷ 0 ∷ 0 ∷ 9 ∷ []
   -- all slots are saved, and not as many as there are tasks: here 0 is deleted and 1 lives

@@ -117,8 +117,8 @@ pub values-to-u32-val-says : {M : Type 1} → values.boxing.to_u32_val.Statement
 values-to-u32-val-says met = met
 
 abbrev pub values-to-calldata-val : Line values.boxing.to_calldata_val.ended
-values-to-calldata-val _ index r =
-    r ≡ to-calldata-val (index .entry)
+values-to-calldata-val _ reference r =
+    r ≡ to-calldata-val (reference .entry .0)
 
 pub values-to-calldata-val-says : {M : Type 1} → values.boxing.to_calldata_val.Statement.statement M → Answers M values.boxing.to_calldata_val.ended values.boxing.to_calldata_val.Symbol.routine values-to-calldata-val
 values-to-calldata-val-says met = met

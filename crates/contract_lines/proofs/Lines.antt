@@ -107,7 +107,7 @@ entering-op-end-call-says met = met
 
 abbrev pub tables-save-table : Line tables.save_table.ended
 tables-save-table _ table pool ends save entries next-id r =
-    held (saved-table r (now (save .exit))) (now (table .exit)) (now (pool .exit)) (now (ends .exit)) ≡ held (save-table (next-id .entry) (now (table .entry)) (now (pool .entry)) (now (ends .entry)) (entries .entry) (now (save .entry))) (now (table .entry)) (now (pool .entry)) (now (ends .entry))
+    held (saved-table r (now (save .exit))) (now (table .exit)) (now (pool .exit)) (now (ends .exit)) ≡ held (save-table (next-id .entry .0) (now (table .entry)) (now (pool .entry)) (now (ends .entry)) (entries .entry) (now (save .entry))) (now (table .entry)) (now (pool .entry)) (now (ends .entry))
 
 pub tables-save-table-says : {M : Type 1} → tables.save_table.Statement.statement M → Answers M tables.save_table.ended tables.save_table.Symbol.routine tables-save-table
 tables-save-table-says met = met

@@ -121,7 +121,7 @@ stepper-advance-says met = met
 
 abbrev pub task-opcodes-op-t-create : Line task-opcodes.t_create.op_t_create.ended
 task-opcodes-op-t-create _ stack memory registers next next-id task r =
-    r ≡ op-t-create (now (stack .entry)) (now (memory .entry)) (registers .entry) (next .entry) (next-id .entry) (task .entry)
+    r ≡ op-t-create (now (stack .entry)) (now (memory .entry)) (registers .entry) (next .entry) (next-id .entry .0) (task .entry)
 
 pub task-opcodes-op-t-create-says : {M : Type 1} → task-opcodes.t_create.op_t_create.Statement.statement M → Answers M task-opcodes.t_create.op_t_create.ended task-opcodes.t_create.op_t_create.Symbol.routine task-opcodes-op-t-create
 task-opcodes-op-t-create-says met = met

@@ -32,14 +32,14 @@ storage-find-says met = met
 
 abbrev pub storage-room : Line storage.ids.room.ended
 storage-room _ next-id title-len r =
-    r ≡ room (next-id .entry) (title-len .entry)
+    r ≡ room (next-id .entry .0) (title-len .entry)
 
 pub storage-room-says : {M : Type 1} → storage.ids.room.Statement.statement M → Answers M storage.ids.room.ended storage.ids.room.Symbol.routine storage-room
 storage-room-says met = met
 
 abbrev pub storage-len-after : Line storage.ids.len_after.ended
 storage-len-after _ count id r =
-    r ≡ len-after (count .entry) (id .entry)
+    r ≡ len-after (count .entry) (id .entry .0)
 
 pub storage-len-after-says : {M : Type 1} → storage.ids.len_after.Statement.statement M → Answers M storage.ids.len_after.ended storage.ids.len_after.Symbol.routine storage-len-after
 storage-len-after-says met = met
@@ -130,7 +130,7 @@ table-living-says met = met
 
 abbrev pub table-sound : Line table.slots.sound.ended
 table-sound _ table next-id count r =
-    after r (now (table .exit)) ≡ after (sound-table (now (table .entry)) (next-id .entry) (count .entry)) (now (table .entry))
+    after r (now (table .exit)) ≡ after (sound-table (now (table .entry)) (next-id .entry .0) (count .entry)) (now (table .entry))
 
 pub table-sound-says : {M : Type 1} → table.slots.sound.Statement.statement M → Answers M table.slots.sound.ended table.slots.sound.Symbol.routine table-sound
 table-sound-says met = met
@@ -151,7 +151,7 @@ image-save-slot-says met = met
 
 abbrev pub image-write-header : Line image.writing.write_header.ended
 image-write-header _ save next-id count r =
-    put r (now (save .exit)) ≡ puts (now (save .entry)) 0 (header (next-id .entry) (count .entry))
+    put r (now (save .exit)) ≡ puts (now (save .entry)) 0 (header (next-id .entry .0) (count .entry))
 
 pub image-write-header-says : {M : Type 1} → image.writing.write_header.Statement.statement M → Answers M image.writing.write_header.ended image.writing.write_header.Symbol.routine image-write-header
 image-write-header-says met = met

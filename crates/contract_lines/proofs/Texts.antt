@@ -1,8 +1,10 @@
--- The contract line of each exported function that puts a line of text, said a second time; what this shows stands in Lines.
+-- The contract line of each exported function of text and of the listing, said a second time; what this shows stands in Lines.
+use Prim.Native.Nat.{_%_, _^_}
 use denote.Ref.{now}
 use mathlib.Core.Path.{_≡_}
+use lib.ListN.{take}
 use Rattle.labels.specs.Check.{admission}
-use Rattle.listing.specs.Listing.{line-of-count, line-of-task}
+use Rattle.listing.specs.Listing.{height-of, values-of, line-of-count, line-of-task, line-by, line-count, slot-shown}
 use Rattle.report.specs.Reports.{line-of-report, text-of-word}
 use Rattle.text.specs.Lines.{lined, put-line}
 use Rattle.verdict.specs.Verdicts.{line-of-verdict}
@@ -24,6 +26,41 @@ listing-task-line _ out task r =
 
 pub listing-task-line-says : {M : Type 1} → listing.task_line.task_line.Statement.statement M → Answers M listing.task_line.task_line.ended listing.task_line.task_line.Symbol.routine listing-task-line
 listing-task-line-says met = met
+
+abbrev pub listing-height-of : Line listing.lines.height_of.ended
+listing-height-of _ head height r =
+    r ≡ height-of (head .entry) (height .entry)
+
+pub listing-height-of-says : {M : Type 1} → listing.lines.height_of.Statement.statement M → Answers M listing.lines.height_of.ended listing.lines.height_of.Symbol.routine listing-height-of
+listing-height-of-says met = met
+
+abbrev pub listing-words-of : Line listing.lines.words_of.ended
+listing-words-of _ stack height r =
+    now r ≡ take (height .entry) (now (stack .entry))
+
+pub listing-words-of-says : {M : Type 1} → listing.lines.words_of.Statement.statement M → Answers M listing.lines.words_of.ended listing.lines.words_of.Symbol.routine listing-words-of
+listing-words-of-says met = met
+
+abbrev pub listing-line-count : Line listing.lines.line_count.ended
+listing-line-count _ values slots r =
+    r ≡ line-count (values .entry) (slots .entry) % 2 ^ 64
+
+pub listing-line-count-says : {M : Type 1} → listing.lines.line_count.Statement.statement M → Answers M listing.lines.line_count.ended listing.lines.line_count.Symbol.routine listing-line-count
+listing-line-count-says met = met
+
+abbrev pub listing-slot-shown : Line listing.lines.slot_shown.ended
+listing-slot-shown _ values number r =
+    r ≡ slot-shown (values .entry) (number .entry)
+
+pub listing-slot-shown-says : {M : Type 1} → listing.lines.slot_shown.Statement.statement M → Answers M listing.lines.slot_shown.ended listing.lines.slot_shown.Symbol.routine listing-slot-shown
+listing-slot-shown-says met = met
+
+abbrev pub listing-line-at : Line listing.lines.line_at.ended
+listing-line-at _ out words memory pool ends head entries living task number r =
+    lined r (now (out .exit)) ≡ put-line (now (out .entry)) (line-by (head .entry) (values-of (now (memory .entry)) (now (pool .entry)) (now (ends .entry)) (entries .entry) (now (words .entry))) (living .entry) (task .entry) (number .entry))
+
+pub listing-line-at-says : {M : Type 1} → listing.lines.line_at.Statement.statement M → Answers M listing.lines.line_at.ended listing.lines.line_at.Symbol.routine listing-line-at
+listing-line-at-says met = met
 
 abbrev pub report-report-line : Line report.report_line.ended
 report-report-line _ out report r =

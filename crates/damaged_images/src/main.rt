@@ -42,7 +42,7 @@ fn say_whole(image: &[u8]) {
             instructions,
         } => {
             say(b"sound");
-            say_number(next_id as u64);
+            say_number(next_id.0 as u64);
             say_number(count as u64);
             say_number(s_len as u64);
             say_number(instructions as u64);

@@ -2,8 +2,10 @@
 use mathlib.Core.Bool.{true}
 use mathlib.Core.List.{[], _∷_}
 use mathlib.Core.Path.{_≡_, refl}
+use lib.ListN.{take}
 use Rattle.errors.specs.declared.Refusal.the-variants.{InvalidInstructionsIndex, MSliceOutOfBounds, SaveBufferTooShort}
 use Rattle.storage.specs.Table.{living-of}
+use Rattle.storage.specs.Tasks.{blank}
 use Rattle.text.specs.Ascii.{ascii}
 use Rattle.text.specs.Numbers.{digit, digits, decimal, hex, spaced, words, shown, numbers-left, filled}
 use Rattle.text.specs.declared.LineResult.the-variants.{Line, NoLine}
@@ -11,12 +13,55 @@ use Rattle.text.specs.Lines.{formed, line, said, lined, put-line, hex-count, pa
 use Rattle.memory.specs.declared.unbox.Return.the-variants.{U32, CallData, VecU32, Null, NoReturn}
 use Rattle.listing.specs.declared.Head.the-variants.{Done, Paused, Refused}
 use Rattle.listing.specs.declared.Counted.the-variants.{Values, Tasks}
-use Rattle.listing.specs.Listing.{line-of-refusal, line-of-head, line-of-count, line-of-numbers, line-of-value, line-of-task, lines-of-values, lines-of-tasks, listing}
+use Rattle.listing.specs.Listing.{line-of-refusal, line-of-head, line-of-count, line-of-numbers, line-of-value, line-of-task, lines-of-values, lines-of-tasks, listing, height-of, line-behind, line-by, line-count, slot-shown}
 
 -- C1, whole
 pub c1 : listing (Done 5) (record { answer = U32 99; part = [] } ∷ []) [] ≡ ascii "done 5\nvalues 1\nu32 99\ntasks 0\n"
 unfolding listing line-of-head line-of-count lines-of-values lines-of-tasks line-of-value said line formed filled shown numbers-left decimal digits digit ascii living-of
 c1 = refl
+
+-- its line 2, counted from 0, is the value, and line 3 the count of tasks
+pub c1-value : line-by (Done 5) (record { answer = U32 99; part = [] } ∷ []) 0 blank 2 ≡ ascii "u32 99\n"
+unfolding line-by line-behind line-of-value said line formed filled shown numbers-left decimal digits digit ascii
+c1-value = refl
+
+pub c1-tasks : line-by (Done 5) (record { answer = U32 99; part = [] } ∷ []) 0 blank 3 ≡ ascii "tasks 0\n"
+unfolding line-by line-behind line-of-count said line formed filled shown numbers-left decimal digits digit ascii
+c1-tasks = refl
+
+-- with 256 slots it has 260 lines, with none 4
+pub c1-lines : line-count 1 256 ≡ 260
+unfolding line-count
+c1-lines = refl
+
+pub c1-before-slots : line-count 1 0 ≡ 4
+unfolding line-count
+c1-before-slots = refl
+
+-- its line 4 shows slot 0, and line 6 shows slot 2
+pub c1-first-slot : slot-shown 1 4 ≡ 0
+unfolding slot-shown
+c1-first-slot = refl
+
+pub c1-third-slot : slot-shown 1 6 ≡ 2
+unfolding slot-shown
+c1-third-slot = refl
+
+-- the values of a run that is done are listed, and those of a paused one are not
+pub done-listed : height-of (Done 5) 3 ≡ 3
+unfolding height-of
+done-listed = refl
+
+pub paused-not-listed : height-of (Paused 5) 3 ≡ 0
+unfolding height-of
+paused-not-listed = refl
+
+-- the words that are listed are those at the bottom, and no more than there are
+pub words-listed : take 2 (7 ∷ 8 ∷ 9 ∷ []) ≡ 7 ∷ 8 ∷ []
+words-listed = refl
+
+pub all-words-listed : take 4 (7 ∷ 8 ∷ []) ≡ 7 ∷ 8 ∷ []
+all-words-listed = refl
 
 -- details, one space before each
 pub refused-14 : line-of-head (Refused (MSliceOutOfBounds 4 6)) ≡ ascii "refused 14 4 6\n"

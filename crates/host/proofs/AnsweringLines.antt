@@ -18,8 +18,9 @@ use Rattle.text.specs.declared.LineResult.the-variants.{Line, NoLine}
 use Rattle.text.specs.Lines.{Lined, lined, put-line}
 use Rattle.listing.specs.declared.Head.{Head}
 use Rattle.listing.specs.declared.Counted.the-variants.{Values}
-use Rattle.listing.specs.Listing.{Read, line-of-head, line-of-count, line-of-value}
-use Rattle.host.specs.Listings.{start-of, put-from, counted, counting, next-line, next, read-of, values-of, put-values, tell, listing-of, with-lengths, measured, list}
+use Rattle.listing.specs.Listing.{Read, read-of, values-of, line-of-head, line-of-count, line-of-value}
+use Rattle.listing.proofs.LineByLine.{values-length}
+use Rattle.host.specs.Listings.{start-of, put-from, counted, counting, next-line, next, put-values, tell, listing-of, with-lengths, measured, list}
 
 -- ---- a line from a place on
 
@@ -143,18 +144,6 @@ ended keeps memory pool ends entries words {told = told} {out = out} past tellin
     sym (values-none keeps memory pool ends entries (lined told out))
     ∙ sym (ap (λ (w : List ℕ). put-values keeps (lined told out) (values-of memory pool ends entries w)) (drop-of-length-le words past))
     ∙ telling .so-far
-
--- all words, where there are no more
-pub all-words : (stack : List ℕ) (height : ℕ) → length stack < height → stack ≡ take height stack
-all-words stack height fewer =
-    let inside : length stack ≤ height = omega arith in
-    sym (take-all height stack inside)
-
--- as many as there are words
-values-length : (memory pool ends : List ℕ) (entries : ℕ) (words : List ℕ) → length (values-of memory pool ends entries words) ≡ length words
-unfolding values-of
-values-length memory pool ends entries [] = refl
-values-length memory pool ends entries (word ∷ more) = ap suc (values-length memory pool ends entries more)
 
 -- ---- all lines
 

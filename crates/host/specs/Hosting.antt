@@ -4,6 +4,7 @@ use mathlib.Core.List.{List}
 use Rattle.storage.specs.declared.Task.{Task}
 use Rattle.text.specs.declared.LineResult.{LineResult}
 use Rattle.text.specs.Lines.{Lined}
+use Rattle.listing.specs.Listing.{height-of}
 use Rattle.listing.specs.declared.Head.{Head}
 use Rattle.listing.specs.declared.Head.the-variants as head
 use Rattle.machine.specs.declared.Machine.{Machine}
@@ -45,13 +46,6 @@ run-head finished (Refused refusal) = head.Refused refusal
 unfoldable pub head-of : CreateResult → Report → Head
 head-of (Created machine) report = run-head (report .finished) (report .outcome)
 head-of (NotCreated refusal) report = head.Refused refusal
-
--- the values of a run that is done
-unfoldable pub height-of : Head → ℕ → ℕ
-height-of (head.Done finished) height = height
-height-of (head.Paused finished) height = 0
-height-of (head.Refused refusal) height = 0
-height-of (head.Saved length) height = 0
 
 -- what came of it all
 unfoldable pub performed : CreateResult → Report → SaveReport → LineResult → RunSummary

@@ -9,10 +9,9 @@ use Rattle.errors.specs.declared.Refusal.the-variants.{SaveBufferTooShort}
 use Rattle.text.specs.declared.LineResult.{LineResult}
 use Rattle.text.specs.declared.LineResult.the-variants.{Line, NoLine}
 use Rattle.text.specs.Lines.{Lined, lined, put-line}
-use Rattle.memory.specs.Unbox.{unbox-value, part-of}
 use Rattle.listing.specs.declared.Head.{Head}
 use Rattle.listing.specs.declared.Counted.the-variants.{Values}
-use Rattle.listing.specs.Listing.{Read, line-of-head, line-of-count, line-of-value}
+use Rattle.listing.specs.Listing.{Read, values-of, line-of-head, line-of-count, line-of-value}
 use Rattle.host.specs.declared.hosting.RunSummary.{RunSummary}
 use Rattle.host.specs.declared.answering.ListingLengths.{ListingLengths}
 
@@ -44,17 +43,6 @@ abbrev pub next : Bool → Lined → List ℕ → Lined
 next keeps l text = next-line keeps (l .answer) (l .out) text
 
 -- ---- the values
-
--- what a word of the stack is read as, and the part beside it
-abbrev pub read-of : List ℕ → List ℕ → List ℕ → ℕ → ℕ → Read
-read-of memory pool ends entries word = record {
-  answer = unbox-value memory ends entries word;
-  part = part-of memory pool ends (unbox-value memory ends entries word);
-}
-
-unfoldable pub values-of : List ℕ → List ℕ → List ℕ → ℕ → List ℕ → List Read
-values-of memory pool ends entries [] = []
-values-of memory pool ends entries (word ∷ more) = read-of memory pool ends entries word ∷ values-of memory pool ends entries more
 
 -- a line each
 unfoldable pub put-values : Bool → Lined → List Read → Lined

@@ -1,11 +1,10 @@
 // The listing of a run: its lines are measured one after the other, and then put into a lent buffer whole, or not at all.
 ghost use mathlib.Core.Path.{_≡_};
-ghost use lib.ListN.{take};
 ghost use Rattle.memory.specs.Unbox.{part-of};
 ghost use Rattle.text.specs.Lines.{lined};
-ghost use Rattle.listing.specs.Listing.{line-of-count, line-of-value};
+ghost use Rattle.listing.specs.Listing.{read-of, values-of, line-of-count, line-of-value};
 ghost use Rattle.listing.specs.declared.Counted.the-variants.{Values};
-ghost use Rattle.host.specs.Listings.{start-of, counted, put-from, next, read-of, values-of, put-values, tell, listing-of, list, list-run};
+ghost use Rattle.host.specs.Listings.{start-of, counted, put-from, next, put-values, tell, listing-of, list, list-run};
 use crate::answering::ListingLengths;
 use crate::hosting::RunSummary;
 use errors::Refusal;
@@ -176,16 +175,6 @@ fn tell<'a>(
     put_text(out, tasks, values, keeps)
 }
 
-// The first words of the stack.
-fn words_of<'a>(stack: &'a [u64], height: usize) -> &'a [u64]
-    ensures { λ r. ⌜ now r ≡ take height (now (stack .entry)) ⌝ }
-{
-    if stack.len() < height {
-        return stack;
-    }
-    &stack[..height]
-}
-
 // The listing whole, or not at all.
 fn whole<'a>(
     listing: &mut [u8],
@@ -259,7 +248,7 @@ fn list<'a>(
             needed: 0,
         },
         LineResult::Line(length) => {
-            let words = words_of(stack, performed.height);
+            let words = listing::lines::words_of(stack, performed.height);
             let used = slices::part(memory, 0, performed.memory);
             let tasks = slices::part(lines, 0, length);
             whole(

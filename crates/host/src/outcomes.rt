@@ -1,6 +1,6 @@
 // What a creation, a run and a save come to, between the calls of the machine.
 ghost use mathlib.Core.Path.{_≡_};
-ghost use Rattle.host.specs.Hosting.{unsavable, to-save, head-of, height-of, performed};
+ghost use Rattle.host.specs.Hosting.{unsavable, to-save, head-of, performed};
 use crate::hosting::RunSummary;
 use listing::Head;
 use machine::CreateResult;
@@ -8,6 +8,7 @@ use machine::Machine;
 use machine::Outcome;
 use machine::Report;
 use machine::SaveReport;
+use storage::TaskId;
 use text::LineResult;
 
 // A machine that no save takes: its next id is above 256.
@@ -15,7 +16,8 @@ fn unsavable(machine: Machine) -> Machine
     ensures { λ r. ⌜ r ≡ unsavable machine ⌝ }
 {
     let mut after = machine;
-    after.next_id = 257;
+    let next_id = TaskId(257);
+    after.next_id = next_id;
     after
 }
 
@@ -46,18 +48,6 @@ fn head_of(creation: CreateResult, report: Report) -> Head
     }
 }
 
-// How many values are listed: those of a run that is done.
-fn height_of(head: Head, height: usize) -> usize
-    ensures { λ r. ⌜ r ≡ height-of head height ⌝ }
-{
-    match head {
-        Head::Done(_) => height,
-        Head::Paused(_) => 0,
-        Head::Refused(_) => 0,
-        Head::Saved(_) => 0,
-    }
-}
-
 // What came of it all.
 pub(crate) fn performed(
     creation: CreateResult,
@@ -73,7 +63,7 @@ pub(crate) fn performed(
         head,
         finished: report.finished,
         save,
-        height: height_of(head, report.machine.height),
+        height: listing::lines::height_of(head, report.machine.height),
         memory: report.machine.memory,
         entries: report.machine.entries,
         saved: saved.machine.saved,

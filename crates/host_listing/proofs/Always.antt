@@ -30,22 +30,23 @@ use Rattle.laws.proofs.Refused.{creation-not-created}
 use Rattle.listing.specs.declared.Head.{Head}
 use Rattle.listing.specs.declared.Head.the-variants as head
 use Rattle.listing.specs.declared.Counted.the-variants.{Values, Tasks}
-use Rattle.listing.specs.Listing.{Read, line-of-count, lines-of-tasks, listing}
+use Rattle.listing.specs.Listing.{Read, values-of, height-of, line-of-count, lines-of-tasks, listing}
+use Rattle.listing.proofs.LineByLine.{values-length}
 use Rattle.listing.proofs.Short.{numbers-told, head-short, count-short, Small, task-short, tasks-short, living-most}
 use Rattle.host.specs.Lines.{task-lines}
-use Rattle.host.specs.Hosting.{to-save, height-of, performed, RunSummaryIn, with-lines, with-save, with-run, with-creation, perform, without-table, own}
-use Rattle.host.specs.Listings.{Listing, listing-of, with-lengths, values-of, list, list-run}
+use Rattle.host.specs.Hosting.{to-save, performed, RunSummaryIn, with-lines, with-save, with-run, with-creation, perform, without-table, own}
+use Rattle.host.specs.Listings.{Listing, listing-of, with-lengths, list, list-run}
 use Rattle.host.specs.Answering.{new-stack, new-ends, new-pool, new-lines, new-scratch, with-listing, with-run as list-after, rafenuma-run}
 use Rattle.host_listing.proofs.Tasks.{text-of}
 use Rattle.host_listing.proofs.Whole.{Short, text, text-length, Fits, whole-listing, no-listing, tasks-listed}
 use Rattle.host_listing.proofs.Refusals.{stays-stopped}
-use Rattle.host_listing.proofs.Values.{taken-bytes, values-short, values-length, lines-short}
+use Rattle.host_listing.proofs.Values.{taken-bytes, values-short, lines-short}
 
 -- ---- what a run leaves
 
 -- a table, the ends of a pool and a machine that keep each line short
 record Bounded (table : List Task) (ends : List ℕ) (machine : Machine) : Type 0 where
-  tasks : sound-table table (machine .«next_id») (machine .count) ≡ true
+  tasks : sound-table table (machine .«next_id» .0) (machine .count) ≡ true
   joined : end-to-end ends (machine .pool) (machine .entries) ≡ true
   small : machine .pool ≤ 65536
   high : machine .height ≤ 1000
@@ -141,10 +142,10 @@ module _ (p : RunSummaryIn) (lines : List ℕ) (left : Left p lines) (typed : Ty
   count = left .machine .count
 
   -- the table has 256 slots, and each is sound
-  table-parts : Counts (length (p .table)) (left .machine .«next_id») count × (sound-slots (p .table) 0 count ≡ true)
+  table-parts : Counts (length (p .table)) (left .machine .«next_id» .0) count × (sound-slots (p .table) 0 count ≡ true)
   unfolding sound-table
   table-parts =
-      let both = and-eq-true-iff (sound-counts (length (p .table)) (left .machine .«next_id») count) (sound-slots (p .table) 0 count) .0 (left .bounded .tasks) in
+      let both = and-eq-true-iff (sound-counts (length (p .table)) (left .machine .«next_id» .0) count) (sound-slots (p .table) 0 count) .0 (left .bounded .tasks) in
       (sound-counted _ _ _ (both .0), both .1)
 
   -- a living task keeps to its numbers

@@ -42,12 +42,12 @@ behind-program table image program next-id s-len pool ends (NotInterned refusal)
 
 created-image : (table : List Task) (pool ends image program : List ℕ) (c : CreationResult) → create-fit table pool ends image program c .image ≡ image
 unfolding create-fit
-created-image table pool ends image program (Fit next-id count s-len) = behind-image table image program next-id s-len _ _ (interned pool ends 0 0 program .answer)
+created-image table pool ends image program (Fit next-id count s-len) = behind-image table image program (next-id .0) s-len _ _ (interned pool ends 0 0 program .answer)
 created-image table pool ends image program (Unfit refusal) = refl
 
 created-program : (table : List Task) (pool ends image program : List ℕ) (c : CreationResult) → create-fit table pool ends image program c .program ≡ program
 unfolding create-fit
-created-program table pool ends image program (Fit next-id count s-len) = behind-program table image program next-id s-len _ _ (interned pool ends 0 0 program .answer)
+created-program table pool ends image program (Fit next-id count s-len) = behind-program table image program (next-id .0) s-len _ _ (interned pool ends 0 0 program .answer)
 created-program table pool ends image program (Unfit refusal) = refl
 
 performed-image : (fuel : ℕ) (stack memory save lines : List ℕ) (m : Made) → with-creation fuel stack memory save lines m .image ≡ m .image

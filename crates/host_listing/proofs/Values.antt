@@ -21,10 +21,9 @@ use Rattle.memory.specs.declared.ReadResult.the-variants.{Readable, NotReadable
 use Rattle.memory.specs.Unbox.{where-readable, text-at, unbox-text, numbers-at, unbox-numbers, where-bounded, unbox-calldata, by-type, unbox-value, part-of}
 use Rattle.memory.specs.declared.unbox.Return.{Return}
 use Rattle.memory.specs.declared.unbox.Return.the-variants.{U32, Boolean, String, CallData, VecU32, Null, NoReturn}
-use Rattle.listing.specs.Listing.{Read, line-of-value, lines-of-values}
+use Rattle.listing.specs.Listing.{Read, values-of, line-of-value, lines-of-values}
 use Rattle.listing.proofs.Longest.{number-fits, longest-calldata, longest}
 use Rattle.laws.proofs.Either.{either}
-use Rattle.host.specs.Listings.{values-of}
 use Rattle.host_listing.proofs.Whole.{Short}
 
 -- ---- bytes
@@ -136,12 +135,6 @@ module _ (memory pool ends : List ℕ) (entries : ℕ) (byte : Bytes memory) (sh
   unfolding Short values-of
   values-short [] = omega arith
   values-short (word ∷ more) = (value-roomy word, values-short more)
-
--- there are as many values as words
-pub values-length : (memory pool ends : List ℕ) (entries : ℕ) (words : List ℕ) → length (values-of memory pool ends entries words) ≡ length words
-unfolding values-of
-values-length memory pool ends entries [] = refl
-values-length memory pool ends entries (word ∷ more) = ap suc (values-length memory pool ends entries more)
 
 -- the lines of so many
 pub lines-short : (values : List Read) → Short 196608 values → length (lines-of-values values) ≤ 196608 * length values

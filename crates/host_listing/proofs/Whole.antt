@@ -14,11 +14,11 @@ use Rattle.text.specs.declared.LineResult.the-variants.{Line}
 use Rattle.text.specs.Lines.{Lined, lined, put-line}
 use Rattle.listing.specs.declared.Head.{Head}
 use Rattle.listing.specs.declared.Counted.the-variants.{Values}
-use Rattle.listing.specs.Listing.{Read, line-of-head, line-of-count, line-of-value, lines-of-values, listing}
+use Rattle.listing.specs.Listing.{Read, values-of, line-of-head, line-of-count, line-of-value, lines-of-values, listing}
 use Rattle.storage.specs.declared.Task.{Task}
 use Rattle.host.specs.Lines.{task-lines}
 use Rattle.host.specs.declared.hosting.RunSummary.{RunSummary}
-use Rattle.host.specs.Listings.{put-from, counted, counting, next-line, next, values-of, put-values, tell, listing-of, with-lengths, measured, list, with-tasks, list-run}
+use Rattle.host.specs.Listings.{put-from, counted, counting, next-line, next, put-values, tell, listing-of, with-lengths, measured, list, with-tasks, list-run}
 use Rattle.host_listing.proofs.Tasks.{text-of, all-tasks, read-back}
 
 -- the largest number of 64 bits

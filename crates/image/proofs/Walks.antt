@@ -10,6 +10,7 @@ use lib.ListN.{length, take, drop, length-take, length-drop}
 use lib.Seq.{drop-drop, take-all}
 use borrow.Author.Tests.{ne-eqb, eq-eqb, le-leb}
 use Rattle.errors.specs.declared.Refusal.the-variants.{BadImage}
+use Rattle.storage.specs.declared.TaskId.{TaskId}
 use Rattle.image.proofs.Rules.{Rules, rules-good, good-rules, Head, head-headed, headed-head, refuted}
 use Rattle.image.specs.Image.{ImageTask, Read, sound, bad-at, body-length, kind, next-id-in, task-count, id-in, title-length, task-at, headed, good, joined, read-from, counted, read-image}
 use Rattle.image.specs.Reading.{s-len, instruction-bytes, tested}
@@ -30,7 +31,7 @@ broken next-id low bytes h = rw (refuted (good next-id low bytes) (λ g. h (good
 
 -- one that keeps them
 pub whole : (next-id low : ℕ) (bytes : List ℕ) {id size title : ℕ} → Rules next-id low bytes → id ≡ id-in bytes → size ≡ body-length bytes → title ≡ title-length bytes
-    → Whole id (6 + size) (size - 8 - title) ≡ front next-id low bytes
+    → Whole (record { 0 = id }) (6 + size) (size - 8 - title) ≡ front next-id low bytes
 unfolding front
 whole next-id low bytes r i n k = rw (i, n, k, rules-good r)
 
@@ -76,19 +77,19 @@ record Turned (next-id low : ℕ) (bytes : List ℕ) (id size instructions : ℕ
   size-is : size ≡ 6 + body-length bytes
   rest-is : instructions ≡ body-length bytes - 8 - title-length bytes
 
-front-whole : (next-id low : ℕ) (bytes : List ℕ) (id size instructions : ℕ) → front next-id low bytes ≡ Whole id size instructions → Turned next-id low bytes id size instructions
+front-whole : (next-id low : ℕ) (bytes : List ℕ) (id : TaskId) (size instructions : ℕ) → front next-id low bytes ≡ Whole id size instructions → Turned next-id low bytes (id .0) size instructions
 unfolding front
 front-whole next-id low bytes id size instructions e = by (good next-id low bytes) refl e
   where
-    by : (t : Bool) → good next-id low bytes ≡ t → cond t (Whole (id-in bytes) (6 + body-length bytes) (body-length bytes - 8 - title-length bytes)) Broken ≡ Whole id size instructions → Turned next-id low bytes id size instructions
-    by true g q = record { rules = good-rules next-id low bytes g; id-is = cc; size-is = cc; rest-is = cc }
+    by : (t : Bool) → good next-id low bytes ≡ t → cond t (Whole (record { 0 = id-in bytes }) (6 + body-length bytes) (body-length bytes - 8 - title-length bytes)) Broken ≡ Whole id size instructions → Turned next-id low bytes (id .0) size instructions
+    by true g q = record { rules = good-rules next-id low bytes g; id-is = (let z : record { 0 = id-in bytes } ≡ id = cc in ap (λ (i : TaskId). i .0) (sym z)); size-is = cc; rest-is = cc }
     by false g q = absurd (let z : _≡_ {A = ℕ} 0 1 = cc in omega arith)
 
 front-broken : (next-id low : ℕ) (bytes : List ℕ) → front next-id low bytes ≡ Broken → good next-id low bytes ≡ false
 unfolding front
 front-broken next-id low bytes e = by (good next-id low bytes) refl e
   where
-    by : (t : Bool) → good next-id low bytes ≡ t → cond t (Whole (id-in bytes) (6 + body-length bytes) (body-length bytes - 8 - title-length bytes)) Broken ≡ Broken → good next-id low bytes ≡ false
+    by : (t : Bool) → good next-id low bytes ≡ t → cond t (Whole (record { 0 = id-in bytes }) (6 + body-length bytes) (body-length bytes - 8 - title-length bytes)) Broken ≡ Broken → good next-id low bytes ≡ false
     by true g q = absurd (let z : _≡_ {A = ℕ} 0 1 = cc in omega arith)
     by false g q = g
 
@@ -129,11 +130,11 @@ unfolding task-at
 walked-record count low instructions bytes r h = walked-joined count low instructions (task-at bytes) r h
 
 module _ {image : List ℕ} {next-id at low count sum : ℕ} (i : Inv image next-id at low count sum) (h : at < length image) where
-  turned : {r : Front} {id size instructions : ℕ} → r ≡ front next-id low (take (length image - at) (drop at image)) → r ≡ Whole id size instructions → Turned next-id low (drop at image) id size instructions
+  turned : {r : Front} {id : TaskId} {size instructions : ℕ} → r ≡ front next-id low (take (length image - at) (drop at image)) → r ≡ Whole id size instructions → Turned next-id low (drop at image) (id .0) size instructions
   turned {r} {id} {size} {instructions} p q = front-whole next-id low (drop at image) id size instructions (rw (tail-is image at) at (sym p ∙ q))
 
   -- a turn
-  pub turn : {r : Front} {id size instructions : ℕ} → r ≡ front next-id low (take (length image - at) (drop at image)) → r ≡ Whole id size instructions → Inv image next-id (at + size) (id + 1) (count + 1) (sum + instructions)
+  pub turn : {r : Front} {id : TaskId} {size instructions : ℕ} → r ≡ front next-id low (take (length image - at) (drop at image)) → r ≡ Whole id size instructions → Inv image next-id (at + size) (id .0 + 1) (count + 1) (sum + instructions)
   turn {r} {id} {size} {instructions} p q =
       let t = turned p q in
       let l = instructions-length (t .rules) in
@@ -148,7 +149,7 @@ module _ {image : List ℕ} {next-id at low count sum : ℕ} (i : Inv image next
       }
 
   -- what a turn keeps within bounds
-  pub fits : {r : Front} {id size instructions : ℕ} → r ≡ front next-id low (take (length image - at) (drop at image)) → r ≡ Whole id size instructions → (id < next-id) × ((14 ≤ size) × ((at + size ≤ length image) × (instructions ≤ size)))
+  pub fits : {r : Front} {id : TaskId} {size instructions : ℕ} → r ≡ front next-id low (take (length image - at) (drop at image)) → r ≡ Whole id size instructions → (id .0 < next-id) × ((14 ≤ size) × ((at + size ≤ length image) × (instructions ≤ size)))
   fits {r} {id} {size} {instructions} p q =
       let t = turned p q in
       (omega (arith, t .id-is, t .rules .below), (omega (arith, t .size-is, t .rules .large), (omega (arith, t .size-is, t .rules .uncut, length-drop at image), omega (arith, t .size-is, t .rest-is))))
@@ -181,7 +182,7 @@ unfolding walked tested counted
 settles-stuck next-id count place (sound tasks) e = absurd (let z : _≡_ {A = ℕ} 0 1 = cc in omega arith)
 settles-stuck next-id count place (bad-at p) e = let z : place ≡ p = cc in ap (λ (k : ℕ). NotSound (BadImage k)) z
 
-settles-all : (next-id count n low sum : ℕ) (r : Read (List ImageTask)) → All n low sum ≡ walked 0 0 0 r → n ≡ count → Sound next-id n low sum ≡ tested (counted next-id count r)
+settles-all : (next-id count n low sum : ℕ) (r : Read (List ImageTask)) → All n low sum ≡ walked 0 0 0 r → n ≡ count → Sound (record { 0 = next-id }) n low sum ≡ tested (counted next-id count r)
 unfolding walked tested counted
 settles-all next-id count n low sum (bad-at p) e h = absurd (let z : _≡_ {A = ℕ} 0 1 = cc in omega arith)
 settles-all next-id count n low sum (sound tasks) e h =
@@ -202,7 +203,7 @@ settles-wrong next-id count n low sum (sound tasks) e h =
     rw (ne-eqb (length tasks) count (λ q. h (x' ∙ q)))
 
 -- no image
-pub test-none : (image : List ℕ) → length image ≡ 0 → Sound 0 0 0 0 ≡ tested (read-image image)
+pub test-none : (image : List ℕ) → length image ≡ 0 → Sound (record { 0 = 0 }) 0 0 0 ≡ tested (read-image image)
 unfolding read-image tested s-len instruction-bytes
 test-none image e = rw (eq-eqb (length image) 0 e)
 
@@ -226,7 +227,7 @@ module _ (image : List ℕ) {next-id : ℕ} (h : Head image) (n : next-id ≡ ne
   pub test-stuck : {w : Walked} {place : ℕ} → Walk image next-id w → w ≡ Stuck place → NotSound (BadImage place) ≡ tested (read-image image)
   test-stuck {w} {place} e q = rw image-is (settles-stuck next-id (task-count image) place _ (sym q ∙ e))
 
-  pub test-all : {w : Walked} {count low sum : ℕ} → Walk image next-id w → w ≡ All count low sum → count ≡ task-count image → Sound next-id count low sum ≡ tested (read-image image)
+  pub test-all : {w : Walked} {count low sum : ℕ} → Walk image next-id w → w ≡ All count low sum → count ≡ task-count image → Sound (record { 0 = next-id }) count low sum ≡ tested (read-image image)
   test-all {w} {count} {low} {sum} e q k = rw image-is (settles-all next-id (task-count image) count low sum _ (sym q ∙ e) k)
 
   pub test-wrong : {w : Walked} {count low sum : ℕ} → Walk image next-id w → w ≡ All count low sum → (count ≡ task-count image → ⊥) → NotSound (BadImage 0) ≡ tested (read-image image)

@@ -19,5 +19,5 @@ instruction-bytes (task ∷ tasks) = length (task .instructions) + instruction-b
 
 -- the answer to what reading finds: 25 with its place
 unfoldable pub tested : Read Image → ImageResult
-tested (sound image) = Sound (image .next-id) (length (image .tasks)) (s-len (image .tasks)) (instruction-bytes (image .tasks))
+tested (sound image) = Sound (record { 0 = image .next-id }) (length (image .tasks)) (s-len (image .tasks)) (instruction-bytes (image .tasks))
 tested (bad-at place) = NotSound (BadImage place)

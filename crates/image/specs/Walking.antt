@@ -17,7 +17,7 @@ use Rattle.image.specs.declared.Record.{Record}
 unfoldable pub front : ℕ → ℕ → List ℕ → Front
 front next-id low bytes =
     cond (good next-id low bytes)
-    (Whole (id-in bytes) (6 + body-length bytes) (body-length bytes - 8 - title-length bytes))
+    (Whole (record { 0 = id-in bytes }) (6 + body-length bytes) (body-length bytes - 8 - title-length bytes))
     Broken
 
 -- what is found after so many tasks, ids below `low` and bytes of instructions

@@ -7,11 +7,12 @@ pub mod writing;
 
 use errors::Refusal;
 use storage::Task;
+use storage::TaskId;
 
 // What testing an image finds: the next id, how many tasks, the greatest id plus 1, and the bytes of all instructions.
 pub enum ImageResult {
     Sound {
-        next_id: u32,
+        next_id: TaskId,
         count: u32,
         s_len: u32,
         instructions: usize,
@@ -49,7 +50,7 @@ pub struct LoadedRecord {
 // The record at the front of what is left.
 enum Front {
     Whole {
-        id: u32,
+        id: TaskId,
         size: usize,
         instructions: usize,
     },

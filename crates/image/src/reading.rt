@@ -19,8 +19,8 @@ use storage::TaskId;
 use storage::TaskState;
 
 // The record at the front of some bytes.
-fn front(bytes: &[u8], next_id: u32, low: u32) -> Front
-    ensures { λ r. ⌜ r ≡ front «next_id» low (now (bytes .entry)) ⌝ }
+fn front(bytes: &[u8], next_id: TaskId, low: u32) -> Front
+    ensures { λ r. ⌜ r ≡ front («next_id» .0) low (now (bytes .entry)) ⌝ }
 {
     let body = u32_at(bytes, 0) as usize;
     if bytes.len() < 6 + body {
@@ -32,11 +32,11 @@ fn front(bytes: &[u8], next_id: u32, low: u32) -> Front
     if body < 8 {
         return Front::Broken;
     }
-    let id = u32_at(bytes, 6);
-    if id < low {
+    let id = TaskId(u32_at(bytes, 6));
+    if id.0 < low {
         return Front::Broken;
     }
-    if next_id <= id {
+    if next_id.0 <= id.0 {
         return Front::Broken;
     }
     if u8_at(bytes, 10) <= u8_at(bytes, 11) {
@@ -77,9 +77,9 @@ fn is_headed(image: &[u8]) -> bool
 }
 
 // The records behind the header.
-fn walk(image: &[u8], next_id: u32) -> Walked
-    requires { ⌜ (14 ≤ length (now image)) × («next_id» ≤ 256) ⌝ }
-    ensures { λ r. ⌜ r ≡ walked 0 0 0 (read-from (length (now (image .entry))) «next_id» 0 14 (drop 14 (now (image .entry)))) ⌝ }
+fn walk(image: &[u8], next_id: TaskId) -> Walked
+    requires { ⌜ (14 ≤ length (now image)) × («next_id» .0 ≤ 256) ⌝ }
+    ensures { λ r. ⌜ r ≡ walked 0 0 0 (read-from (length (now (image .entry))) («next_id» .0) 0 14 (drop 14 (now (image .entry)))) ⌝ }
 {
     let mut at: usize = 14;
     let mut low: u32 = 0;
@@ -95,7 +95,7 @@ fn walk(image: &[u8], next_id: u32) -> Walked
                 size,
                 instructions,
             } => {
-                low = id + 1;
+                low = id.0 + 1;
                 at += size;
                 sum += instructions;
             }
@@ -115,14 +115,14 @@ pub fn test_image(image: &[u8]) -> ImageResult
 {
     if image.len() == 0 {
         return ImageResult::Sound {
-            next_id: 0,
+            next_id: TaskId(0),
             count: 0,
             s_len: 0,
             instructions: 0,
         };
     }
     if is_headed(image) {
-        let next_id = u32_at(image, 6);
+        let next_id = TaskId(u32_at(image, 6));
         match walk(image, next_id) {
             Walked::Stuck(place) => {
                 return ImageResult::NotSound(Refusal::BadImage(place));

@@ -8,6 +8,7 @@ ghost use Rattle.image.specs.Slots.{saved-task};
 ghost use Rattle.image.specs.Writing.{put, puts};
 use slices::places::on;
 use storage::Task;
+use storage::TaskId;
 
 // Writes bytes from a place on, as far as the buffer reaches, and answers the place behind them.
 fn put(save: &mut [u8], bytes: &[u8], at: usize) -> usize
@@ -25,9 +26,10 @@ fn low(number: usize) -> u8
 }
 
 // The first 14 bytes of a kind 2 record.
-fn opening(body: usize, id: usize, count: u8, state: u8, title: usize) -> [u8; 14]
-    ensures { λ r. ⌜ r ≡ little-endian 4 body ++ little-endian 2 2 ++ little-endian 4 id ++ count ∷ state ∷ little-endian 2 title ⌝ }
+fn opening(body: usize, task: TaskId, count: u8, state: u8, title: usize) -> [u8; 14]
+    ensures { λ r. ⌜ r ≡ little-endian 4 body ++ little-endian 2 2 ++ little-endian 4 (task .0) ++ count ∷ state ∷ little-endian 2 title ⌝ }
 {
+    let id = task.0 as usize;
     [
         low(body),
         low(body / 256),
@@ -47,9 +49,10 @@ fn opening(body: usize, id: usize, count: u8, state: u8, title: usize) -> [u8; 1
 }
 
 // A kind 1 record.
-fn heading(next_id: usize, count: usize) -> [u8; 14]
-    ensures { λ r. ⌜ r ≡ header «next_id» count ⌝ }
+fn heading(next: TaskId, count: usize) -> [u8; 14]
+    ensures { λ r. ⌜ r ≡ header (next .0) count ⌝ }
 {
+    let next_id = next.0 as usize;
     [
         8,
         0,
@@ -76,17 +79,16 @@ pub(crate) fn write_record(save: &mut [u8], instructions: &[u8], task: Task, at:
     let title = slices::part(&held, 0, task.title_len);
     let size = title.len();
     let body = 8 + size + instructions.len();
-    let id = task.id.0 as usize;
-    let first = opening(body, id, task.state.len, task.state.state, size);
+    let first = opening(body, task.id, task.state.len, task.state.state, size);
     let behind = put(save, &first, at);
     let behind_title = put(save, title, behind);
     put(save, instructions, behind_title)
 }
 
 // Writes the kind 1 record at the buffer's start.
-pub fn write_header(save: &mut [u8], next_id: u32, count: usize) -> usize
-    ensures { λ r. ⌜ put r (now (save .exit)) ≡ puts (now (save .entry)) 0 (header «next_id» count) ⌝ }
+pub fn write_header(save: &mut [u8], next_id: TaskId, count: usize) -> usize
+    ensures { λ r. ⌜ put r (now (save .exit)) ≡ puts (now (save .entry)) 0 (header («next_id» .0) count) ⌝ }
 {
-    let first = heading(next_id as usize, count);
+    let first = heading(next_id, count);
     put(save, &first, 0)
 }

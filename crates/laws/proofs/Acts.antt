@@ -46,7 +46,7 @@ use Rattle.laws.proofs.Tasks as tasks
 -- finished soundly, so many tasks made and deleted; or refused
 pub data Acts (asked : Type 0) (save : ℕ) (pool ends : List ℕ) (machine : Machine) (table : List Task) (slot made deleted : ℕ) : OnAll → Type 0 where
   acts : (after : Machine) (change : Change) (stack memory new-pool new-ends : List ℕ) → Machined asked (length memory) (length new-pool) save stack new-ends after
-      → Tabled asked (applied table slot change) (after .«next_id») (after .count) → Grows pool ends (machine .entries) new-pool new-ends (after .entries)
+      → Tabled asked (applied table slot change) (after .«next_id» .0) (after .count) → Grows pool ends (machine .entries) new-pool new-ends (after .entries)
       → Lived table (applied table slot change) made deleted → Given made machine after → Acts asked save pool ends machine table slot made deleted (on-all (acted (Onto after) change) stack memory new-pool new-ends)
   refused : (refusal : Refusal) (change : Change) (stack memory new-pool new-ends : List ℕ)
       → Acts asked save pool ends machine table slot made deleted (on-all (acted (Refused refusal) change) stack memory new-pool new-ends)
@@ -67,7 +67,7 @@ unfolding deletes
 none-deleted op other = simp other
 
 module _ {asked : Type 0} (save : ℕ) (stack memory pool ends : List ℕ) (machine : Machine) (table : List Task) (slot : ℕ)
-    (m : Machined asked (length memory) (length pool) save stack ends machine) (t : Tabled asked table (machine .«next_id») (machine .count)) where
+    (m : Machined asked (length memory) (length pool) save stack ends machine) (t : Tabled asked table (machine .«next_id» .0) (machine .count)) where
   abbrev task : Task
   task = getD table slot blank
 
@@ -81,7 +81,7 @@ module _ {asked : Type 0} (save : ℕ) (stack memory pool ends : List ℕ) (mach
   unfolding applied
   keeps after s mem p e sound same grows =
       acts after (keep task) s mem p e sound
-      (subst (λ (n : ℕ). Tabled asked table n (after .count)) (sym (same .next-id)) (subst (λ (c : ℕ). Tabled asked table (machine .«next_id») c) (sym (same .count)) t)) grows
+      (subst (λ (n : ℕ). Tabled asked table n (after .count)) (sym (same .next-id)) (subst (λ (c : ℕ). Tabled asked table (machine .«next_id» .0) c) (sym (same .count)) t)) grows
       (none-lived table) (none-given same)
 
   pool-acts : (a : OnPool) → Pushed asked (length memory) save pool ends machine a → On 0 0 (after-pool a memory task)
@@ -114,7 +114,7 @@ module _ {asked : Type 0} (save : ℕ) (stack memory pool ends : List ℕ) (mach
 
   -- ---- the opcodes that change a slot
 
-  by-acts : (deleted : ℕ) (a : RegistersAndChange) → Changes asked (length memory) stack table slot (machine .«next_id») (machine .count) 0 deleted a → On 0 deleted (on-all (tasked-by machine a) stack memory pool ends)
+  by-acts : (deleted : ℕ) (a : RegistersAndChange) → Changes asked (length memory) stack table slot (machine .«next_id» .0) (machine .count) 0 deleted a → On 0 deleted (on-all (tasked-by machine a) stack memory pool ends)
   unfolding tasked-by went-by settled
   by-acts deleted _ (changes registers change r sound lived) =
       acts (settled machine registers) change stack memory pool ends (settled-sound registers stack m r) sound (same-entries (settled machine registers) (settled-entries registers)) lived (none-given (settled-same registers))
@@ -122,19 +122,19 @@ module _ {asked : Type 0} (save : ℕ) (stack memory pool ends : List ℕ) (mach
 
   -- the id given is the next one, which was not above 256
   one-given : (registers : Registers)
-      → Given 1 machine (with-ids (settled machine registers) ((machine .«next_id» + 1) % 2 ^ 32) (len-after (machine .count) (machine .«next_id»)))
+      → Given 1 machine (with-ids (settled machine registers) ((machine .«next_id» .0 + 1) % 2 ^ 32) (len-after (machine .count) (machine .«next_id» .0)))
   unfolding len-after
   one-given registers =
-      let counts = table-counts table (machine .«next_id») (machine .count) (t .sound) in
-      let small : machine .«next_id» ≤ 256 = counts .next-most in
-      let low : machine .count ≤ machine .«next_id» = counts .count-below in
+      let counts = table-counts table (machine .«next_id» .0) (machine .count) (t .sound) in
+      let small : machine .«next_id» .0 ≤ 256 = counts .next-most in
+      let low : machine .count ≤ machine .«next_id» .0 = counts .count-below in
       record {
         next-id = omega arith;
         none = λ e. absurd (omega arith);
-        one = λ _. simp (le-ltb (machine .«next_id») (machine .count) low) (omega arith);
+        one = λ _. simp (le-ltb (machine .«next_id» .0) (machine .count) low) (omega arith);
       }
 
-  created-acts : (a : RegistersAndChange) → Changes asked (length memory) stack table slot ((machine .«next_id» + 1) % 2 ^ 32) (len-after (machine .count) (machine .«next_id»)) 1 0 a
+  created-acts : (a : RegistersAndChange) → Changes asked (length memory) stack table slot ((machine .«next_id» .0 + 1) % 2 ^ 32) (len-after (machine .count) (machine .«next_id» .0)) 1 0 a
       → On 1 0 (on-all (created-by machine a) stack memory pool ends)
   unfolding created-by created
   created-acts _ (changes registers change r sound lived) =
@@ -142,13 +142,13 @@ module _ {asked : Type 0} (save : ℕ) (stack memory pool ends : List ℕ) (mach
   created-acts _ (tasks.refused refusal change) = refused refusal change stack memory pool ends
 
   abbrev creation : ℕ → RegistersAndChange
-  creation next = op-t-create stack memory (registers-of machine) next (machine .«next_id») task
+  creation next = op-t-create stack memory (registers-of machine) next (machine .«next_id» .0) task
 
-  created-here : (next : ℕ) → slot ≡ machine .«next_id»
-      → Changes asked (length memory) stack table slot ((machine .«next_id» + 1) % 2 ^ 32) (len-after (machine .count) (machine .«next_id»)) 1 0 (creation next)
+  created-here : (next : ℕ) → slot ≡ machine .«next_id» .0
+      → Changes asked (length memory) stack table slot ((machine .«next_id» .0 + 1) % 2 ^ 32) (len-after (machine .count) (machine .«next_id» .0)) 1 0 (creation next)
   created-here next e =
-      subst (λ (k : ℕ). Changes asked (length memory) stack table k ((machine .«next_id» + 1) % 2 ^ 32) (len-after (machine .count) (machine .«next_id»)) 1 0 (creation next)) (sym e)
-      (create-makes (length memory) stack table (machine .«next_id») (machine .count) t memory (registers-of machine) next task (registered m))
+      subst (λ (k : ℕ). Changes asked (length memory) stack table k ((machine .«next_id» .0 + 1) % 2 ^ 32) (len-after (machine .count) (machine .«next_id» .0)) 1 0 (creation next)) (sym e)
+      (create-makes (length memory) stack table (machine .«next_id» .0) (machine .count) t memory (registers-of machine) next task (registered m))
 
   -- an opcode counts as it is
   by-op : (op k : ℕ) (a : OnAll) → eqb op k ≡ true → On (creates k) (deletes k) a → On (creates op) (deletes op) a
@@ -168,17 +168,17 @@ module _ {asked : Type 0} (save : ℕ) (stack memory pool ends : List ℕ) (mach
   abbrev OnTask : ℕ → MachineAndChange → Type 0
   OnTask op a = On (creates op) (deletes op) (on-all a stack memory pool ends)
 
-  task-acts : (op next : ℕ) → (eqb op T-CREATE ≡ true → slot ≡ machine .«next_id») → OnTask op (on-task stack memory machine task op next)
+  task-acts : (op next : ℕ) → (eqb op T-CREATE ≡ true → slot ≡ machine .«next_id» .0) → OnTask op (on-task stack memory machine task op next)
   unfolding on-task creates deletes
   task-acts op next here =
       either (OnTask op) (eqb op T-CREATE) _ _ (λ is. by-op op T-CREATE _ is (created-acts _ (created-here next (here is))))
       (λ made. either (OnTask op) (eqb op T-SET-FIELD) _ _
-      (λ is. by-op op T-SET-FIELD _ is (by-acts 0 _ (set-field-sets (length memory) stack table slot (machine .«next_id») (machine .count) t memory (registers-of machine) next (registered m))))
+      (λ is. by-op op T-SET-FIELD _ is (by-acts 0 _ (set-field-sets (length memory) stack table slot (machine .«next_id» .0) (machine .count) t memory (registers-of machine) next (registered m))))
       (λ _. either (OnTask op) (eqb op T-DELETE) _ _
-      (λ is. by-op op T-DELETE _ is (by-acts 1 _ (delete-deletes (length memory) stack table slot (machine .«next_id») (machine .count) t (registers-of machine) next (registered m))))
+      (λ is. by-op op T-DELETE _ is (by-acts 1 _ (delete-deletes (length memory) stack table slot (machine .«next_id» .0) (machine .count) t (registers-of machine) next (registered m))))
       (λ deleted. as-none op next made deleted)))
 
-  frames-acts : (op place next : ℕ) → (eqb op T-CREATE ≡ true → slot ≡ machine .«next_id») → On (creates op) (deletes op) (on-frames stack memory pool ends machine task op place next)
+  frames-acts : (op place next : ℕ) → (eqb op T-CREATE ≡ true → slot ≡ machine .«next_id» .0) → On (creates op) (deletes op) (on-frames stack memory pool ends machine task op place next)
   unfolding on-frames creates deletes
   frames-acts op place next here =
       either (On (creates op) (deletes op)) (eqb op PUSH-CALLDATA) _ _
@@ -191,13 +191,13 @@ module _ {asked : Type 0} (save : ℕ) (stack memory pool ends : List ℕ) (mach
       (λ is. by-op op END-CALL _ is (went-acts _ (end-call-on (length memory) (length pool) save stack ends machine m next)))
       (λ _. task-acts op next here))))
 
-  extent-acts : (op place : ℕ) (extent : Extent) → (eqb op T-CREATE ≡ true → slot ≡ machine .«next_id»)
+  extent-acts : (op place : ℕ) (extent : Extent) → (eqb op T-CREATE ≡ true → slot ≡ machine .«next_id» .0)
       → On (creates op) (deletes op) (act-by stack memory pool ends machine task op place extent)
   unfolding act-by
   extent-acts op place (Next next) here = frames-acts op place next here
   extent-acts op place Cut here = refused _ _ stack memory pool ends
 
-  pub act-acts : (eqb (op-at pool ends machine) T-CREATE ≡ true → slot ≡ machine .«next_id»)
+  pub act-acts : (eqb (op-at pool ends machine) T-CREATE ≡ true → slot ≡ machine .«next_id» .0)
       → On (creates (op-at pool ends machine)) (deletes (op-at pool ends machine)) (act stack memory pool ends machine task)
   unfolding act act-at op-at
   act-acts here =

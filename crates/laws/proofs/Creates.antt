@@ -13,6 +13,7 @@ use Rattle.errors.specs.declared.Refusal.{Refusal}
 use Rattle.errors.specs.declared.Refusal.the-variants.{WrongPhaseOrUnsound, EmptyInstructions, ProgramTooLong, PoolFull}
 use Rattle.pools.specs.Pool.{has-room, interned}
 use Rattle.storage.specs.declared.Task.{Task}
+use Rattle.storage.specs.declared.TaskId.{TaskId}
 use Rattle.image.specs.Image.{ImageTask, Image, Read, sound, bad-at, read-image}
 use Rattle.image.specs.Reading.{s-len, instruction-bytes, tested}
 use Rattle.image.specs.Table.{Loading, load-table}
@@ -45,7 +46,7 @@ module _ (table : List Task) (pool ends image program : List ℕ) where
   -- ---- what the tests find
 
   data Tests : CreationResult → Type 0 where
-    fit : (next-id count len : ℕ) → Creatable table pool image program → Tests (Fit next-id count len)
+    fit : (next-id : TaskId) (count len : ℕ) → Creatable table pool image program → Tests (Fit next-id count len)
     unfit : (refusal : Refusal) → NotCreatable table pool image program refusal → Tests (Unfit refusal)
 
   image-part : length table ≡ 256 → 1 ≤ length program → length program ≤ 65535 → (r : Read Image) → read-image image ≡ r → Tests (image-tests (length pool) (length program) (tested r))
@@ -53,7 +54,7 @@ module _ (table : List Task) (pool ends image program : List ℕ) where
   image-part slots some short (sound found) e = by (leb (pool-bytes program found) (min 65536 (length pool))) refl
     where
       by : (test : Bool) → leb (pool-bytes program found) (min 65536 (length pool)) ≡ test
-          → Tests (cond (has-room (length pool) (length program) (length (found .tasks)) (instruction-bytes (found .tasks))) (Fit (found .next-id) (length (found .tasks)) (s-len (found .tasks))) (Unfit PoolFull))
+          → Tests (cond (has-room (length pool) (length program) (length (found .tasks)) (instruction-bytes (found .tasks))) (Fit (record { 0 = found .next-id }) (length (found .tasks)) (s-len (found .tasks))) (Unfit PoolFull))
       by true is = rw (roomy image found (length pool) (length program) e, is) (fit _ _ _ (record { slots = slots; some = omega (arith, some); short = omega (arith, short); found = found; is-sound = e; room = (let held = leb-true (pool-bytes program found) (min 65536 (length pool)) is in omega (arith, held)) }))
       by false is = rw (roomy image found (length pool) (length program) e, is) (unfit _ (no-room found slots some short e (leb-false _ _ is)))
   image-part slots some short (bad-at place) e = unfit _ (bad-image place slots some (omega (arith, short)) e)
@@ -81,7 +82,7 @@ module _ (table : List Task) (pool ends image program : List ℕ) where
 
   -- what passes them is created: the program is entry 0, and behind it come the image's tasks
   tests-fit : (c : Creatable table pool image program)
-      → creation-tests (length table) (length pool) (length program) image ≡ Fit (c .found .next-id) (length (c .found .tasks)) (s-len (c .found .tasks))
+      → creation-tests (length table) (length pool) (length program) image ≡ Fit (record { 0 = c .found .next-id }) (length (c .found .tasks)) (s-len (c .found .tasks))
   unfolding creation-tests image-tests tested
   tests-fit c =
       rw (eq-eqb (length table) 256 (c .slots), ne-eqb (length program) 0 (λ (z : length program ≡ 0). omega (arith, c .some)), le-ltb 65535 (length program) (c .short), c .is-sound)

@@ -132,11 +132,11 @@ pub record Begins (bytes : List ℕ) (machine : Machine) : Type 0 where
   pub image : Image
   pub read : read-image bytes ≡ sound image
   pub tasks : Orderly (image .next-id) 0 (image .tasks)
-  pub next-id : machine .«next_id» ≡ image .next-id
+  pub next-id : machine .«next_id» .0 ≡ image .next-id
   pub count : machine .count ≡ s-len (image .tasks)
 
 begins-with : (table : List Task) (lent size : ℕ) (bytes : List ℕ) (next-id count len : ℕ) → Fits (length table) lent size bytes next-id count len → (machine : Machine)
-    → machine .«next_id» ≡ next-id → machine .count ≡ len → Begins bytes machine
+    → machine .«next_id» .0 ≡ next-id → machine .count ≡ len → Begins bytes machine
 begins-with table lent size bytes next-id count len f machine id-is count-is = record {
   image = f .image .image;
   read = f .image .read;
@@ -182,7 +182,7 @@ module _ (table : List Task) (pool ends image program : List ℕ) (lent : length
   by-tests : (result : CreationResult) → creation-tests (length table) (length pool) (length program) image ≡ result → Creates image (create-as table (prepare-fit pool ends image program result))
   unfolding create-as prepare-fit unfit
   by-tests (Fit next-id count len) e =
-      with-entry next-id count len _ (fits (length table) (length pool) (length program) image next-id count len e) (intern-keeps pool ends 0 0 program lent (none-joined ends))
+      with-entry (next-id .0) count len _ (fits (length table) (length pool) (length program) image (next-id .0) count len e) (intern-keeps pool ends 0 0 program lent (none-joined ends))
   by-tests (Unfit refusal) e = not-creates refusal table pool ends image program
 
   creating : Creates image (create table pool ends image program)

@@ -123,14 +123,14 @@ framed-sound frames m sound = record { values = m .values; entries = m .entries;
 
 -- the ids are as they were
 pub record Same (machine after : Machine) : Type 0 where
-  pub next-id : after .«next_id» ≡ machine .«next_id»
+  pub next-id : after .«next_id» .0 ≡ machine .«next_id» .0
   pub count : after .count ≡ machine .count
 
 -- so many ids given out, none or one: the next id goes up by as many, and the S_LEN count is the one given plus 1
 pub record Given (made : ℕ) (machine after : Machine) : Type 0 where
-  pub next-id : after .«next_id» ≡ machine .«next_id» + made
+  pub next-id : after .«next_id» .0 ≡ machine .«next_id» .0 + made
   pub none : made ≡ 0 → after .count ≡ machine .count
-  pub one : made ≡ 1 → after .count ≡ machine .«next_id» + 1
+  pub one : made ≡ 1 → after .count ≡ machine .«next_id» .0 + 1
 
 pub none-given : {machine after : Machine} → Same machine after → Given 0 machine after
 none-given same = record { next-id = omega (arith, same .next-id); none = λ _. same .count; one = λ e. absurd (omega arith) }

@@ -38,7 +38,7 @@ use Rattle.laws.proofs.Tables.{table-counts}
 module _ (w : World) where
   -- the next task in its slot, or a refusal
   data Makes : StepResult → Type 0 where
-    makes : (left : ℕ) (title : List ℕ) (state : TaskState) (reference : InstructionsRef) → w .machine .«next_id» < 256
+    makes : (left : ℕ) (title : List ℕ) (state : TaskState) (reference : InstructionsRef) → w .machine .«next_id» .0 < 256
         → Makes (next (with-next-task (onward w left) (new-task (next-id w) title state reference)))
     makes-none : (refusal : Refusal) → Makes (refused refusal)
 
@@ -61,10 +61,10 @@ module _ (w : World) where
   unfolding bytes-of test
   bytes-make vector onward more = either Makes (inside (memory-in-use w) vector) _ _ (λ _. more _) (λ _. makes-none _)
 
-  room-makes : (title : ℕ) (onward : StepResult) → (w .machine .«next_id» < 256 → Makes onward) → Makes (room w title onward)
+  room-makes : (title : ℕ) (onward : StepResult) → (w .machine .«next_id» .0 < 256 → Makes onward) → Makes (room w title onward)
   unfolding with-room storage.room
   room-makes title onward more =
-      either (λ (r : RoomResult). Makes (with-room r onward)) (leb 256 (w .machine .«next_id»)) _ _ (λ _. makes-none _)
+      either (λ (r : RoomResult). Makes (with-room r onward)) (leb 256 (w .machine .«next_id» .0)) _ _ (λ _. makes-none _)
       (λ less. either (λ (r : RoomResult). Makes (with-room r onward)) (ltb 128 title) _ _ (λ _. makes-none _) (λ _. more (leb-false _ _ less)))
 
   create-makes : Makes (t-create w)
@@ -92,15 +92,15 @@ lives-there id table title state reference inside =
     let e = getD-set-same table id (new-task (record { 0 = id }) title state reference) blank inside in
     (ap (λ (t : Task). t .living) e, ap (λ (t : Task). t .id .0) e)
 
-made-lives : (w v : World) (s : StepResult) → length (w .table) ≡ 256 → Makes w s → s ≡ next v → Lives (w .machine .«next_id») (v .table)
+made-lives : (w v : World) (s : StepResult) → length (w .table) ≡ 256 → Makes w s → s ≡ next v → Lives (w .machine .«next_id» .0) (v .table)
 unfolding slot-of placed
 made-lives w v _ slots (makes left title state reference less) e =
     let same : with-next-task (onward w left) (new-task (next-id w) title state reference) ≡ v = cc in
-    subst (λ (u : World). Lives (w .machine .«next_id») (u .table)) same (lives-there (w .machine .«next_id») (w .table) title state reference (omega (arith, less, slots)))
+    subst (λ (u : World). Lives (w .machine .«next_id» .0) (u .table)) same (lives-there (w .machine .«next_id» .0) (w .table) title state reference (omega (arith, less, slots)))
 made-lives w v _ slots (makes-none refusal) e = absurd (let z : _≡_ {A = ℕ} 0 1 = cc in omega arith)
 
 -- a finished T_CREATE gives out the next id: after it a task of this id lives in the slot of this id
 pub given-lives : (w v : World) → Passes w → op w ≡ T-CREATE → step w ≡ next v
-    → (getD (v .table) (w .machine .«next_id») blank .living ≡ true) × (getD (v .table) (w .machine .«next_id») blank .id .0 ≡ w .machine .«next_id»)
+    → (getD (v .table) (w .machine .«next_id» .0) blank .living ≡ true) × (getD (v .table) (w .machine .«next_id» .0) blank .id .0 ≡ w .machine .«next_id» .0)
 given-lives w v passes is s =
-    made-lives w v (step w) (table-counts (w .table) (w .machine .«next_id») (w .machine .count) (passes-kept w passes .table-kept .sound) .slots-are) (step-makes w is) s
+    made-lives w v (step w) (table-counts (w .table) (w .machine .«next_id» .0) (w .machine .count) (passes-kept w passes .table-kept .sound) .slots-are) (step-makes w is) s

@@ -64,7 +64,7 @@ data Climbs : ℕ → ℕ → List ℕ → ℕ → ℕ → Type 0 where
   gives : {id count last final : ℕ} {ids : List ℕ} → Climbs (id + 1) (id + 1) ids last final → Climbs id count (id ∷ ids) last final
 
 abbrev Along : World → List World → World → Type 0
-Along w finished v = Climbs (w .machine .«next_id») (w .machine .count) (given-ids finished) (v .machine .«next_id») (v .machine .count)
+Along w finished v = Climbs (w .machine .«next_id» .0) (w .machine .count) (given-ids finished) (v .machine .«next_id» .0) (v .machine .count)
 
 same : (id count last final : ℕ) → last ≡ id → final ≡ count → Climbs id count [] last final
 same id count last final a b = subst (λ (n : ℕ). Climbs id count [] n final) (sym a) (subst (λ (n : ℕ). Climbs id count [] id n) (sym b) stays)
@@ -77,7 +77,7 @@ unfolding given-ids
 beside w v b = same _ _ _ _ (b .ids .next-id) (b .ids .count)
 
 one-by : (w v : World) (b : Bool) → Given (cond b 1 0) (w .machine) (v .machine)
-    → Climbs (w .machine .«next_id») (w .machine .count) (cond b (w .machine .«next_id» ∷ []) []) (v .machine .«next_id») (v .machine .count)
+    → Climbs (w .machine .«next_id» .0) (w .machine .count) (cond b (w .machine .«next_id» .0 ∷ []) []) (v .machine .«next_id» .0) (v .machine .count)
 one-by w v true g = one-given _ _ _ _ (g .next-id) (g .one refl)
 one-by w v false g = same _ _ _ _ (let n = g .next-id in omega (arith, n)) (g .none refl)
 
@@ -96,11 +96,11 @@ given-by false id first second joined e = e
 given-both : (first second : List World) → given-ids (first ++ second) ≡ given-ids first ++ given-ids second
 unfolding given-ids
 given-both [] second = refl
-given-both (w ∷ first) second = given-by (eqb (op w) T-CREATE) (w .machine .«next_id») (given-ids first) (given-ids second) (given-ids (first ++ second)) (given-both first second)
+given-both (w ∷ first) second = given-by (eqb (op w) T-CREATE) (w .machine .«next_id» .0) (given-ids first) (given-ids second) (given-ids (first ++ second)) (given-both first second)
 
 chain : (w v u : World) (first second : List World) → Along w first v → Along v second u → Along w (first ++ second) u
 chain w v u first second before after =
-    subst (λ (ids : List ℕ). Climbs (w .machine .«next_id») (w .machine .count) ids (u .machine .«next_id») (u .machine .count)) (sym (given-both first second)) (climbs-on before after)
+    subst (λ (ids : List ℕ). Climbs (w .machine .«next_id» .0) (w .machine .count) ids (u .machine .«next_id» .0) (u .machine .count)) (sym (given-both first second)) (climbs-on before after)
 
 climbs-rising : {id count last final : ℕ} {ids : List ℕ} → Climbs id count ids last final → Rising id ids last
 climbs-rising {id = id} stays = ends {low = id} {high = id} (omega arith)
@@ -134,16 +134,16 @@ greatest-both (id ∷ first) second = let n = greatest-both first second in omeg
 -- ---- both
 
 module _ (bytes : List ℕ) (first w : World) (b : Begins bytes (first .machine)) (given : List ℕ)
-    (c : Climbs (first .machine .«next_id») (first .machine .count) given (w .machine .«next_id») (w .machine .count)) where
+    (c : Climbs (first .machine .«next_id» .0) (first .machine .count) given (w .machine .«next_id» .0) (w .machine .count)) where
   abbrev loaded : List ℕ
   loaded = ids-of (b .image .tasks)
 
-  all-rising : Rising 0 (loaded ++ given) (w .machine .«next_id»)
+  all-rising : Rising 0 (loaded ++ given) (w .machine .«next_id» .0)
   all-rising = joined (subst (Rising 0 loaded) (sym (b .next-id)) (loaded-rising (omega arith) (b .tasks))) (climbs-rising c)
 
   all-counted : w .machine .count ≡ past-greatest (loaded ++ given)
   all-counted =
-      let low : first .machine .count ≤ first .machine .«next_id» = let s = s-len-below (b .tasks) in omega (arith, s, b .next-id, b .count) in
+      let low : first .machine .count ≤ first .machine .«next_id» .0 = let s = s-len-below (b .tasks) in omega (arith, s, b .next-id, b .count) in
       let n = climbs-count low c in
       let s = loaded-count (b .image .tasks) in
       let g = greatest-both loaded given in

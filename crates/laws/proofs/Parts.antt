@@ -80,7 +80,7 @@ lengths-hold memory pool save machine l =
     )
 
 record Tests (w : World) : Type 0 where
-  table : sound-table (w .table) (w .machine .«next_id») (w .machine .count) ≡ true
+  table : sound-table (w .table) (w .machine .«next_id» .0) (w .machine .count) ≡ true
   all-lengths : sound-lengths (length (w .memory)) (length (w .pool)) (length (w .save)) (w .machine) ≡ true
   frames : sound-frames (w .machine .frames) (w .machine .entries) ≡ true
   joined : end-to-end (w .ends) (w .machine .pool) (w .machine .entries) ≡ true
@@ -88,7 +88,7 @@ record Tests (w : World) : Type 0 where
 tests : (w : World) → is-sound w ≡ true → Tests w
 unfolding sound-world sound-record
 tests w e =
-    let a = and-eq-true-iff (sound-table (w .table) (w .machine .«next_id») (w .machine .count)) _ .0 e in
+    let a = and-eq-true-iff (sound-table (w .table) (w .machine .«next_id» .0) (w .machine .count)) _ .0 e in
     let b = and-eq-true-iff (sound-lengths (length (w .memory)) (length (w .pool)) (length (w .save)) (w .machine)) _ .0 (a .1) in
     let c = and-eq-true-iff (sound-frames (w .machine .frames) (w .machine .entries)) _ .0 (b .1) in
     record { table = a .0; all-lengths = b .0; frames = c .0; joined = c .1 }
@@ -102,7 +102,7 @@ tests-hold w t = simp (t .table, t .all-lengths, t .frames, t .joined)
 -- a world that passes the test of 26, and is sound in all else where that is asked
 pub record Kept (asked : Type 0) (w : World) : Type 0 where
   pub machine-kept : Machined asked (length (w .memory)) (length (w .pool)) (length (w .save)) (w .stack) (w .ends) (w .machine)
-  pub table-kept : Tabled asked (w .table) (w .machine .«next_id») (w .machine .count)
+  pub table-kept : Tabled asked (w .table) (w .machine .«next_id» .0) (w .machine .count)
 
 kept : {asked : Type 0} (w : World) → Passes w → (asked → Sound w) → Kept asked w
 kept w p s =
@@ -149,5 +149,5 @@ kept-sound w k =
 pub machined : (w : World) → Sound w → Machined (Unit {0}) (length (w .memory)) (length (w .pool)) (length (w .save)) (w .stack) (w .ends) (w .machine)
 machined w s = sound-kept w s .machine-kept
 
-pub tabled : (w : World) → Sound w → Tabled (Unit {0}) (w .table) (w .machine .«next_id») (w .machine .count)
+pub tabled : (w : World) → Sound w → Tabled (Unit {0}) (w .table) (w .machine .«next_id» .0) (w .machine .count)
 tabled w s = sound-kept w s .table-kept

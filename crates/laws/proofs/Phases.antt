@@ -163,7 +163,7 @@ module _ (phase : Phase) where
       (alike acted-as (eqb op T-DELETE) _ _ _ _ (ap (λ (w : MachineResult). acted w (deleted .change)) (by-as machine (deleted .did))) refl))
     where
       made : RegistersAndChange
-      made = op-t-create stack memory (registers-of machine) next (machine .«next_id») task
+      made = op-t-create stack memory (registers-of machine) next (machine .«next_id» .0) task
 
       set : RegistersAndChange
       set = op-t-set-field stack memory (registers-of machine) next task

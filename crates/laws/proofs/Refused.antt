@@ -110,7 +110,7 @@ pub save-not-saved : (w : World) (refusal : Refusal) → host-save w .report .re
 unfolding host-save
 save-not-saved w refusal =
     either (λ (s : SavedTo). s .report .result ≡ NotSaved refusal → s ≡ answered w (NotSaved refusal)) (is-sound w) _ _
-    (λ _. table-not-saved w refusal _ (save-keeps (w .machine .«next_id») (w .table) (w .pool) (w .ends) (w .machine .entries) (w .save))) (λ _ e. ap (answered w) e)
+    (λ _. table-not-saved w refusal _ (save-keeps (w .machine .«next_id» .0) (w .table) (w .pool) (w .ends) (w .machine .entries) (w .save))) (λ _ e. ap (answered w) e)
 
 -- ---- each
 
@@ -159,7 +159,7 @@ module _ (table : List Task) (pool ends image program : List ℕ) (refusal : Ref
 
   by-tests : (result : CreationResult) → Nothing (create-fit table pool ends image program result)
   unfolding create-fit
-  by-tests (Fit next-id count s-len) = behind next-id s-len (has-room (length pool) 0 0 (length program)) refl
+  by-tests (Fit next-id count s-len) = behind (next-id .0) s-len (has-room (length pool) 0 0 (length program)) refl
   by-tests (Unfit other) = λ e. ap (λ (r : CreateResult). made r table pool ends image program) e
 
   -- whatever it is refused for, creation writes nothing

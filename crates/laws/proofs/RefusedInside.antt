@@ -257,7 +257,7 @@ has-state-fine state new-state onward fine =
 task-room-fine : (w : World) (title : ℕ) (onward : StepResult) → Fine onward → Fine (room w title onward)
 unfolding with-room storage.room
 task-room-fine w title onward fine =
-    either (λ (r : RoomResult). Fine (with-room r onward)) (leb 256 (w .machine .«next_id»)) _ _ (λ _. stops _ refl)
+    either (λ (r : RoomResult). Fine (with-room r onward)) (leb 256 (w .machine .«next_id» .0)) _ _ (λ _. stops _ refl)
     (λ _. either (λ (r : RoomResult). Fine (with-room r onward)) (ltb 128 title) _ _ (λ _. stops _ refl) (λ _. fine))
 
 -- what a save is refused with
@@ -291,7 +291,7 @@ unless-fine _ image save onward not-refused fine =
 saved-fine : (w : World) (onward : ℕ → StepResult) → ((size : ℕ) → Fine (onward size)) → Fine (saved (saving w .answer) onward)
 unfolding save-table save-tasks
 saved-fine w onward fine =
-    unless-fine _ (written (image-of-tasks (w .machine .«next_id») (living-tasks (w .table)) (w .pool) (w .ends))) (w .save) onward (tasks-refuse (w .ends) (w .machine .entries) (living-tasks (w .table))) fine
+    unless-fine _ (written (image-of-tasks (w .machine .«next_id» .0) (living-tasks (w .table)) (w .pool) (w .ends))) (w .save) onward (tasks-refuse (w .ends) (w .machine .entries) (living-tasks (w .table))) fine
 
 -- ---- the opcodes
 

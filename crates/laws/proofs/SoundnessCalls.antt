@@ -81,7 +81,7 @@ save-kept : {asked : Type 0} (w : World) → Kept asked w → Kept asked (world-
 unfolding host-save
 save-kept {asked} w s =
     either (λ (r : SavedTo). Kept asked (world-saved r)) (is-sound w) _ _
-    (λ _. host-saved-kept w _ s (save-keeps (w .machine .«next_id») (w .table) (w .pool) (w .ends) (w .machine .entries) (w .save))) (λ _. s)
+    (λ _. host-saved-kept w _ s (save-keeps (w .machine .«next_id» .0) (w .table) (w .pool) (w .ends) (w .machine .entries) (w .save))) (λ _. s)
 
 -- ---- a history
 

@@ -93,7 +93,7 @@ module _ {asked : Type 0} (w : World) (s : Kept asked w) where
 
   -- ---- an instruction that needs no task, frame or pool
 
-  settled-tabled : (registers : Registers) → Tabled asked (w .table) (settled (w .machine) registers .«next_id») (settled (w .machine) registers .count)
+  settled-tabled : (registers : Registers) → Tabled asked (w .table) (settled (w .machine) registers .«next_id» .0) (settled (w .machine) registers .count)
   unfolding settled
   settled-tabled registers = s .table-kept
 
@@ -127,7 +127,7 @@ module _ {asked : Type 0} (w : World) (s : Kept asked w) where
       steps (world after (applied (w .table) slot change) stack memory pool ends (w .save)) (record { still = record { machine-kept = m; table-kept = t }; pools = grows; lived = lived; given = given })
   went-steps slot _ (acted.refused refusal change stack memory pool ends) = refused refusal
 
-  named : eqb (op w) T-CREATE ≡ true → wanted (w .stack) (w .machine) (op w) ≡ w .machine .«next_id»
+  named : eqb (op w) T-CREATE ≡ true → wanted (w .stack) (w .machine) (op w) ≡ w .machine .«next_id» .0
   unfolding wanted
   named is = simp is
 
@@ -164,7 +164,7 @@ module _ {asked : Type 0} (w : World) (s : Kept asked w) where
 
   saves-steps : eqb (op w) S-SAVE ≡ true → Steps asked w (saves w)
   unfolding saves
-  saves-steps is = saved-steps _ is (save-keeps (w .machine .«next_id») (w .table) (w .pool) (w .ends) (w .machine .entries) (w .save))
+  saves-steps is = saved-steps _ is (save-keeps (w .machine .«next_id» .0) (w .table) (w .pool) (w .ends) (w .machine .entries) (w .save))
 
   -- ---- each
 

@@ -19,7 +19,7 @@ loaded-ids (bad-at place) = []
 -- the ids that the T_CREATEs among finished instructions gave: the next id before each
 unfoldable pub given-ids : List World → List ℕ
 given-ids [] = []
-given-ids (w ∷ others) = cond (eqb (op w) T-CREATE) (w .machine .«next_id» ∷ given-ids others) (given-ids others)
+given-ids (w ∷ others) = cond (eqb (op w) T-CREATE) (w .machine .«next_id» .0 ∷ given-ids others) (given-ids others)
 
 -- every id held since creation: those loaded, then those of the finished T_CREATEs in their order
 abbrev pub held-ids : List ℕ → List HostCall → World → List ℕ
@@ -33,5 +33,5 @@ past-greatest (id ∷ ids) = max (id + 1) (past-greatest ids)
 -- no two ids are one, since each is above those before it; all are below the next id; the S_LEN count is the greatest plus 1
 pub record Held (ids : List ℕ) (w : World) : Type 0 where
   pub rising : (i j : ℕ) → i < j → j < length ids → getD ids i 0 < getD ids j 0
-  pub below : (i : ℕ) → i < length ids → getD ids i 0 < w .machine .«next_id»
+  pub below : (i : ℕ) → i < length ids → getD ids i 0 < w .machine .«next_id» .0
   pub counted : w .machine .count ≡ past-greatest ids

@@ -1,3 +1,4 @@
 pub mod Forms
+pub mod LineByLine
 pub mod Longest
 pub mod Short

@@ -1,15 +1,17 @@
 -- The listing of document 01, as the join of its lines.
-use Prim.Native.Nat.{ℕ}
+use Prim.Native.Nat.{ℕ, zero, suc, _+_, _-_}
 use mathlib.Core.Bool.{Bool, true, false, cond}
 use mathlib.Core.List.{List, [], _∷_, _++_}
-use lib.ListN.{length, take}
+use lib.ListN.{length, getD, take}
 use Rattle.errors.specs.Refusals.{number-of, details-of}
 use Rattle.storage.specs.Table.{living-of}
+use Rattle.storage.specs.Tasks.{blank}
 use Rattle.storage.specs.declared.Task.{Task}
 use Rattle.text.specs.Ascii.{ascii}
 use Rattle.text.specs.Numbers.{decimal, spaced, words}
 use Rattle.text.specs.Lines.{line, said}
 use Rattle.text.specs.declared.Form.the-variants.{Plain, Hex}
+use Rattle.memory.specs.Unbox.{unbox-value, part-of}
 use Rattle.memory.specs.declared.unbox.Return.{Return}
 use Rattle.memory.specs.declared.unbox.Return.the-variants as kind
 use Rattle.listing.specs.declared.Head.{Head}
@@ -65,6 +67,25 @@ pub record Read : Type 0 where
   pub answer : Return
   pub part : List ℕ
 
+-- what a word of the stack is read as
+abbrev pub read-of : List ℕ → List ℕ → List ℕ → ℕ → ℕ → Read
+read-of memory pool ends entries word = record {
+  answer = unbox-value memory ends entries word;
+  part = part-of memory pool ends (unbox-value memory ends entries word);
+}
+
+-- what each word is read as
+unfoldable pub values-of : List ℕ → List ℕ → List ℕ → ℕ → List ℕ → List Read
+values-of memory pool ends entries [] = []
+values-of memory pool ends entries (word ∷ more) = read-of memory pool ends entries word ∷ values-of memory pool ends entries more
+
+-- how high the stack is that is listed: that of a run that is done
+unfoldable pub height-of : Head → ℕ → ℕ
+height-of (Done count) height = height
+height-of (Paused count) height = 0
+height-of (Refused refusal) height = 0
+height-of (Saved length) height = 0
+
 -- the lines of values, bottom first
 unfoldable pub lines-of-values : List Read → List ℕ
 lines-of-values [] = []
@@ -79,3 +100,35 @@ lines-of-tasks (task ∷ more) = line-of-task task ++ lines-of-tasks more
 unfoldable pub listing : Head → List Read → List Task → List ℕ
 listing head values table =
     line-of-head head ++ (line-of-count Values (length values) ++ (lines-of-values values ++ (line-of-count Tasks (living-of table) ++ lines-of-tasks table)))
+
+-- ---- the same, line by line
+
+-- a line behind the count of values: a value each, then how many tasks follow, then a task
+unfoldable pub line-behind : List Read → ℕ → Task → ℕ → List ℕ
+line-behind (read ∷ more) living task zero = line-of-value (read .answer) (read .part)
+line-behind (read ∷ more) living task (suc number) = line-behind more living task number
+line-behind [] living task zero = line-of-count Tasks living
+line-behind [] living task (suc number) = line-of-task task
+
+-- a line by its number, counted from 0, with the count of living tasks and the task in the line's slot
+unfoldable pub line-by : Head → List Read → ℕ → Task → ℕ → List ℕ
+line-by head values living task zero = line-of-head head
+line-by head values living task (suc zero) = line-of-count Values (length values)
+line-by head values living task (suc (suc number)) = line-behind values living task number
+
+-- how many lines there are to so many values and slots; a slot that is not living has an empty one
+unfoldable pub line-count : ℕ → ℕ → ℕ
+line-count values slots = values + 3 + slots
+
+-- the slot that a line shows, where so many values are listed
+unfoldable pub slot-shown : ℕ → ℕ → ℕ
+slot-shown values number = number - (values + 3)
+
+-- a line of the listing, by its number
+unfoldable pub line-at : Head → List Read → List Task → ℕ → List ℕ
+line-at head values table number = line-by head values (living-of table) (getD table (slot-shown (length values) number) blank) number
+
+-- the first so many lines, one after the other
+unfoldable pub joined-lines : (ℕ → List ℕ) → ℕ → List ℕ
+joined-lines line zero = []
+joined-lines line (suc number) = joined-lines line number ++ line number

@@ -1,5 +1,6 @@
 // The listing of document 01: what its first line tells, and its counts, a line at a time into a lent buffer.
 pub mod head_line;
+pub mod lines;
 pub mod task_line;
 pub mod value_line;
 

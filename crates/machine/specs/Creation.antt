@@ -36,7 +36,7 @@ new-machine bytes entries next-id count = record {
   memory = 0;
   pool = bytes;
   entries = entries;
-  «next_id» = next-id;
+  «next_id» = record { 0 = next-id };
   count = count;
   saved = 0;
 }
@@ -75,7 +75,7 @@ entered table image program next-id s-len p = create-behind table image program 
 
 -- what fits is created; where a test refuses, nothing is written
 unfoldable pub create-fit : List Task → List ℕ → List ℕ → List ℕ → List ℕ → CreationResult → Made
-create-fit table pool ends image program (Fit next-id count s-len) = entered table image program next-id s-len (interned pool ends 0 0 program)
+create-fit table pool ends image program (Fit next-id count s-len) = entered table image program (next-id .0) s-len (interned pool ends 0 0 program)
 create-fit table pool ends image program (Unfit refusal) = made (NotCreated refusal) table pool ends image program
 
 -- creation: 26 for the table, then 1, 28, 25, 22; then the program and the tasks

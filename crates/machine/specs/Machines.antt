@@ -112,7 +112,7 @@ with-ids machine next-id count = record {
   memory = machine .memory;
   pool = machine .pool;
   entries = machine .entries;
-  «next_id» = next-id;
+  «next_id» = record { 0 = next-id };
   count = count;
   saved = machine .saved;
 }

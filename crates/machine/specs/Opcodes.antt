@@ -91,7 +91,7 @@ reference-of value = record { 0 = to-u32 value }
 
 -- the id of the next task, and the world with that task
 abbrev pub next-id : World → TaskId
-next-id w = record { 0 = w .machine .«next_id» }
+next-id w = w .machine .«next_id»
 
 abbrev pub with-next-task : World → Task → World
 with-next-task w task = counting (with-task w (next-id w) task) (next-id w .0 + 1) (len-after (w .machine .count) (next-id w .0))
@@ -156,7 +156,7 @@ t-delete w =
 
 -- what a save answers, and the buffer after it
 abbrev pub saving : World → SavedTable
-saving w = save-table (w .machine .«next_id») (w .table) (w .pool) (w .ends) (w .machine .entries) (w .save)
+saving w = save-table (w .machine .«next_id» .0) (w .table) (w .pool) (w .ends) (w .machine .entries) (w .save)
 
 -- S_SAVE: 12 and 15 of each task by id, then 24; the length of the image is kept
 unfoldable pub s-save : World → StepResult

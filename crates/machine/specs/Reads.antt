@@ -125,5 +125,5 @@ host-save-as w a = saved-to (host-saved (w .machine) (a .answer)) (w .table) (w 
 
 unfoldable pub host-save : World → SavedTo
 host-save w =
-    cond (is-sound w) (host-save-as w (save-table (w .machine .«next_id») (w .table) (w .pool) (w .ends) (w .machine .entries) (w .save)))
+    cond (is-sound w) (host-save-as w (save-table (w .machine .«next_id» .0) (w .table) (w .pool) (w .ends) (w .machine .entries) (w .save)))
     (saved-to (not-saved (w .machine)) (w .table) (w .stack) (w .memory) (w .pool) (w .ends) (w .save))

@@ -38,7 +38,7 @@ sound-record memory pool ends save machine table-sound =
 -- the record with its table: 256 slots, the ids, the living slots
 unfoldable pub sound-world : List Task → List ℕ → List ℕ → List ℕ → List ℕ → Machine → Bool
 sound-world table memory pool ends save machine =
-    sound-record (length memory) (length pool) ends (length save) machine (sound-table table (machine .«next_id») (machine .count))
+    sound-record (length memory) (length pool) ends (length save) machine (sound-table table (machine .«next_id» .0) (machine .count))
 
 -- an answer, and memory, the pool, its ends and the save buffer after it
 pub record Beside : Type 0 where

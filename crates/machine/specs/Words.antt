@@ -254,7 +254,7 @@ with-room (NoRoom refusal) onward = refused refusal
 
 -- one more task, with a title of so many bytes, has room
 abbrev pub room : World → ℕ → StepResult → StepResult
-room w title onward = with-room (storage.room (w .machine .«next_id») title) onward
+room w title onward = with-room (storage.room (w .machine .«next_id» .0) title) onward
 
 -- ---- a save: 12, 15, 24
 

@@ -6,6 +6,7 @@ use image::SaveResult;
 use inlinevec::Frames;
 use inlinevec::Loops;
 use storage::Task;
+use storage::TaskId;
 
 // Where a machine stands between two calls.
 pub enum Phase {
@@ -24,7 +25,7 @@ pub struct Machine {
     pub memory: usize,
     pub pool: usize,
     pub entries: usize,
-    pub next_id: u32,
+    pub next_id: TaskId,
     pub count: u32,
     pub saved: usize,
 }

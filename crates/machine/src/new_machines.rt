@@ -10,10 +10,11 @@ use inlinevec::Frames;
 use inlinevec::Loop;
 use inlinevec::Loops;
 use pools::InstructionsRef;
+use storage::TaskId;
 
 // A machine at its program's start, in a phase, with so many bytes and entries in its pool.
-fn at_its_start(phase: Phase, bytes: usize, entries: usize, next_id: u32, count: u32) -> Machine
-    ensures { λ r. ⌜ r ≡ phased (new-machine bytes entries «next_id» count) phase ⌝ }
+fn at_its_start(phase: Phase, bytes: usize, entries: usize, next_id: TaskId, count: u32) -> Machine
+    ensures { λ r. ⌜ r ≡ phased (new-machine bytes entries («next_id» .0) count) phase ⌝ }
 {
     let none = Loop {
         place: 0,
@@ -49,8 +50,8 @@ fn at_its_start(phase: Phase, bytes: usize, entries: usize, next_id: u32, count:
 }
 
 // A machine that has not run.
-pub fn new_machine(bytes: usize, entries: usize, next_id: u32, count: u32) -> Machine
-    ensures { λ r. ⌜ r ≡ new-machine bytes entries «next_id» count ⌝ }
+pub fn new_machine(bytes: usize, entries: usize, next_id: TaskId, count: u32) -> Machine
+    ensures { λ r. ⌜ r ≡ new-machine bytes entries («next_id» .0) count ⌝ }
 {
     at_its_start(Phase::New, bytes, entries, next_id, count)
 }
@@ -61,6 +62,6 @@ pub fn machine_of(creation: CreateResult) -> Machine
 {
     match creation {
         CreateResult::Created(machine) => machine,
-        CreateResult::NotCreated(_) => at_its_start(Phase::Stopped, 0, 0, 0, 0),
+        CreateResult::NotCreated(_) => at_its_start(Phase::Stopped, 0, 0, TaskId(0), 0),
     }
 }

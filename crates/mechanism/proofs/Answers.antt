@@ -40,7 +40,7 @@ use Rattle.machine.specs.declared.SaveReport.{SaveReport}
 
 -- the table's slots, then the record beside it
 pub tests : (table : List Task) (memory pool ends save : List ℕ) (machine : Machine) {good answer : Bool} {table′ : List Task} {memory′ pool′ ends′ save′ : List ℕ}
-    → after good table′ ≡ after (sound-table table (machine .«next_id») (machine .count)) table
+    → after good table′ ≡ after (sound-table table (machine .«next_id» .0) (machine .count)) table
     → beside answer memory′ pool′ ends′ save′ ≡ beside (sound-record (length memory) (length pool) ends (length save) machine good) memory pool ends save
     → tested answer table′ memory′ pool′ ends′ save′ ≡ tested (sound-world table memory pool ends save machine) table memory pool ends save
 unfolding sound-world
@@ -113,17 +113,17 @@ module _ (machine : Machine) (table : List Task) (stack memory pool ends save : 
       ∙ ap (λ (t : Tested). read-to (task-at (t .ends) machine (t .answer) id (getD (t .table) (slot-of id) blank)) (world machine (t .table) stack (t .memory) (t .pool) (t .ends) (t .save))) e
 
   -- a save
-  hosts : cond good (host-save-as (world machine table′ stack memory′ pool′ ends′ save′) (save-table (machine .«next_id») table′ pool′ ends′ (machine .entries) save′)) (saved-to (not-saved machine) table′ stack memory′ pool′ ends′ save′)
+  hosts : cond good (host-save-as (world machine table′ stack memory′ pool′ ends′ save′) (save-table (machine .«next_id» .0) table′ pool′ ends′ (machine .entries) save′)) (saved-to (not-saved machine) table′ stack memory′ pool′ ends′ save′)
       ≡ host-save (world machine table stack memory pool ends save)
   unfolding host-save
   hosts =
       ap (λ (t : Tested). cond (t .answer)
-      (host-save-as (world machine (t .table) stack (t .memory) (t .pool) (t .ends) (t .save)) (save-table (machine .«next_id») (t .table) (t .pool) (t .ends) (machine .entries) (t .save)))
+      (host-save-as (world machine (t .table) stack (t .memory) (t .pool) (t .ends) (t .save)) (save-table (machine .«next_id» .0) (t .table) (t .pool) (t .ends) (machine .entries) (t .save)))
       (saved-to (not-saved machine) (t .table) stack (t .memory) (t .pool) (t .ends) (t .save))) e
 
   -- one of a sound record
   pub hosts-save : {result : SaveResult} {r : SaveReport} {table″ : List Task} {pool″ ends″ save″ : List ℕ} → good ≡ true
-      → held (saved-table result save″) table″ pool″ ends″ ≡ held (save-table (machine .«next_id») table′ pool′ ends′ (machine .entries) save′) table′ pool′ ends′ → r ≡ host-saved machine result
+      → held (saved-table result save″) table″ pool″ ends″ ≡ held (save-table (machine .«next_id» .0) table′ pool′ ends′ (machine .entries) save′) table′ pool′ ends′ → r ≡ host-saved machine result
       → saved-to r table″ stack memory′ pool″ ends″ save″ ≡ host-save (world machine table stack memory pool ends save)
   hosts-save {result} {r} {table″} {pool″} {ends″} {save″} sound f g =
       ap (λ (x : SaveReport). saved-to x table″ stack memory′ pool″ ends″ save″) g

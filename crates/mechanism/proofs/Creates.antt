@@ -27,7 +27,7 @@ module _ (table : List Task) (pool ends image program : List ℕ) where
   by-tests : (result : CreationResult) → creation-tests (length table) (length pool) (length program) image ≡ result → create-as table (prepare-fit pool ends image program result) ≡ create-fit table pool ends image program result
   unfolding create-as prepare-fit unfit create-fit
   by-tests (Fit next-id count s-len) e =
-      behind next-id count s-len (fits (length table) (length pool) (length program) image next-id count s-len e) (interned pool ends 0 0 program .pool) (interned pool ends 0 0 program .ends)
+      behind (next-id .0) count s-len (fits (length table) (length pool) (length program) image (next-id .0) count s-len e) (interned pool ends 0 0 program .pool) (interned pool ends 0 0 program .ends)
       (interned pool ends 0 0 program .answer)
   by-tests (Unfit refusal) e = refl
 

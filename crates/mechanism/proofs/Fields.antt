@@ -20,7 +20,8 @@ use lib.Dec.{T as Holds}
 use denote.Laws.{Is}
 use denote.Struct.Laws as struct
 use Rattle.lent.proofs.Shut.{Shut}
-use Rattle.storage.proofs.Records.{R, vals as task-vals, val as task-val}
+use Rattle.storage.proofs.Records.{R, vals as task-vals, val as task-val, id-shut, id-vals}
+use Rattle.storage.proofs.TaskId as id
 use Rattle.machine.specs.declared.Machine.{Machine}
 use Rattle.machine.proofs.Machine as machine
 use Rattle.machine.proofs.Machine.Laws as machine-laws
@@ -38,6 +39,7 @@ use Rattle.mechanism.specs.declared.StateAnswer.{StateAnswer}
 use Rattle.mechanism.proofs.StateAnswer as stated
 use Rattle.mechanism.proofs.StateAnswer.Laws as stated-laws
 use Rattle.mechanism.proofs.Values.{machine-shut, machine-vals, change-shut, change-vals, went-shut, went-vals, acted-shut, acted-vals, gone-shut, gone-vals, stated-shut, stated-vals}
+open Shut id-shut using (val as id-val)
 open Shut machine-shut using (val as machine-val)
 open Shut change-shut using (val as change-val, ty as change-ty)
 open Shut went-shut using (val as went-val)
@@ -52,9 +54,9 @@ pub entries-fit : (m : Machine) → Is machine.the-row m (machine-vals m) → m 
 unfolding machine-shut
 entries-fit m is = struct.owed machine.the-type machine-laws.the-laws m (machine-vals m) is .1 .1 .1 .1 .1 .1 .0 .1
 
-pub next-id-fits : (m : Machine) → Is machine.the-row m (machine-vals m) → m .«next_id» < 2 ^ 32
-unfolding machine-shut
-next-id-fits m is = struct.owed machine.the-type machine-laws.the-laws m (machine-vals m) is .1 .1 .1 .1 .1 .1 .1 .0 .1
+pub next-id-is : (m : Machine) → Is machine.the-row m (machine-vals m) → Is id.the-row (m .«next_id») (id-vals (m .«next_id»))
+unfolding machine-shut id-shut
+next-id-is m is = struct.owed machine.the-type machine-laws.the-laws m (machine-vals m) is .1 .1 .1 .1 .1 .1 .1 .0
 
 -- of a change
 pub state-fits : (c : Change) → Is change.the-row c (change-vals c) → c .state < 2 ^ 32
@@ -136,8 +138,8 @@ module _ {M : Type 1} {𝓤 : URA M} {H : Heap 𝓤} {A : Atoms 𝓤} {K : Type 
   unfolding gone-shut
   take-entries t i n g at holds = taken-in t 0 6 i n refl refl refl at holds
 
-  pub take-next-id : K → (i n : ℕ) (g : Progress) {l : ℕ} → spotOf 𝓤 H E i ≡ (gone-ty, l, 0) → nth 𝓤 H A n Γ ≡ ‵ (fat fullShare gone-ty l 0 (gone-val g)) → Opd K W Γ E (copy (place i (field 0 ∷ field 7 ∷ []))) (vint w32 (g .machine .«next_id»))
-  unfolding gone-shut
+  pub take-next-id : K → (i n : ℕ) (g : Progress) {l : ℕ} → spotOf 𝓤 H E i ≡ (gone-ty, l, 0) → nth 𝓤 H A n Γ ≡ ‵ (fat fullShare gone-ty l 0 (gone-val g)) → Opd K W Γ E (copy (place i (field 0 ∷ field 7 ∷ []))) (id-val (g .machine .«next_id»))
+  unfolding gone-shut id-shut
   take-next-id t i n g at holds = taken-in t 0 7 i n refl refl refl at holds
 
   -- of an answer

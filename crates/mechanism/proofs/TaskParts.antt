@@ -111,7 +111,7 @@ module _ (w : World) where
   -- ---- T_CREATE
 
   abbrev next-id : ℕ
-  next-id = w .machine .«next_id»
+  next-id = w .machine .«next_id» .0
 
   abbrev on-next : RegistersAndChange → StepResult
   on-next answer = on-record w next-id (on-all (created-by (w .machine) answer) (w .stack) (w .memory) (w .pool) (w .ends))

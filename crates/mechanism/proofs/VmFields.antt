@@ -14,6 +14,7 @@ use types.Run.{Opd}
 use denote.Laws.{Is}
 use denote.Struct.Laws as struct
 use Rattle.lent.proofs.Shut.{Shut}
+use Rattle.storage.proofs.Records.{id-shut}
 use Rattle.machine.specs.declared.Machine.{Machine}
 use Rattle.machine.proofs.Machine as machine
 use Rattle.machine.proofs.Machine.Laws as machine-laws
@@ -26,6 +27,7 @@ use Rattle.machine.proofs.Permission.Laws as allowed-laws
 use Rattle.machine.proofs.Preparation as prepared
 use Rattle.machine.proofs.Preparation.Laws as prepared-laws
 use Rattle.mechanism.proofs.VmValues.{allowed-shut, allowed-vals, prepared-shut, prepared-vals}
+open Shut id-shut using (val as id-val)
 open Shut machine-shut using (val as machine-val, ty as machine-ty)
 open Shut allowed-shut using (val as allowed-val, ty as allowed-ty)
 open Shut prepared-shut using (val as prepared-val, ty as prepared-ty)
@@ -63,8 +65,8 @@ module _ {M : Type 1} {𝓤 : URA M} {H : Heap 𝓤} {A : Atoms 𝓤} {K : Type 
   unfolding machine-shut
   take-entries t i n m at holds = taken t 6 i n refl at holds
 
-  pub take-next-id : K → (i n : ℕ) (m : Machine) {l : ℕ} → spotOf 𝓤 H E i ≡ (machine-ty, l, 0) → nth 𝓤 H A n Γ ≡ ‵ (fat fullShare machine-ty l 0 (machine-val m)) → Opd K W Γ E (copy (place i (field 7 ∷ []))) (vint w32 (m .«next_id»))
-  unfolding machine-shut
+  pub take-next-id : K → (i n : ℕ) (m : Machine) {l : ℕ} → spotOf 𝓤 H E i ≡ (machine-ty, l, 0) → nth 𝓤 H A n Γ ≡ ‵ (fat fullShare machine-ty l 0 (machine-val m)) → Opd K W Γ E (copy (place i (field 7 ∷ []))) (id-val (m .«next_id»))
+  unfolding machine-shut id-shut
   take-next-id t i n m at holds = taken t 7 i n refl at holds
 
   pub take-count : K → (i n : ℕ) (m : Machine) {l : ℕ} → spotOf 𝓤 H E i ≡ (machine-ty, l, 0) → nth 𝓤 H A n Γ ≡ ‵ (fat fullShare machine-ty l 0 (machine-val m)) → Opd K W Γ E (copy (place i (field 8 ∷ []))) (vint w32 (m .count))

@@ -32,9 +32,6 @@ use Rattle.machine.proofs.TaskRead.Laws as task-read-laws
 use Rattle.machine.specs.declared.SaveReport.{SaveReport}
 use Rattle.machine.proofs.SaveReport as save-report
 use Rattle.machine.proofs.SaveReport.Laws as save-report-laws
-use Rattle.storage.specs.declared.TaskId.{TaskId}
-use Rattle.storage.proofs.TaskId as id
-use Rattle.storage.proofs.TaskId.Laws as id-laws
 use Rattle.machine.specs.declared.CreateResult.{CreateResult}
 use Rattle.machine.proofs.CreateResult as created
 use Rattle.machine.proofs.CreateResult.Laws as created-laws
@@ -104,13 +101,6 @@ save-report-shut = of-struct save-report.the-type save-report-laws.the-laws save
 
 abbrev pub save-report-vals : SaveReport → List Val
 save-report-vals = vals save-report-shut
-
--- an id
-unfoldable pub id-shut : Shut id.the-row
-id-shut = of-struct id.the-type id-laws.the-laws id-laws.the-plain
-
-abbrev pub id-vals : TaskId → List Val
-id-vals = vals id-shut
 
 -- what a creation answers
 unfoldable pub created-shut : Shut created.the-row

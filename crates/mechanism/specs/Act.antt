@@ -52,7 +52,7 @@ went-by machine (did.Refused refusal) = Refused refusal
 -- after T_CREATE there is one more id
 unfoldable pub created : Machine → RegistersResult → MachineResult
 created machine (did.Next registers) =
-    Onto (with-ids (settled machine registers) ((machine .«next_id» + 1) % 2 ^ 32) (len-after (machine .count) (machine .«next_id»)))
+    Onto (with-ids (settled machine registers) ((machine .«next_id» .0 + 1) % 2 ^ 32) (len-after (machine .count) (machine .«next_id» .0)))
 created machine (did.Refused refusal) = Refused refusal
 
 -- the machine after an instruction on a task
@@ -65,7 +65,7 @@ created-by machine tasked = acted (created machine (tasked .did)) (tasked .chang
 -- the opcodes that change a slot; any other does nothing
 unfoldable pub on-task : List ℕ → List ℕ → Machine → Task → ℕ → ℕ → MachineAndChange
 on-task stack memory machine task op next =
-    cond (eqb op T-CREATE) (created-by machine (op-t-create stack memory (registers-of machine) next (machine .«next_id») task))
+    cond (eqb op T-CREATE) (created-by machine (op-t-create stack memory (registers-of machine) next (machine .«next_id» .0) task))
     (cond (eqb op T-SET-FIELD) (tasked-by machine (op-t-set-field stack memory (registers-of machine) next task))
     (cond (eqb op T-DELETE) (tasked-by machine (op-t-delete stack (registers-of machine) next task))
     (acted (Onto (machine-at machine next (machine .height))) (keep task))))

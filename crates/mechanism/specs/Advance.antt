@@ -30,7 +30,7 @@ named stack height = named-by (pop stack height)
 -- the slot that an instruction names: the next id's, that of the value below the field, that of the value on top
 unfoldable pub wanted : List ℕ → Machine → ℕ → ℕ
 wanted stack machine op =
-    cond (eqb op T-CREATE) (machine .«next_id»)
+    cond (eqb op T-CREATE) (machine .«next_id» .0)
     (cond (eqb (machine .height) 0) 256
     (cond (eqb op T-GET-FIELD) (named stack (machine .height - 1))
     (cond (eqb op T-SET-FIELD) (named stack (machine .height - 1)) (named stack (machine .height)))))

@@ -51,7 +51,7 @@ abbrev pub interned-program : ℕ → ℕ → ℕ → List ℕ → List ℕ → 
 interned-program next-id count s-len image program p = prepared (with-program next-id count s-len (p .answer)) (p .pool) (p .ends) image program
 
 unfoldable pub prepare-fit : List ℕ → List ℕ → List ℕ → List ℕ → CreationResult → PreparedIn
-prepare-fit pool ends image program (Fit next-id count s-len) = interned-program next-id count s-len image program (interned pool ends 0 0 program)
+prepare-fit pool ends image program (Fit next-id count s-len) = interned-program (next-id .0) count s-len image program (interned pool ends 0 0 program)
 prepare-fit pool ends image program (Unfit refusal) = prepared (unfit refusal) pool ends image program
 
 -- 26 for the table, then 1, 28, 25, 22, before anything is written

@@ -27,13 +27,13 @@ fn element_size_bytes(tag: u64) -> SizeResult
 }
 
 // Index times element size by wrapping additions of the index.
-fn scaled(index: u32, width: u32) -> u32
-    ensures { λ r. ⌜ r ≡ scaled index width ⌝ }
+fn scaled(index: ElementIndex, width: u32) -> u32
+    ensures { λ r. ⌜ r ≡ scaled (index .0) width ⌝ }
 {
     let mut sum: u32 = 0;
     let mut turn: u32 = 0;
     while turn < width {
-        sum = std::num::wrapping_add_u32(sum, index);
+        sum = std::num::wrapping_add_u32(sum, index.0);
         turn += 1;
     }
     sum
@@ -62,22 +62,22 @@ fn put_u8(memory: &mut [u8], at: usize, number: u32)
 fn change_element(
     memory: &mut [u8],
     pointer: FatPointer,
-    index: u32,
+    index: ElementIndex,
     payload: u32,
     width: u32,
 ) -> ChangeResult
     requires { ⌜ (width ≡ 1) ⊎ (width ≡ 4) ⌝ }
-    ensures { λ r. ⌜ after r (now (memory .exit)) ≡ changed (now (memory .entry)) pointer index payload (Size width) ⌝ }
+    ensures { λ r. ⌜ after r (now (memory .exit)) ≡ changed (now (memory .entry)) pointer (index .0) payload (Size width) ⌝ }
 {
     let size = pointer.size as u32;
-    if size / width <= index {
+    if size / width <= index.0 {
         return ChangeResult::NotChanged(Refusal::MSliceOutOfBounds {
             index: scaled(index, width),
             size,
         });
     }
     if lies_in(memory.len(), pointer) {
-        let at = pointer.offset as usize + index as usize * width as usize;
+        let at = pointer.offset as usize + index.0 as usize * width as usize;
         if width == 1 {
             put_u8(memory, at, payload);
             return ChangeResult::Changed;
@@ -103,6 +103,6 @@ pub fn mut_vec(
 {
     match element_size_bytes(tag) {
         SizeResult::NoSize(refusal) => ChangeResult::NotChanged(refusal),
-        SizeResult::Size(width) => change_element(memory, pointer, index.0, payload, width),
+        SizeResult::Size(width) => change_element(memory, pointer, index, payload, width),
     }
 }

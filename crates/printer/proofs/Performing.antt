@@ -44,19 +44,19 @@ performs-save verb fuel w {report} {t} {s} {m} {p} {e} {v} {r} saves keeps answe
     ∙ sym (simp (saves))
 
 -- its number's verb and fuel, the call, and lines that change nothing
-pub turns : (calls : List ℕ) (start number : ℕ) (w : World) {verb fuel : ℕ} {c₁ c₂ : List ℕ} {a : CallOutcome} {t₃ : List Task} {s₃ m₃ p₃ e₃ v₃ s₄ m₄ p₄ e₄ : List ℕ} {t₅ : List Task} {m₆ v₆ : List ℕ} {r : Machine}
+pub turns : (calls : List ℕ) (start number : ℕ) (w : World) {verb fuel : ℕ} {c₁ c₂ : List ℕ} {a : CallOutcome} {t₃ : List Task} {s₃ m₃ p₃ e₃ v₃ : List ℕ} {t₄ : List Task} {s₄ m₄ p₄ e₄ m₅ v₅ : List ℕ} {r : Machine}
     → after verb c₁ ≡ after (verb-at calls start number) calls → after fuel c₂ ≡ after (fuel-at c₁ start number) c₁
     → acted a t₃ s₃ m₃ p₃ e₃ v₃ ≡ performed verb fuel w
-    → (s₄ ≡ s₃) × (m₄ ≡ m₃) × (p₄ ≡ p₃) × (e₄ ≡ e₃) → t₅ ≡ t₃ → (m₆ ≡ m₄) × (v₆ ≡ v₃) → r ≡ a .machine
-    → after (world r t₅ s₄ m₆ p₄ e₄ v₆) c₂ ≡ after (after-call calls start number w) calls
+    → (t₄ ≡ t₃) × (s₄ ≡ s₃) × (m₄ ≡ m₃) × (p₄ ≡ p₃) × (e₄ ≡ e₃) → (m₅ ≡ m₄) × (v₅ ≡ v₃) → r ≡ a .machine
+    → after (world r t₄ s₄ m₅ p₄ e₄ v₅) c₂ ≡ after (after-call calls start number w) calls
 unfolding after-call
-turns calls start number w {verb} {fuel} {c₁} {c₂} {a} {t₃} {s₃} {m₃} {p₃} {e₃} {v₃} {s₄} {m₄} {p₄} {e₄} {t₅} {m₆} {v₆} {r} verbs fuels performs answers tasks machines afterwards =
-    ap (λ (x : Machine). after (world x t₅ s₄ m₆ p₄ e₄ v₆) c₂) afterwards
-    ∙ ap (λ (x : List Task). after (world (a .machine) x s₄ m₆ p₄ e₄ v₆) c₂) tasks
-    ∙ ap (λ (x : List ℕ). after (world (a .machine) t₃ x m₆ p₄ e₄ v₆) c₂) (answers .0)
-    ∙ ap (λ (x : List ℕ). after (world (a .machine) t₃ s₃ x p₄ e₄ v₆) c₂) (machines .0 ∙ answers .1)
-    ∙ ap (λ (x : List ℕ). after (world (a .machine) t₃ s₃ m₃ x e₄ v₆) c₂) (answers .2)
-    ∙ ap (λ (x : List ℕ). after (world (a .machine) t₃ s₃ m₃ p₃ x v₆) c₂) (answers .3)
+turns calls start number w {verb} {fuel} {c₁} {c₂} {a} {t₃} {s₃} {m₃} {p₃} {e₃} {v₃} {t₄} {s₄} {m₄} {p₄} {e₄} {m₅} {v₅} {r} verbs fuels performs listings machines afterwards =
+    ap (λ (x : Machine). after (world x t₄ s₄ m₅ p₄ e₄ v₅) c₂) afterwards
+    ∙ ap (λ (x : List Task). after (world (a .machine) x s₄ m₅ p₄ e₄ v₅) c₂) (listings .0)
+    ∙ ap (λ (x : List ℕ). after (world (a .machine) t₃ x m₅ p₄ e₄ v₅) c₂) (listings .1)
+    ∙ ap (λ (x : List ℕ). after (world (a .machine) t₃ s₃ x p₄ e₄ v₅) c₂) (machines .0 ∙ listings .2)
+    ∙ ap (λ (x : List ℕ). after (world (a .machine) t₃ s₃ m₃ x e₄ v₅) c₂) (listings .3)
+    ∙ ap (λ (x : List ℕ). after (world (a .machine) t₃ s₃ m₃ p₃ x v₅) c₂) (listings .4)
     ∙ ap (λ (x : List ℕ). after (world (a .machine) t₃ s₃ m₃ p₃ e₃ x) c₂) (machines .1)
     ∙ ap (λ (x : CallOn). after (left x) c₂) performs
     ∙ ap (λ (x : After ℕ (List ℕ)). after (left (performed verb (x .answer) w)) (x .lent)) fuels

@@ -1,4 +1,4 @@
-// The machine after a call, on standard output: its loops, its frames, its memory and the image. What is printed is no part of a contract.
+// What is shown beside the listing, on standard output: the call before it, and behind it the machine, its loops, its frames, its memory and the image. What is printed is no part of a contract.
 ghost use mathlib.Core.Path.{_≡_};
 use crate::CallOutcome;
 use crate::emit;
@@ -8,6 +8,26 @@ use inlinevec::Loops;
 use libc::STDOUT_FILENO;
 use report::Report;
 use report::Word;
+
+// The call that was asked for.
+fn call_of(verb: u8, fuel: u64) -> Report {
+    if verb == 0 {
+        return Report::Start(fuel);
+    }
+    if verb == 1 {
+        return Report::Continue(fuel);
+    }
+    Report::Save
+}
+
+// Where everything is shown: the call.
+pub(crate) fn show_call(verb: u8, fuel: u64, everything: bool)
+    ensures { λ r. ⌜ r ≡ tt ⌝ }
+{
+    if everything {
+        show_report(call_of(verb, fuel));
+    }
+}
 
 // A word around bytes in hex.
 fn show_word(word: Word) {

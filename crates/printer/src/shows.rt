@@ -4,7 +4,6 @@ ghost use Rattle.storage.specs.Tasks.{after};
 ghost use Rattle.machine.specs.World.{world};
 ghost use Rattle.printer.specs.Shows.{acted, performed, after-call, after-calls, lent, own};
 use crate::CallOutcome;
-use crate::answer_lines::show_answer;
 use crate::asked::count_of;
 use crate::asked::fuel_at;
 use crate::asked::machine_after;
@@ -12,25 +11,37 @@ use crate::asked::ran;
 use crate::asked::saved;
 use crate::asked::verb_at;
 use crate::asked::verb_of;
+use crate::listing_lines::listed;
+use crate::listing_lines::show_creation;
+use crate::listing_lines::show_line;
+use crate::machine_lines::show_call;
 use crate::machine_lines::show_machine;
-use crate::show_count;
-use crate::show_creation;
-use crate::show_task;
+use listing::lines::line_count;
+use listing::lines::slot_shown;
 use machine::Machine;
 use machine::new_machines::machine_of;
 use storage::Task;
 
-// The tasks, by id.
-fn show_tasks(table: &mut [Task])
-    ensures { λ _. ⌜ now (table .exit) ≡ now (table .entry) ⌝ }
+// The listing of a call: its lines, one after the other.
+fn show_listing(
+    table: &mut [Task],
+    stack: &mut [u64; 1000],
+    memory: &mut [u8],
+    pool: &mut [u8],
+    ends: &mut [u32; 1024],
+    answered: CallOutcome,
+)
+    ensures { λ _. ⌜ (now (table .exit) ≡ now (table .entry)) × (now (stack .exit) ≡ now (stack .entry)) × (now (memory .exit) ≡ now (memory .entry)) × (now (pool .exit) ≡ now (pool .entry)) × (now (ends .exit) ≡ now (ends .entry)) ⌝ }
 {
-    let count = table::slots::living(table);
-    show_count(count);
-    let mut slot = 0;
-    while slot < table.len() {
+    let living = table::slots::living(table);
+    let values = listed(answered);
+    let count = line_count(values, table.len());
+    let mut number = 0;
+    while number < count {
+        let slot = slot_shown(values, number);
         let task = table::get(table, slot);
-        show_task(task);
-        slot = slot + 1;
+        show_line(stack, memory, pool, ends, answered, living, task, number);
+        number = number + 1;
     }
 }
 
@@ -86,8 +97,8 @@ fn turn(
     let verb = verb_at(calls, from, number);
     let fuel = fuel_at(calls, from, number);
     let answered = act(table, stack, memory, pool, ends, save, machine, verb, fuel);
-    show_answer(stack, memory, pool, ends, answered, verb, fuel, everything);
-    show_tasks(table);
+    show_call(verb, fuel, everything);
+    show_listing(table, stack, memory, pool, ends, answered);
     show_machine(memory, save, answered, everything);
     machine_after(answered)
 }

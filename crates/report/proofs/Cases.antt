@@ -26,7 +26,7 @@ machine = record {
   memory = 20;
   pool = 300;
   entries = 4;
-  «next_id» = 5;
+  «next_id» = record { 0 = 5 };
   count = 6;
   saved = 78;
 }

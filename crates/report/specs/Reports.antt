@@ -16,7 +16,7 @@ line-of-report (report.Continue fuel) = said (ascii "continue #") (fuel ∷ [])
 line-of-report report.Save = said (ascii "save") []
 line-of-report (report.After machine) =
     said (ascii "machine height # memory # pool # entries # next # count # saved #")
-    (machine .height ∷ machine .memory ∷ machine .pool ∷ machine .entries ∷ machine .«next_id» ∷ machine .count ∷ machine .saved ∷ [])
+    (machine .height ∷ machine .memory ∷ machine .pool ∷ machine .entries ∷ machine .«next_id» .0 ∷ machine .count ∷ machine .saved ∷ [])
 line-of-report (report.Open loop) = said (ascii "loop # # #") (loop .place ∷ loop .index ∷ loop .limit ∷ [])
 line-of-report (report.Called frame) = said (ascii "frame # #") (frame .entry .0 ∷ frame .place ∷ [])
 line-of-report (report.BadBatch at) = said (ascii "bad batch at #") (at ∷ [])

@@ -46,7 +46,7 @@ fn machine_line(out: &mut [u8], machine: Machine) -> LineResult
         machine.memory as u64,
         machine.pool as u64,
         machine.entries as u64,
-        machine.next_id as u64,
+        machine.next_id.0 as u64,
         machine.count as u64,
         machine.saved as u64,
     ];

@@ -103,7 +103,7 @@ module _ (table : List Task) (stack memory pool ends : List ℕ) (gone : Progres
 
 -- the table saved, its length kept
 pub save-turns : (table : List Task) (pool ends save : List ℕ) (gone : Progress) {result : SaveResult} {table′ : List Task} {pool′ ends′ save′ : List ℕ} {r : Progress}
-    → held (saved-table result save′) table′ pool′ ends′ ≡ held (save-table (gone .machine .«next_id») table pool ends (gone .machine .entries) save) table pool ends
+    → held (saved-table result save′) table′ pool′ ends′ ≡ held (save-table (gone .machine .«next_id» .0) table pool ends (gone .machine .entries) save) table pool ends
     → r ≡ saved (gone .machine) (gone .left) result → saving r table′ pool′ ends′ save′ ≡ save-turn table pool ends save gone
 unfolding save-turn
 save-turns table pool ends save gone {result} {table′} {pool′} {ends′} {save′} done went =

@@ -123,7 +123,7 @@ after-save gone table pool ends after = saving (saved (gone .machine) (gone .lef
 
 unfoldable pub save-turn : List Task → List ℕ → List ℕ → List ℕ → Progress → Saving
 save-turn table pool ends save gone =
-    after-save gone table pool ends (save-table (gone .machine .«next_id») table pool ends (gone .machine .entries) save)
+    after-save gone table pool ends (save-table (gone .machine .«next_id» .0) table pool ends (gone .machine .entries) save)
 
 -- ---- a turn
 

@@ -35,6 +35,7 @@ use pools::InternResult;
 use stepper::entering::op_call;
 use stepper::entering::op_end_call;
 use storage::Task;
+use storage::TaskId;
 use task_opcodes::t_create::op_t_create;
 use task_opcodes::t_delete::op_t_delete;
 use task_opcodes::t_fields::op_t_get_field;
@@ -111,7 +112,7 @@ fn push_calldata(
     match intern_calldata(pool, ends, machine, place) {
         InternResult::NotInterned(refusal) => MachineResult::Refused(refusal),
         InternResult::Interned { entry, bytes } => {
-            stack[height] = values::boxing::to_calldata_val(entry.0);
+            stack[height] = values::boxing::to_calldata_val(entry);
             MachineResult::Onto(with_entry(machine, next, entry, bytes))
         }
     }
@@ -134,7 +135,8 @@ fn created(machine: Machine, did: RegistersResult) -> MachineResult
     match did {
         RegistersResult::Next(registers) => {
             let mut after = settled(machine, registers);
-            after.next_id = std::num::wrapping_add_u32(machine.next_id, 1);
+            let next_id = TaskId(std::num::wrapping_add_u32(machine.next_id.0, 1));
+            after.next_id = next_id;
             after.count = storage::ids::len_after(machine.count, machine.next_id);
             MachineResult::Onto(after)
         }

@@ -8,6 +8,7 @@ use bytecode::opcodes::T_SET_FIELD;
 use inlinevec::PopResult;
 use machine::Machine;
 use mechanism::Progress;
+use storage::TaskId;
 
 // The slot that a value names, with so many values on the stack below it; past the last slot where there is none.
 fn named(stack: &[u64; 1000], height: usize) -> usize
@@ -15,7 +16,10 @@ fn named(stack: &[u64; 1000], height: usize) -> usize
 {
     match inlinevec::pop(stack, height) {
         PopResult::NotPopped(_) => 256,
-        PopResult::Popped { value, height: _ } => values::to_u32(value) as usize,
+        PopResult::Popped { value, height: _ } => {
+            let id = TaskId(values::to_u32(value));
+            storage::ids::slot_of(id)
+        }
     }
 }
 
@@ -25,7 +29,7 @@ fn wanted(stack: &[u64; 1000], machine: Machine, op: u8) -> usize
 {
     let height = machine.height;
     if op == T_CREATE {
-        return machine.next_id as usize;
+        return storage::ids::slot_of(machine.next_id);
     }
     if height == 0 {
         return 256;

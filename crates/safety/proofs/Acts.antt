@@ -125,7 +125,7 @@ module _ (w : World) (labels : ℕ → Label) (lent : length (w .stack) ≡ 1000
     pub create-acts : (slot : ℕ) → getD code here 0 ≡ T-CREATE → Steps code labels (acts w slot)
     unfolding on-frames on-task created-by registers-of whole-element plain-element
     create-acts slot e = by-kinds T-CREATE Creates e refl refl (λ left s a. by-acting T-CREATE slot inside e whole-here
-        (by-creation slot _ _ (create-good code labels here (w .machine .memory) next (w .stack) (w .memory) lent (w .machine .loops) (getD (w .table) slot blank) (w .machine .«next_id») few s a kinded looping)))
+        (by-creation slot _ _ (create-good code labels here (w .machine .memory) next (w .stack) (w .memory) lent (w .machine .loops) (getD (w .table) slot blank) (w .machine .«next_id» .0) few s a kinded looping)))
 
     pub delete-acts : (slot : ℕ) → getD code here 0 ≡ T-DELETE → Steps code labels (acts w slot)
     unfolding on-frames on-task tasked-by registers-of whole-element plain-element
@@ -192,4 +192,4 @@ module _ (w : World) (labels : ℕ → Label) (lent : length (w .stack) ≡ 1000
     unfolding saves whole-element plain-element moving-element
     save-acts e =
         by-kinds S-SAVE Unchanged e refl refl (λ left s a. saved-steps (saving w .save) (behind-save e) s a
-        (table-saves (w .machine .«next_id») (w .table) (w .pool) (w .ends) (w .machine .entries) (w .save)))
+        (table-saves (w .machine .«next_id» .0) (w .table) (w .pool) (w .ends) (w .machine .entries) (w .save)))

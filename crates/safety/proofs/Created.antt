@@ -95,7 +95,7 @@ module _ (table : List Task) (pool ends image program : List ℕ) (lent : length
 
   by-tests : (result : CreationResult) → Makes program (create-as table (prepare-fit pool ends image program result))
   unfolding create-as prepare-fit unfit
-  by-tests (Fit next-id count s-len) = on-bool (has-room (length pool) 0 0 (length program)) (with-room next-id count s-len) (without-room next-id count s-len)
+  by-tests (Fit next-id count s-len) = on-bool (has-room (length pool) 0 0 (length program)) (with-room (next-id .0) count s-len) (without-room (next-id .0) count s-len)
   by-tests (Unfit refusal) = makes-none
 
   creates : Makes program (create table pool ends image program)

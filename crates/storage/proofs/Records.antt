@@ -1,4 +1,4 @@
--- What every walk over the table cites: a `Task` as a type in memory, its machine value, and its place in the table.
+-- What every walk over the table cites: a `Task` and a `TaskId` as types in memory, their machine values, and a task's place in the table.
 use Prim.Native.Nat.{ℕ, _*_, _<_, _^_}
 use mathlib.Core.List.{List}
 use native.Mathlib.Omega.{arith}
@@ -12,10 +12,14 @@ use types.Kit.{Given}
 use denote.RattleType.{RattleType}
 use denote.Laws.{Is, Tells, Makes}
 use denote.Memory.{pointee}
+use Rattle.lent.proofs.Shut.{Shut, vals as shut-vals, of-struct}
 use Rattle.storage.specs.declared.Task.{Task}
+use Rattle.storage.specs.declared.TaskId.{TaskId}
 use denote.Struct.Laws as struct
 use Rattle.storage.proofs.Task as task
 use Rattle.storage.proofs.Task.Laws as task-laws
+use Rattle.storage.proofs.TaskId as id
+use Rattle.storage.proofs.TaskId.Laws as id-laws
 
 -- a task
 abbrev pub R : RattleType
@@ -33,6 +37,13 @@ val = struct.val task.the-type task-laws.the-laws
 
 pub tells : Tells R (Is R) vals
 tells = struct.tells task.the-type task-laws.the-laws
+
+-- an id
+unfoldable pub id-shut : Shut id.the-row
+id-shut = of-struct id.the-type id-laws.the-laws id-laws.the-plain
+
+abbrev pub id-vals : TaskId → List Val
+id-vals = shut-vals id-shut
 
 -- a slot's place in bytes fits
 pub place-fits : {slot slots : ℕ} → slots * 152 < 2 ^ 63 → slot < slots → slot * 152 < 2 ^ 64

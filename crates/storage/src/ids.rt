@@ -25,10 +25,10 @@ pub fn find(task: Task, id: TaskId) -> FindResult
 }
 
 // Whether one more task has room: a slot first, then its title.
-pub fn room(next_id: u32, title_len: usize) -> RoomResult
-    ensures { λ r. ⌜ r ≡ room «next_id» «title_len» ⌝ }
+pub fn room(next_id: TaskId, title_len: usize) -> RoomResult
+    ensures { λ r. ⌜ r ≡ room («next_id» .0) «title_len» ⌝ }
 {
-    if 256 <= next_id {
+    if 256 <= next_id.0 {
         return RoomResult::NoRoom(Refusal::TableFull);
     }
     if 128 < title_len {
@@ -38,11 +38,11 @@ pub fn room(next_id: u32, title_len: usize) -> RoomResult
 }
 
 // What S_LEN pushes once a task with this id was held.
-pub fn len_after(count: u32, id: u32) -> u32
-    ensures { λ r. ⌜ r ≡ len-after count id ⌝ }
+pub fn len_after(count: u32, id: TaskId) -> u32
+    ensures { λ r. ⌜ r ≡ len-after count (id .0) ⌝ }
 {
-    if id < count {
+    if id.0 < count {
         return count;
     }
-    std::num::wrapping_add_u32(id, 1)
+    std::num::wrapping_add_u32(id.0, 1)
 }

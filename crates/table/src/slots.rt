@@ -6,6 +6,7 @@ ghost use lib.ListN.{length, replicate};
 ghost use Rattle.storage.specs.Tasks.{blank, after};
 ghost use Rattle.storage.specs.Table.{lives, living-of, sound-slot, sound-counts, sound-table};
 use storage::Task;
+use storage::TaskId;
 
 // The blank record written to every slot.
 pub fn clear_all(table: &mut [Task])
@@ -70,24 +71,24 @@ fn still_sound(good: bool, task: Task, slot: usize, count: u32) -> bool
 }
 
 // Whether the numbers beside a table are within their limits.
-fn sound_counts(slots: usize, next_id: u32, count: u32) -> bool
-    ensures { λ r. ⌜ r ≡ sound-counts slots «next_id» count ⌝ }
+fn sound_counts(slots: usize, next_id: TaskId, count: u32) -> bool
+    ensures { λ r. ⌜ r ≡ sound-counts slots («next_id» .0) count ⌝ }
 {
     if slots != 256 {
         return false;
     }
-    if 256 < next_id {
+    if 256 < next_id.0 {
         return false;
     }
     if 256 < count {
         return false;
     }
-    count <= next_id
+    count <= next_id.0
 }
 
 // Whether a table, with the next id and the S_LEN count, is sound.
-pub fn sound(table: &mut [Task], next_id: u32, count: u32) -> bool
-    ensures { λ r. ⌜ after r (now (table .exit)) ≡ after (sound-table (now (table .entry)) «next_id» count) (now (table .entry)) ⌝ }
+pub fn sound(table: &mut [Task], next_id: TaskId, count: u32) -> bool
+    ensures { λ r. ⌜ after r (now (table .exit)) ≡ after (sound-table (now (table .entry)) («next_id» .0) count) (now (table .entry)) ⌝ }
 {
     let mut good = sound_counts(table.len(), next_id, count);
     let mut slot = 0;

@@ -2,11 +2,12 @@
 use Prim.Native.Nat.{ℕ, _<_, _≤_}
 use mathlib.Core.Bool.{Bool, true, false, cond}
 use mathlib.Core.List.{List}
-use mathlib.Core.Path.{_≡_, refl, sym, _∙_}
+use mathlib.Core.Path.{_≡_, ap, refl, sym, _∙_}
 use native.Mathlib.Omega.{arith}
 use lib.Dec.{eqb, ltb}
 use lib.ListN.{length, replicate}
 use borrow.Author.Tests.{eqb-true, eqb-false, ltb-false}
+use Rattle.storage.specs.declared.TaskId.{TaskId}
 use Rattle.errors.specs.declared.Refusal.the-variants.{EmptyInstructions, PoolFull, WrongPhaseOrUnsound, ProgramTooLong}
 use Rattle.image.specs.Image.{Image, Read, sound, bad-at, task-count, read-image}
 use Rattle.image.specs.Reading.{s-len, instruction-bytes, tested}
@@ -35,34 +36,34 @@ pub record Tested (bytes : List ℕ) (next-id count len instructions : ℕ) : Ty
   pub bytes-are : instruction-bytes (image .tasks) ≡ instructions
 
 -- the answer `Sound` tells of such an image
-pub tested-sound : (bytes : List ℕ) (next-id count len instructions : ℕ) → Sound next-id count len instructions ≡ tested (read-image bytes) → Tested bytes next-id count len instructions
+pub tested-sound : (bytes : List ℕ) (next-id count len instructions : ℕ) → Sound (record { 0 = next-id }) count len instructions ≡ tested (read-image bytes) → Tested bytes next-id count len instructions
 unfolding tested
 tested-sound bytes next-id count len instructions e = by (read-image bytes) refl e
   where
-    by : (r : Read Image) → read-image bytes ≡ r → Sound next-id count len instructions ≡ tested r → Tested bytes next-id count len instructions
-    by (sound image) q j = record { image = image; read = q; next-id-is = cc; count-is = cc; s-len-is = cc; bytes-are = cc }
+    by : (r : Read Image) → read-image bytes ≡ r → Sound (record { 0 = next-id }) count len instructions ≡ tested r → Tested bytes next-id count len instructions
+    by (sound image) q j = record { image = image; read = q; next-id-is = (let z : _≡_ {A = TaskId} (record { 0 = next-id }) (record { 0 = image .next-id }) = cc in ap (λ (i : TaskId). i .0) (sym z)); count-is = cc; s-len-is = cc; bytes-are = cc }
     by (bad-at place) q j = absurd (let z : _≡_ {A = ℕ} 0 1 = cc in omega arith)
 
 -- an image that was tested, with room behind the program for its instructions
 record Taken (lent size : ℕ) (answer : ImageResult) (next-id count len : ℕ) : Type 0 where
   instructions : ℕ
-  is-sound : answer ≡ Sound next-id count len instructions
+  is-sound : answer ≡ Sound (record { 0 = next-id }) count len instructions
   has : Room lent size count instructions
 
-image-taken : (lent size : ℕ) (answer : ImageResult) (next-id count len : ℕ) → image-tests lent size answer ≡ Fit next-id count len → Taken lent size answer next-id count len
+image-taken : (lent size : ℕ) (answer : ImageResult) (next-id count len : ℕ) → image-tests lent size answer ≡ Fit (record { 0 = next-id }) count len → Taken lent size answer next-id count len
 unfolding image-tests
 image-taken lent size (NotSound refusal) next-id count len e = absurd (let z : _≡_ {A = ℕ} 0 1 = cc in omega arith)
 image-taken lent size (Sound n k s i) next-id count len e = by (has-room lent size k i) refl e
   where
-    by : (test : Bool) → has-room lent size k i ≡ test → cond {A = CreationResult} test (Fit n k s) (Unfit PoolFull) ≡ Fit next-id count len → Taken lent size (Sound n k s i) next-id count len
+    by : (test : Bool) → has-room lent size k i ≡ test → cond {A = CreationResult} test (Fit n k s) (Unfit PoolFull) ≡ Fit (record { 0 = next-id }) count len → Taken lent size (Sound n k s i) next-id count len
     by true roomy q =
         let there : has-room lent size count i ≡ true = cc in
         record { instructions = i; is-sound = cc; has = room lent size count i there }
     by false full q = absurd (let z : _≡_ {A = ℕ} 0 1 = cc in omega arith)
 
 tests-taken : (table none long : Bool) (rest : CreationResult) (next-id count len : ℕ)
-    → cond table (cond none (Unfit EmptyInstructions) (cond long (Unfit ProgramTooLong) rest)) (Unfit WrongPhaseOrUnsound) ≡ Fit next-id count len
-    → (table ≡ true) × (none ≡ false) × (long ≡ false) × (rest ≡ Fit next-id count len)
+    → cond table (cond none (Unfit EmptyInstructions) (cond long (Unfit ProgramTooLong) rest)) (Unfit WrongPhaseOrUnsound) ≡ Fit (record { 0 = next-id }) count len
+    → (table ≡ true) × (none ≡ false) × (long ≡ false) × (rest ≡ Fit (record { 0 = next-id }) count len)
 tests-taken true false false rest next-id count len e = (refl, refl, refl, e)
 tests-taken true false true rest next-id count len e = absurd (let z : _≡_ {A = ℕ} 0 1 = cc in omega arith)
 tests-taken true true long rest next-id count len e = absurd (let z : _≡_ {A = ℕ} 0 1 = cc in omega arith)
@@ -78,7 +79,7 @@ pub record Fits (slots lent size : ℕ) (bytes : List ℕ) (next-id count len : 
   pub room : Room lent size count instructions
 
 -- the answer `Fit` tells of them
-pub fits : (slots lent size : ℕ) (bytes : List ℕ) (next-id count len : ℕ) → creation-tests slots lent size bytes ≡ Fit next-id count len → Fits slots lent size bytes next-id count len
+pub fits : (slots lent size : ℕ) (bytes : List ℕ) (next-id count len : ℕ) → creation-tests slots lent size bytes ≡ Fit (record { 0 = next-id }) count len → Fits slots lent size bytes next-id count len
 unfolding creation-tests
 fits slots lent size bytes next-id count len e =
     let t = tests-taken (eqb slots 256) (eqb size 0) (ltb 65535 size) (image-tests lent size (tested (read-image bytes))) next-id count len e in

@@ -6,11 +6,12 @@ use errors::Refusal;
 use image::ImageResult;
 use image::reading::test_image;
 use pools::capacity::has_room;
+use storage::TaskId;
 
 // What creation's tests answer: the image's next id, its task count and S_LEN, or the refusal.
 pub enum CreationResult {
     Fit {
-        next_id: u32,
+        next_id: TaskId,
         count: u32,
         s_len: u32,
     },

@@ -16,6 +16,7 @@ use image::SizeResult;
 use image::steps;
 use image::writing;
 use storage::Task;
+use storage::TaskId;
 
 // The size of a table's image, or the first refusal, and how many tasks it has.
 pub struct MeasuredTable {
@@ -111,8 +112,8 @@ pub(crate) fn measure_table(
 }
 
 // Where the image fits, its header is written and all slots are to be; else none.
-fn begin(save: &mut [u8], measured: MeasuredTable, next_id: u32, slots: usize) -> Begun
-    ensures { λ r. ⌜ after r (now (save .exit)) ≡ begin-save «next_id» slots (now (save .entry)) (measured-as measured) ⌝ }
+fn begin(save: &mut [u8], measured: MeasuredTable, next_id: TaskId, slots: usize) -> Begun
+    ensures { λ r. ⌜ after r (now (save .exit)) ≡ begin-save («next_id» .0) slots (now (save .entry)) (measured-as measured) ⌝ }
 {
     let count = measured.count;
     let size = measured.size;
@@ -144,9 +145,9 @@ pub fn save_table(
     ends: &mut [u32; 1024],
     save: &mut [u8],
     entries: usize,
-    next_id: u32,
+    next_id: TaskId,
 ) -> SaveResult
-    ensures { λ r. ⌜ held (saved-table r (now (save .exit))) (now (table .exit)) (now (pool .exit)) (now (ends .exit)) ≡ held (save-table «next_id» (now (table .entry)) (now (pool .entry)) (now (ends .entry)) entries (now (save .entry))) (now (table .entry)) (now (pool .entry)) (now (ends .entry)) ⌝ }
+    ensures { λ r. ⌜ held (saved-table r (now (save .exit))) (now (table .exit)) (now (pool .exit)) (now (ends .exit)) ≡ held (save-table («next_id» .0) (now (table .entry)) (now (pool .entry)) (now (ends .entry)) entries (now (save .entry))) (now (table .entry)) (now (pool .entry)) (now (ends .entry)) ⌝ }
 {
     let limit = save.len() + 1;
     let measured = measure_table(table, pool, ends, entries, limit);

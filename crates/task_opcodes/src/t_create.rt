@@ -35,7 +35,7 @@ fn new(
 {
     match within(memory, pointer) {
         ReadResult::NotReadable(refusal) => refused(task, refusal),
-        ReadResult::Readable => match storage::ids::room(id.0, pointer.size as usize) {
+        ReadResult::Readable => match storage::ids::room(id, pointer.size as usize) {
             RoomResult::NoRoom(refusal) => refused(task, refusal),
             RoomResult::Room => {
                 let title = memory::reads::get_slice_bytes(memory, pointer);
@@ -83,10 +83,10 @@ pub fn op_t_create(
     memory: &[u8],
     registers: Registers,
     next: usize,
-    next_id: u32,
+    next_id: TaskId,
     task: Task,
 ) -> RegistersAndChange
-    ensures { λ r. ⌜ r ≡ op-t-create (now (stack .entry)) (now (memory .entry)) registers next «next_id» task ⌝ }
+    ensures { λ r. ⌜ r ≡ op-t-create (now (stack .entry)) (now (memory .entry)) registers next («next_id» .0) task ⌝ }
 {
     match pop_two(stack, registers.height) {
         PopTwoResult::NotPoppedTwo(refusal) => refused(task, refusal),
@@ -100,7 +100,7 @@ pub fn op_t_create(
                 stack,
                 memory,
                 moved(registers, next, height),
-                TaskId(next_id),
+                next_id,
                 state,
                 InstructionsRef(values::to_u32(reference)),
                 task,

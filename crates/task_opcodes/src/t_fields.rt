@@ -93,7 +93,7 @@ fn get_field(
         let state = values::boxing::to_u32_val(task.state.state as u32);
         return push_value(stack, registers, next, height, state);
     }
-    let calldata = values::boxing::to_calldata_val(task.instructions_ref.0);
+    let calldata = values::boxing::to_calldata_val(task.instructions_ref);
     push_value(stack, registers, next, height, calldata)
 }
 

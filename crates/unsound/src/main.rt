@@ -89,10 +89,12 @@ fn forged_lengths(honest: Machine, number: usize) -> Machine {
 fn forged_counts(honest: Machine, number: usize) -> Machine {
     let mut machine = honest;
     if number == 7 {
-        machine.next_id = 257;
+        let next_id = TaskId(257);
+        machine.next_id = next_id;
     }
     if number == 8 {
-        machine.next_id = 257;
+        let next_id = TaskId(257);
+        machine.next_id = next_id;
         machine.count = 257;
     }
     if number == 9 {

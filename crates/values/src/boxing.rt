@@ -7,6 +7,7 @@ use crate::TAG_TRUE;
 use crate::TAG_U32;
 use crate::ValueResult;
 use errors::Refusal;
+use pools::InstructionsRef;
 
 const QNAN: u64 = 0x7FFC000000000000;
 
@@ -44,10 +45,10 @@ pub fn to_u32_val(number: u32) -> u64
 }
 
 // The box of a reference to an entry of the pool.
-pub fn to_calldata_val(index: u32) -> u64
-    ensures { λ r. ⌜ r ≡ to-calldata-val index ⌝ }
+pub fn to_calldata_val(reference: InstructionsRef) -> u64
+    ensures { λ r. ⌜ r ≡ to-calldata-val (reference .0) ⌝ }
 {
-    make_scalar_tagged(TAG_CALLDATA, index)
+    make_scalar_tagged(TAG_CALLDATA, reference.0)
 }
 
 // TRUE or FALSE.

@@ -5,6 +5,7 @@ use libc::STDOUT_FILENO;
 use memory::AllocResult;
 use memory::ChangeResult;
 use memory::ElementIndex;
+use pools::InstructionsRef;
 use values::FatPointer;
 use values::PointerResult;
 use values::TagResult;
@@ -119,7 +120,7 @@ fn case_box(case: &[u8]) {
     let op = byte(case, 1);
     match op {
         0 => say_value(ValueResult::Value(values::boxing::to_u32_val(a))),
-        1 => say_value(ValueResult::Value(values::boxing::to_calldata_val(a))),
+        1 => say_value(ValueResult::Value(values::boxing::to_calldata_val(InstructionsRef(a)))),
         2 => say_value(ValueResult::Value(values::boxing::to_bool_val(a == 1))),
         3 => say_value(values::boxing::to_vec_val(a as usize, half(case, 6) as u16, 4)),
         _ => say_value(values::boxing::to_vec_val(a as usize, half(case, 6) as u16, 6)),

@@ -95,6 +95,7 @@ fn phased(machine: Machine, phase: Phase) -> Machine
 {
     let loops = machine.loops;
     let frames = machine.frames;
+    let next_id = machine.next_id;
     Machine {
         phase,
         height: machine.height,
@@ -103,7 +104,7 @@ fn phased(machine: Machine, phase: Phase) -> Machine
         memory: machine.memory,
         pool: machine.pool,
         entries: machine.entries,
-        next_id: machine.next_id,
+        next_id,
         count: machine.count,
         saved: machine.saved,
     }

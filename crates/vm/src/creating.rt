@@ -10,6 +10,7 @@ use machine::Preparation;
 use machine::new_machines::new_machine;
 use pools::InternResult;
 use storage::Task;
+use storage::TaskId;
 use table_image::InUse;
 use table_image::creation::CreationResult;
 use table_image::creation::creation_tests;
@@ -21,7 +22,7 @@ fn unfit(refusal: Refusal) -> Preparation
     Preparation {
         fits: false,
         refusal,
-        machine: new_machine(0, 0, 0, 0),
+        machine: new_machine(0, 0, TaskId(0), 0),
         count: 0,
     }
 }

@@ -12,7 +12,7 @@ cast-t9 : tie.Need-cast-t9
 cast-t9 c = search needs
 
 cast-t10 : tie.Need-cast-t10
-cast-t10 c = search needs
+cast-t10 c = search (needs, c .struct-known2 .given .1 .1 .1 .1 .1 .1 .1 .1 .0)
 
 slice-aggregate-say : tie.Need-slice-aggregate-say
 slice-aggregate-say c = search needs

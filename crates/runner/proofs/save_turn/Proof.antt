@@ -42,14 +42,15 @@ use Rattle.lent.proofs.Emptied.{emptied}
 use Rattle.lent.proofs.Landed.{landed-by}
 use Rattle.lent.proofs.Shut.{Shut}
 use Rattle.storage.specs.declared.Task.{Task}
-use Rattle.storage.proofs.Records.{R, table-ty, makes, typed}
+use Rattle.storage.proofs.Records.{R, table-ty, makes, typed, id-shut}
+use Rattle.storage.proofs.TaskId as id
 use Rattle.image.specs.Table.{saved-table, save-table}
 use Rattle.table_image.specs.Tables.{held}
 use Rattle.mechanism.specs.declared.Progress.{Progress}
 use Rattle.runner.specs.Behind.{saved as saved-of}
 use Rattle.runner.specs.Going.{saving, save-turn}
 use Rattle.mechanism.proofs.Values.{machine-shut, gone-shut, gone-vals}
-use Rattle.mechanism.proofs.Fields.{entries-fit, next-id-fits, machine-is, left-fits, take-machine, take-left, take-entries, take-next-id}
+use Rattle.mechanism.proofs.Fields.{entries-fit, next-id-is, machine-is, left-fits, take-machine, take-left, take-entries, take-next-id}
 use Rattle.runner.proofs.Turns.{save-turns}
 use Rattle.table_image.proofs.save_table.Symbol.{name as #save}
 use Rattle.runner.proofs.gone.saved.Symbol.{name as #kept}
@@ -68,6 +69,7 @@ use Rattle.runner.proofs.save_turn as f
 use Rattle.runner.proofs.save_turn.Statement as stated
 use Rattle.runner.proofs.save_turn.Code as code
 use Rattle.runner.proofs.save_turn.Code.Mir as mir
+open Shut id-shut using (val as id-val, makes as id-makes)
 open Shut machine-shut using (val as machine-val, makes as machine-makes)
 open Shut gone-shut using (val as gone-val, ty as gone-ty, tells as gone-tells, makes as gone-makes, typed as gone-typed)
 
@@ -143,10 +145,10 @@ module _ {M : Type 1} (𝓤 : URA M) (H : Heap 𝓤) (A : Atoms 𝓤) (W : Given
           assigns ! (addr ! (from ! (hop ! (look ! 22 refl) (stop !)))) (from ! (stop !)) (init ! 6 refl (tt, tt)) $
           assigns ! (addr ! (from ! (fld ! refl (hop ! (look-in ! 20 (sub ! 0 refl (whole !))) (stop !))))) (from ! (stop !)) (init ! 4 refl (tt, tt)) $
           assigns ! (agg ! (and-then ! (load ! (from ! (stop !)) (look ! 4 refl)) (and-then ! (load ! (from ! (fld ! refl (stop !))) (look-in ! 20 (sub ! 1 refl (whole !)))) (no-more !)))) (from ! (stop !)) (init ! 2 refl (tt, (tt, (record { fits = g₃ .0 }, tt)))) $
-          lent 4 All (tt, (tt, (tt, (tt, tt)))) (usize ∷ u32 ∷ []) saved.the-row 𝓤 (save.clauses 𝓤 H A at-mem run) (x₀, (x₁, (x₂, (x₃, tt)))) (g .machine .entries, (g .machine .«next_id», tt)) (vint w64 (g .machine .entries) ∷ [], (vint w32 (g .machine .«next_id») ∷ [], tt)) ! (fmOf 𝓤 H (W .laws) 𝓣) known-save
-          (g₀, (g₁, (tt, (g₃, tt)))) (refl, (refl, (tt, (refl, tt)))) (uint-makes 𝓤 H A W w64 (g .machine .entries) _ (refl, entries-fit (g .machine) (machine-is g g-is)), (uint-makes 𝓤 H A W w32 (g .machine .«next_id») _ (refl, next-id-fits (g .machine) (machine-is g g-is)), tt)) (λ αs δs. tt) (λ αs δs. id⊢ 𝓤 (emp 𝓤))
+          lent 4 All (tt, (tt, (tt, (tt, tt)))) (usize ∷ id.the-row ∷ []) saved.the-row 𝓤 (save.clauses 𝓤 H A at-mem run) (x₀, (x₁, (x₂, (x₃, tt)))) (g .machine .entries, (g .machine .«next_id», tt)) (vint w64 (g .machine .entries) ∷ [], (id-val (g .machine .«next_id») ∷ [], tt)) ! (fmOf 𝓤 H (W .laws) 𝓣) known-save
+          (g₀, (g₁, (tt, (g₃, tt)))) (refl, (refl, (tt, (refl, tt)))) (uint-makes 𝓤 H A W w64 (g .machine .entries) _ (refl, entries-fit (g .machine) (machine-is g g-is)), (id-makes 𝓤 H A (g .machine .«next_id») _ (next-id-is (g .machine) (machine-is g g-is)), tt)) (λ αs δs. tt) (λ αs δs. id⊢ 𝓤 (emp 𝓤))
           (λ αs δs. (and-then ! (load ! (from ! (stop !)) (look ! 12 refl)) (and-then ! (load ! (from ! (stop !)) (look ! 8 refl)) (and-then ! (load ! (from ! (stop !)) (look ! 6 refl)) (and-then ! (load ! (from ! (stop !)) (look ! 2 refl)) (and-then ! (take-entries ! 5 18 g refl refl) (and-then ! (take-next-id ! 5 18 g refl refl) (no-more !))))))))
-          (λ αs δs w₁ r₁ z₁ f₁. heard ! (held (saved-table r₁ (z₁ .1 .1 .1 .0)) (z₁ .0) (z₁ .1 .0) (z₁ .1 .1 .0) ≡ held (save-table (g .machine .«next_id») x₀ x₁ x₂ (g .machine .entries) x₃) x₀ x₁ x₂) (λ e₁.
+          (λ αs δs w₁ r₁ z₁ f₁. heard ! (held (saved-table r₁ (z₁ .1 .1 .1 .0)) (z₁ .0) (z₁ .1 .0) (z₁ .1 .1 .0) ≡ held (save-table (g .machine .«next_id» .0) x₀ x₁ x₂ (g .machine .entries) x₃) x₀ x₁ x₂) (λ e₁.
           peeks ! saved.the-row (Is saved.the-row) (shows 𝓤 H A saved.the-row) r₁ (w₁ ∷ []) (λ is₁. drop ! $ land ! (from ! (stop !)) (init ! 16 refl (enum.lawful saved.the-type saved-laws.the-laws 𝓤 H A W tt .typed r₁ _ is₁ .0)) $
           nothing ! $ nothing ! $
           lent 0 [] tt (machine.the-row ∷ u64 ∷ saved.the-row ∷ []) gone.the-row 𝓤 (kept.clauses 𝓤 H A at-mem run) tt (g .machine, (g .left, (r₁, tt))) (machine-val (g .machine) ∷ [], (vint w64 (g .left) ∷ [], (w₁ ∷ [], tt))) ! (fmOf 𝓤 H (W .laws) 𝓣) known-kept

@@ -45,7 +45,7 @@ use Rattle.lent.proofs.Landed.{typed-as, landed, landed-by}
 use Rattle.lent.proofs.Rest.{past}
 use Rattle.lent.proofs.Slots.{zero-fits, from-zero, next-in, slot-fits, next-fits, fewer}
 use Rattle.storage.specs.declared.Task.{Task}
-use Rattle.storage.proofs.Records.{R, table-ty, val, vals, makes, typed}
+use Rattle.storage.proofs.Records.{R, table-ty, val, vals, makes, typed, id-shut, id-vals}
 use Rattle.storage.specs.Tasks.{blank, after}
 use Rattle.image.specs.declared.SaveResult.{SaveResult}
 use Rattle.image.specs.Writing.{put, stepped, save-slot}
@@ -79,13 +79,17 @@ use Rattle.table.proofs.get.Met as get-thm
 use Rattle.image.proofs.steps.save_slot as slot
 use Rattle.image.proofs.steps.save_slot.Symbol as slot-def
 use Rattle.image.proofs.steps.save_slot.Met as slot-thm
+use Rattle.storage.specs.declared.TaskId.{TaskId}
+use Rattle.storage.proofs.TaskId as id
+use Rattle.lent.proofs.Shut.{Shut}
 use Rattle.table_image.proofs.save_table as f
 use Rattle.table_image.proofs.save_table.Statement as stated
 use Rattle.table_image.proofs.save_table.Code as code
 use Rattle.table_image.proofs.save_table.Code.Mir as mir
+open Shut id-shut using (val as id-val, ty as id-ty, tells as id-tells, makes as id-makes, typed as id-typed)
 
 abbrev stayed : Stays (f.ended .signature .params) (f.ended .kept)
-stayed = (stay-slice (0 ∷ []) tt (plain (λ _. R)), (stay-slice (1 ∷ []) tt (plain (λ _. u8)), (stay-ref (2 ∷ []) tt (plain (λ _. Array u32 1024)), (stay-slice (3 ∷ []) tt (plain (λ _. u8)), (stay-none (λ _. usize) yes, (stay-none (λ _. u32) yes, tt))))))
+stayed = (stay-slice (0 ∷ []) tt (plain (λ _. R)), (stay-slice (1 ∷ []) tt (plain (λ _. u8)), (stay-ref (2 ∷ []) tt (plain (λ _. Array u32 1024)), (stay-slice (3 ∷ []) tt (plain (λ _. u8)), (stay-none (λ _. usize) yes, (stay-none (λ _. id.the-row) yes, tt))))))
 
 -- the contracts that the walk cites
 module _ {M : Type 1} (𝓤 : URA M) (H : Heap 𝓤) (A : Atoms 𝓤) (at-mem : Memory → SProp 𝓤) (run : Routine → Fun 𝓤) where
@@ -130,7 +134,7 @@ abbrev Less : {x₀ : List Task} {x₁ x₂ : List ℕ} {n₃ : ℕ} {y : SavedT
 Less a c = a .b .slots - a .i < c .b .slots - c .i
 
 module _ {M : Type 1} (𝓤 : URA M) (H : Heap 𝓤) (A : Atoms 𝓤) (W : Given 𝓤 H A) (at-mem : Memory → SProp 𝓤) (run : Routine → Fun 𝓤) (κ₀ κ₁ κ₂ κ₃ : Lft) (q₀ q₁ q₂ q₃ : Share) (b₀ o₀ b₁ o₁ b₂ o₂ b₃ o₃ : ℕ) (γ₀ γ₁ γ₂ γ₃ : GName)
-    (x₀ : List Task) (x₁ x₂ x₃ : List ℕ) (entries next-id : ℕ) where
+    (x₀ : List Task) (x₁ x₂ x₃ : List ℕ) (entries : ℕ) (next-id : TaskId) where
   abbrev n₀ : ℕ
   n₀ = length x₀
 
@@ -150,13 +154,13 @@ module _ {M : Type 1} (𝓤 : URA M) (H : Heap 𝓤) (A : Atoms 𝓤) (W : Given
   x = (record { ptr = (b₀, o₀); name = γ₀; now = x₀ }, (record { ptr = (b₁, o₁); name = γ₁; now = x₁ }, (record { ptr = (b₂, o₂); name = γ₂; now = x₂ }, (record { ptr = (b₃, o₃); name = γ₃; now = x₃ }, (entries, (next-id, tt))))))
 
   abbrev at : Vals f.signature κs₀
-  at = (sliceVal (b₀, o₀) n₀ ∷ [], (sliceVal (b₁, o₁) n₁ ∷ [], (vptr b₂ o₂ ∷ [], (sliceVal (b₃, o₃) n₃ ∷ [], (vint w64 entries ∷ [], (vint w32 next-id ∷ [], tt))))))
+  at = (sliceVal (b₀, o₀) n₀ ∷ [], (sliceVal (b₁, o₁) n₁ ∷ [], (vptr b₂ o₂ ∷ [], (sliceVal (b₃, o₃) n₃ ∷ [], (vint w64 entries ∷ [], (id-val next-id ∷ [], tt))))))
 
   abbrev Post : Val → SProp 𝓤
   Post = walkOf 𝓤 H A f.ended stayed (f.clauses 𝓤 H A at-mem run) .post ((κs₀, qs₀, tt, x, at), tt)
 
   abbrev y₀ : SavedTable
-  y₀ = save-table next-id x₀ x₁ x₂ entries x₃
+  y₀ = save-table (next-id .0) x₀ x₁ x₂ entries x₃
 
   -- what measuring borrows; the save buffer
   abbrev First : List Thing
@@ -175,13 +179,13 @@ module _ {M : Type 1} (𝓤 : URA M) (H : Heap 𝓤) (A : Atoms 𝓤) (W : Given
   abbrev Has : List Task → List ℕ → List ℕ → List ℕ → List (Item 𝓤) → List (Item 𝓤)
   Has ts po en sv Γ = ‵ (have Tab (ts, tt)) ∷ ‵ (tokens Tab) ∷ ‵ (have Lent (po, (en, (sv, tt)))) ∷ ‵ (tokens Lent) ∷ Γ
 
-  module _ (g₀ : Room R n₀) (g₁ : Room u8 n₁) (g₃ : Room u8 n₃) (entries-fits : entries < 2 ^ 64) (next-id-fits : next-id < 2 ^ 32) where
+  module _ (g₀ : Room R n₀) (g₁ : Room u8 n₁) (g₃ : Room u8 n₃) (entries-fits : entries < 2 ^ 64) (next-id-is : Is id.the-row next-id (id-vals next-id)) where
     exits : (r : SaveResult) (ts : List Task) (po en sv : List ℕ) → Is saved.the-row r (enum.vals saved.the-type saved-laws.the-laws r) → saved-table r sv ≡ y₀ → ts ≡ x₀ → po ≡ x₁ → en ≡ x₂ → length sv ≡ n₃ → ent 𝓤 (⋆ 𝓤 H A (Has ts po en sv [])) (Post (enum.val saved.the-type saved-laws.the-laws r))
     exits r ts po en sv is e a b c d =
         qed W (Has ts po en sv []) ∵
         suffices ! _ (ends-at 𝓤 H A f.ended stayed (f.clauses 𝓤 H A at-mem run) W ((κs₀, qs₀, tt, x, at), tt) (enum.val saved.the-type saved-laws.the-laws r) r (ts, (po, (en, (sv, (tt, (tt, tt)))))) (ap length a, (ap length b, (tt, (d, (tt, (tt, tt))))))) $ says ! (λ j. held (e j) (a j) (b j) (c j)) $
         move ! (1 ∷ []) $ fsplit ! $ move ! (1 ∷ []) $ drop ! $ move ! (3 ∷ []) $ fsplit ! $ move ! (1 ∷ []) $ fsplit ! $ move ! (1 ∷ []) $ fsplit ! $ move ! (1 ∷ []) $ drop ! $ nothing ! $ move ! (1 ∷ 0 ∷ []) $ join ! $ move ! (1 ∷ 0 ∷ []) $ join ! $ move ! (1 ∷ 0 ∷ []) $ join ! $ move ! (1 ∷ 0 ∷ []) $ join ! $ frame ! $
-        fsplit ! $ move ! (1 ∷ []) $ drop ! $ move ! (1 ∷ []) $ fsplit ! $ move ! (1 ∷ []) $ fsplit ! $ move ! (1 ∷ []) $ fsplit ! $ move ! (1 ∷ []) $ drop ! $ nothing ! $ owned ! u32 (Is u32) (uint-makes 𝓤 H A W w32) next-id _ (refl, next-id-fits) $ fjoin ! $ owned ! usize (Is usize) (uint-makes 𝓤 H A W w64) entries _ (refl, entries-fits) $ fjoin ! $
+        fsplit ! $ move ! (1 ∷ []) $ drop ! $ move ! (1 ∷ []) $ fsplit ! $ move ! (1 ∷ []) $ fsplit ! $ move ! (1 ∷ []) $ fsplit ! $ move ! (1 ∷ []) $ drop ! $ nothing ! $ owned ! id.the-row (Is id.the-row) (id-makes 𝓤 H A) next-id _ next-id-is $ fjoin ! $ owned ! usize (Is usize) (uint-makes 𝓤 H A W w64) entries _ (refl, entries-fits) $ fjoin ! $
         move ! (1 ∷ 0 ∷ []) $ fjoin ! $ move ! (1 ∷ 0 ∷ []) $ fjoin ! $ move ! (1 ∷ 0 ∷ []) $ fjoin ! $ move ! (1 ∷ 0 ∷ []) $ fjoin ! $ owned ! saved.the-row (Is saved.the-row) (enum.makes saved.the-type saved-laws.the-plain 𝓤 H A) r _ is $ move ! (1 ∷ 0 ∷ []) $ done !
 
     module _ (𝓣 : Tables 𝓤 H) (known-measure : Triple 𝓤 (𝓣 .C #measure) (measure-con 𝓤 H A at-mem run)) (known-begins : Triple 𝓤 (𝓣 .C #begins) (begins-con 𝓤 H A at-mem run)) (known-get : Triple 𝓤 (𝓣 .C #get) (get-con 𝓤 H A at-mem run)) (known-slot : Triple 𝓤 (𝓣 .C #slot) (slot-con 𝓤 H A at-mem run)) (l₀ l₁ l₂ l₃ l₄ l₅ l₆ l₇ l₈ l₉ l₁₀ l₁₁ l₁₂ l₁₃ l₁₄ l₁₅ l₁₆ l₁₇ l₁₈ l₁₉ l₂₀ l₂₁ l₂₂ l₂₃ l₂₄ l₂₅ l₂₆ l₂₇ l₂₈ : ℕ) where
@@ -192,18 +196,18 @@ module _ {M : Type 1} (𝓤 : URA M) (H : Heap 𝓤) (A : Atoms 𝓤) (W : Given
       Λ = 𝓣 .Λ
 
       abbrev En : Env 𝓤 H
-      En = (saved-laws.mir, l₀) ∷ (sliceTy (tyRef (named 0) mut table-ty), l₁) ∷ (sliceTy (tyRef (named 1) mut (tyInt w8)), l₂) ∷ (tyRef (named 2) mut (tyArray (tyInt w32) 1024), l₃) ∷ (sliceTy (tyRef (named 3) mut (tyInt w8)), l₄) ∷ (tyInt w64, l₅) ∷ (tyInt w32, l₆) ∷ (tyInt w64, l₇) ∷ (measured-laws.mir, l₈) ∷ (begun-laws.mir, l₉) ∷ (tyInt w64, l₁₀) ∷ (tyInt w64, l₁₁) ∷ (task-laws.mir, l₁₂) ∷ (tyInt w64, l₁₃) ∷ (tyRef erased mut table-ty, l₁₄) ∷ (sliceTy (tyRef erased mut table-ty), l₁₅) ∷ (tyRef erased mut (tyInt w8), l₁₆) ∷ (sliceTy (tyRef erased mut (tyInt w8)), l₁₇) ∷ (tyRef erased mut (tyArray (tyInt w32) 1024), l₁₈) ∷ (tyRef erased mut (tyInt w8), l₁₉) ∷ (sliceTy (tyRef erased mut (tyInt w8)), l₂₀) ∷ (tyBool, l₂₁) ∷ (tyRef erased mut table-ty, l₂₂) ∷ (sliceTy (tyRef erased mut table-ty), l₂₃) ∷ (tyRef erased mut (tyInt w8), l₂₄) ∷ (sliceTy (tyRef erased mut (tyInt w8)), l₂₅) ∷ (tyRef erased mut (tyArray (tyInt w32) 1024), l₂₆) ∷ (tyRef erased mut (tyInt w8), l₂₇) ∷ (sliceTy (tyRef erased mut (tyInt w8)), l₂₈) ∷ []
+      En = (saved-laws.mir, l₀) ∷ (sliceTy (tyRef (named 0) mut table-ty), l₁) ∷ (sliceTy (tyRef (named 1) mut (tyInt w8)), l₂) ∷ (tyRef (named 2) mut (tyArray (tyInt w32) 1024), l₃) ∷ (sliceTy (tyRef (named 3) mut (tyInt w8)), l₄) ∷ (tyInt w64, l₅) ∷ (id-ty, l₆) ∷ (tyInt w64, l₇) ∷ (measured-laws.mir, l₈) ∷ (begun-laws.mir, l₉) ∷ (tyInt w64, l₁₀) ∷ (tyInt w64, l₁₁) ∷ (task-laws.mir, l₁₂) ∷ (tyInt w64, l₁₃) ∷ (tyRef erased mut table-ty, l₁₄) ∷ (sliceTy (tyRef erased mut table-ty), l₁₅) ∷ (tyRef erased mut (tyInt w8), l₁₆) ∷ (sliceTy (tyRef erased mut (tyInt w8)), l₁₇) ∷ (tyRef erased mut (tyArray (tyInt w32) 1024), l₁₈) ∷ (tyRef erased mut (tyInt w8), l₁₉) ∷ (sliceTy (tyRef erased mut (tyInt w8)), l₂₀) ∷ (tyBool, l₂₁) ∷ (tyRef erased mut table-ty, l₂₂) ∷ (sliceTy (tyRef erased mut table-ty), l₂₃) ∷ (tyRef erased mut (tyInt w8), l₂₄) ∷ (sliceTy (tyRef erased mut (tyInt w8)), l₂₅) ∷ (tyRef erased mut (tyArray (tyInt w32) 1024), l₂₆) ∷ (tyRef erased mut (tyInt w8), l₂₇) ∷ (sliceTy (tyRef erased mut (tyInt w8)), l₂₈) ∷ []
 
       -- the locals, given up
       abbrev Bare : List (Item 𝓤)
-      Bare = ‵ (froom (sliceTy (tyRef erased mut (tyInt w8))) l₂₈ 0) ∷ ‵ (fdies (sliceTy (tyRef erased mut (tyInt w8))) l₂₈) ∷ ‵ (froom (tyRef erased mut (tyInt w8)) l₂₇ 0) ∷ ‵ (fdies (tyRef erased mut (tyInt w8)) l₂₇) ∷ ‵ (froom (tyRef erased mut (tyArray (tyInt w32) 1024)) l₂₆ 0) ∷ ‵ (fdies (tyRef erased mut (tyArray (tyInt w32) 1024)) l₂₆) ∷ ‵ (froom (sliceTy (tyRef erased mut (tyInt w8))) l₂₅ 0) ∷ ‵ (fdies (sliceTy (tyRef erased mut (tyInt w8))) l₂₅) ∷ ‵ (froom (tyRef erased mut (tyInt w8)) l₂₄ 0) ∷ ‵ (fdies (tyRef erased mut (tyInt w8)) l₂₄) ∷ ‵ (froom (sliceTy (tyRef erased mut table-ty)) l₂₃ 0) ∷ ‵ (fdies (sliceTy (tyRef erased mut table-ty)) l₂₃) ∷ ‵ (froom (tyRef erased mut table-ty) l₂₂ 0) ∷ ‵ (fdies (tyRef erased mut table-ty) l₂₂) ∷ ‵ (froom tyBool l₂₁ 0) ∷ ‵ (fdies tyBool l₂₁) ∷ ‵ (froom (sliceTy (tyRef erased mut (tyInt w8))) l₂₀ 0) ∷ ‵ (fdies (sliceTy (tyRef erased mut (tyInt w8))) l₂₀) ∷ ‵ (froom (tyRef erased mut (tyInt w8)) l₁₉ 0) ∷ ‵ (fdies (tyRef erased mut (tyInt w8)) l₁₉) ∷ ‵ (froom (tyRef erased mut (tyArray (tyInt w32) 1024)) l₁₈ 0) ∷ ‵ (fdies (tyRef erased mut (tyArray (tyInt w32) 1024)) l₁₈) ∷ ‵ (froom (sliceTy (tyRef erased mut (tyInt w8))) l₁₇ 0) ∷ ‵ (fdies (sliceTy (tyRef erased mut (tyInt w8))) l₁₇) ∷ ‵ (froom (tyRef erased mut (tyInt w8)) l₁₆ 0) ∷ ‵ (fdies (tyRef erased mut (tyInt w8)) l₁₆) ∷ ‵ (froom (sliceTy (tyRef erased mut table-ty)) l₁₅ 0) ∷ ‵ (fdies (sliceTy (tyRef erased mut table-ty)) l₁₅) ∷ ‵ (froom (tyRef erased mut table-ty) l₁₄ 0) ∷ ‵ (fdies (tyRef erased mut table-ty) l₁₄) ∷ ‵ (froom (tyInt w64) l₁₃ 0) ∷ ‵ (fdies (tyInt w64) l₁₃) ∷ ‵ (froom task-laws.mir l₁₂ 0) ∷ ‵ (fdies task-laws.mir l₁₂) ∷ ‵ (froom (tyInt w64) l₁₁ 0) ∷ ‵ (fdies (tyInt w64) l₁₁) ∷ ‵ (froom (tyInt w64) l₁₀ 0) ∷ ‵ (fdies (tyInt w64) l₁₀) ∷ ‵ (froom begun-laws.mir l₉ 0) ∷ ‵ (fdies begun-laws.mir l₉) ∷ ‵ (froom measured-laws.mir l₈ 0) ∷ ‵ (fdies measured-laws.mir l₈) ∷ ‵ (froom (tyInt w64) l₇ 0) ∷ ‵ (fdies (tyInt w64) l₇) ∷ ‵ (froom (tyInt w32) l₆ 0) ∷ ‵ (fdies (tyInt w32) l₆) ∷ ‵ (froom (tyInt w64) l₅ 0) ∷ ‵ (fdies (tyInt w64) l₅) ∷ ‵ (froom (sliceTy (tyRef (named 3) mut (tyInt w8))) l₄ 0) ∷ ‵ (fdies (sliceTy (tyRef (named 3) mut (tyInt w8))) l₄) ∷ ‵ (froom (tyRef (named 2) mut (tyArray (tyInt w32) 1024)) l₃ 0) ∷ ‵ (fdies (tyRef (named 2) mut (tyArray (tyInt w32) 1024)) l₃) ∷ ‵ (froom (sliceTy (tyRef (named 1) mut (tyInt w8))) l₂ 0) ∷ ‵ (fdies (sliceTy (tyRef (named 1) mut (tyInt w8))) l₂) ∷ ‵ (froom (sliceTy (tyRef (named 0) mut table-ty)) l₁ 0) ∷ ‵ (fdies (sliceTy (tyRef (named 0) mut table-ty)) l₁) ∷ ‵ (froom saved-laws.mir l₀ 0) ∷ ‵ (fdies saved-laws.mir l₀) ∷ []
+      Bare = ‵ (froom (sliceTy (tyRef erased mut (tyInt w8))) l₂₈ 0) ∷ ‵ (fdies (sliceTy (tyRef erased mut (tyInt w8))) l₂₈) ∷ ‵ (froom (tyRef erased mut (tyInt w8)) l₂₇ 0) ∷ ‵ (fdies (tyRef erased mut (tyInt w8)) l₂₇) ∷ ‵ (froom (tyRef erased mut (tyArray (tyInt w32) 1024)) l₂₆ 0) ∷ ‵ (fdies (tyRef erased mut (tyArray (tyInt w32) 1024)) l₂₆) ∷ ‵ (froom (sliceTy (tyRef erased mut (tyInt w8))) l₂₅ 0) ∷ ‵ (fdies (sliceTy (tyRef erased mut (tyInt w8))) l₂₅) ∷ ‵ (froom (tyRef erased mut (tyInt w8)) l₂₄ 0) ∷ ‵ (fdies (tyRef erased mut (tyInt w8)) l₂₄) ∷ ‵ (froom (sliceTy (tyRef erased mut table-ty)) l₂₃ 0) ∷ ‵ (fdies (sliceTy (tyRef erased mut table-ty)) l₂₃) ∷ ‵ (froom (tyRef erased mut table-ty) l₂₂ 0) ∷ ‵ (fdies (tyRef erased mut table-ty) l₂₂) ∷ ‵ (froom tyBool l₂₁ 0) ∷ ‵ (fdies tyBool l₂₁) ∷ ‵ (froom (sliceTy (tyRef erased mut (tyInt w8))) l₂₀ 0) ∷ ‵ (fdies (sliceTy (tyRef erased mut (tyInt w8))) l₂₀) ∷ ‵ (froom (tyRef erased mut (tyInt w8)) l₁₉ 0) ∷ ‵ (fdies (tyRef erased mut (tyInt w8)) l₁₉) ∷ ‵ (froom (tyRef erased mut (tyArray (tyInt w32) 1024)) l₁₈ 0) ∷ ‵ (fdies (tyRef erased mut (tyArray (tyInt w32) 1024)) l₁₈) ∷ ‵ (froom (sliceTy (tyRef erased mut (tyInt w8))) l₁₇ 0) ∷ ‵ (fdies (sliceTy (tyRef erased mut (tyInt w8))) l₁₇) ∷ ‵ (froom (tyRef erased mut (tyInt w8)) l₁₆ 0) ∷ ‵ (fdies (tyRef erased mut (tyInt w8)) l₁₆) ∷ ‵ (froom (sliceTy (tyRef erased mut table-ty)) l₁₅ 0) ∷ ‵ (fdies (sliceTy (tyRef erased mut table-ty)) l₁₅) ∷ ‵ (froom (tyRef erased mut table-ty) l₁₄ 0) ∷ ‵ (fdies (tyRef erased mut table-ty) l₁₄) ∷ ‵ (froom (tyInt w64) l₁₃ 0) ∷ ‵ (fdies (tyInt w64) l₁₃) ∷ ‵ (froom task-laws.mir l₁₂ 0) ∷ ‵ (fdies task-laws.mir l₁₂) ∷ ‵ (froom (tyInt w64) l₁₁ 0) ∷ ‵ (fdies (tyInt w64) l₁₁) ∷ ‵ (froom (tyInt w64) l₁₀ 0) ∷ ‵ (fdies (tyInt w64) l₁₀) ∷ ‵ (froom begun-laws.mir l₉ 0) ∷ ‵ (fdies begun-laws.mir l₉) ∷ ‵ (froom measured-laws.mir l₈ 0) ∷ ‵ (fdies measured-laws.mir l₈) ∷ ‵ (froom (tyInt w64) l₇ 0) ∷ ‵ (fdies (tyInt w64) l₇) ∷ ‵ (froom id-ty l₆ 0) ∷ ‵ (fdies id-ty l₆) ∷ ‵ (froom (tyInt w64) l₅ 0) ∷ ‵ (fdies (tyInt w64) l₅) ∷ ‵ (froom (sliceTy (tyRef (named 3) mut (tyInt w8))) l₄ 0) ∷ ‵ (fdies (sliceTy (tyRef (named 3) mut (tyInt w8))) l₄) ∷ ‵ (froom (tyRef (named 2) mut (tyArray (tyInt w32) 1024)) l₃ 0) ∷ ‵ (fdies (tyRef (named 2) mut (tyArray (tyInt w32) 1024)) l₃) ∷ ‵ (froom (sliceTy (tyRef (named 1) mut (tyInt w8))) l₂ 0) ∷ ‵ (fdies (sliceTy (tyRef (named 1) mut (tyInt w8))) l₂) ∷ ‵ (froom (sliceTy (tyRef (named 0) mut table-ty)) l₁ 0) ∷ ‵ (fdies (sliceTy (tyRef (named 0) mut table-ty)) l₁) ∷ ‵ (froom saved-laws.mir l₀ 0) ∷ ‵ (fdies saved-laws.mir l₀) ∷ []
 
       ends : (r : SaveResult) (ts : List Task) (po en sv : List ℕ) → Is saved.the-row r (enum.vals saved.the-type saved-laws.the-laws r) → saved-table r sv ≡ y₀ → ts ≡ x₀ → po ≡ x₁ → en ≡ x₂ → length sv ≡ n₃ → Sq W (Has ts po en sv Bare) (frees En (prop (Post (enum.val saved.the-type saved-laws.the-laws r))))
       ends r ts po en sv is e a b c d =
           move ! (60 ∷ 61 ∷ []) $ free1 ! $ move ! (58 ∷ 59 ∷ []) $ free1 ! $ move ! (56 ∷ 57 ∷ []) $ free1 ! $ move ! (54 ∷ 55 ∷ []) $ free1 ! $ move ! (52 ∷ 53 ∷ []) $ free1 ! $ move ! (50 ∷ 51 ∷ []) $ free1 ! $ move ! (48 ∷ 49 ∷ []) $ free1 ! $ move ! (46 ∷ 47 ∷ []) $ free1 ! $ move ! (44 ∷ 45 ∷ []) $ free1 ! $ move ! (42 ∷ 43 ∷ []) $ free1 ! $ move ! (40 ∷ 41 ∷ []) $ free1 ! $ move ! (38 ∷ 39 ∷ []) $ free1 ! $ move ! (36 ∷ 37 ∷ []) $ free1 ! $ move ! (34 ∷ 35 ∷ []) $ free1 ! $ move ! (32 ∷ 33 ∷ []) $ free1 ! $ move ! (30 ∷ 31 ∷ []) $ free1 ! $ move ! (28 ∷ 29 ∷ []) $ free1 ! $ move ! (26 ∷ 27 ∷ []) $ free1 ! $ move ! (24 ∷ 25 ∷ []) $ free1 ! $ move ! (22 ∷ 23 ∷ []) $ free1 ! $ move ! (20 ∷ 21 ∷ []) $ free1 ! $ move ! (18 ∷ 19 ∷ []) $ free1 ! $ move ! (16 ∷ 17 ∷ []) $ free1 ! $ move ! (14 ∷ 15 ∷ []) $ free1 ! $ move ! (12 ∷ 13 ∷ []) $ free1 ! $ move ! (10 ∷ 11 ∷ []) $ free1 ! $ move ! (8 ∷ 9 ∷ []) $ free1 ! $ move ! (6 ∷ 7 ∷ []) $ free1 ! $ move ! (4 ∷ 5 ∷ []) $ free1 ! $ free0 ! $ by ! (exits r ts po en sv is e a b c d)
 
       abbrev At : State x₀ x₁ x₂ n₃ y₀ → List (Item 𝓤)
-      At s = Has (s .ts) (s .po) (s .en) (s .sv) (‵ (froom (sliceTy (tyRef erased mut (tyInt w8))) l₂₈ 0) ∷ ‵ (fdies (sliceTy (tyRef erased mut (tyInt w8))) l₂₈) ∷ ‵ (froom (tyRef erased mut (tyInt w8)) l₂₇ 0) ∷ ‵ (fdies (tyRef erased mut (tyInt w8)) l₂₇) ∷ ‵ (froom (tyRef erased mut (tyArray (tyInt w32) 1024)) l₂₆ 0) ∷ ‵ (fdies (tyRef erased mut (tyArray (tyInt w32) 1024)) l₂₆) ∷ ‵ (froom (sliceTy (tyRef erased mut (tyInt w8))) l₂₅ 0) ∷ ‵ (fdies (sliceTy (tyRef erased mut (tyInt w8))) l₂₅) ∷ ‵ (froom (tyRef erased mut (tyInt w8)) l₂₄ 0) ∷ ‵ (fdies (tyRef erased mut (tyInt w8)) l₂₄) ∷ ‵ (froom (sliceTy (tyRef erased mut table-ty)) l₂₃ 0) ∷ ‵ (fdies (sliceTy (tyRef erased mut table-ty)) l₂₃) ∷ ‵ (froom (tyRef erased mut table-ty) l₂₂ 0) ∷ ‵ (fdies (tyRef erased mut table-ty) l₂₂) ∷ ‵ (froom tyBool l₂₁ 0) ∷ ‵ (fdies tyBool l₂₁) ∷ ‵ (froom (sliceTy (tyRef erased mut (tyInt w8))) l₂₀ 0) ∷ ‵ (fdies (sliceTy (tyRef erased mut (tyInt w8))) l₂₀) ∷ ‵ (froom (tyRef erased mut (tyInt w8)) l₁₉ 0) ∷ ‵ (fdies (tyRef erased mut (tyInt w8)) l₁₉) ∷ ‵ (froom (tyRef erased mut (tyArray (tyInt w32) 1024)) l₁₈ 0) ∷ ‵ (fdies (tyRef erased mut (tyArray (tyInt w32) 1024)) l₁₈) ∷ ‵ (froom (sliceTy (tyRef erased mut (tyInt w8))) l₁₇ 0) ∷ ‵ (fdies (sliceTy (tyRef erased mut (tyInt w8))) l₁₇) ∷ ‵ (froom (tyRef erased mut (tyInt w8)) l₁₆ 0) ∷ ‵ (fdies (tyRef erased mut (tyInt w8)) l₁₆) ∷ ‵ (froom (sliceTy (tyRef erased mut table-ty)) l₁₅ 0) ∷ ‵ (fdies (sliceTy (tyRef erased mut table-ty)) l₁₅) ∷ ‵ (froom (tyRef erased mut table-ty) l₁₄ 0) ∷ ‵ (fdies (tyRef erased mut table-ty) l₁₄) ∷ ‵ (froom (tyInt w64) l₁₃ 0) ∷ ‵ (fdies (tyInt w64) l₁₃) ∷ ‵ (froom task-laws.mir l₁₂ 0) ∷ ‵ (fdies task-laws.mir l₁₂) ∷ ‵ (fat fullShare (tyInt w64) l₁₁ 0 (vint w64 (s .i))) ∷ ‵ (fdies (tyInt w64) l₁₁) ∷ ‵ (fat fullShare (tyInt w64) l₁₀ 0 (vint w64 (s .k))) ∷ ‵ (fdies (tyInt w64) l₁₀) ∷ ‵ (fat fullShare begun-laws.mir l₉ 0 (struct.val begun.the-type begun-laws.the-laws (s .b))) ∷ ‵ (fdies begun-laws.mir l₉) ∷ ‵ (froom measured-laws.mir l₈ 0) ∷ ‵ (fdies measured-laws.mir l₈) ∷ ‵ (froom (tyInt w64) l₇ 0) ∷ ‵ (fdies (tyInt w64) l₇) ∷ ‵ (fat fullShare (tyInt w32) l₆ 0 (vint w32 next-id)) ∷ ‵ (fdies (tyInt w32) l₆) ∷ ‵ (fat fullShare (tyInt w64) l₅ 0 (vint w64 entries)) ∷ ‵ (fdies (tyInt w64) l₅) ∷ ‵ (fat fullShare (sliceTy (tyRef (named 3) mut (tyInt w8))) l₄ 0 (sliceVal (b₃, o₃) n₃)) ∷ ‵ (fdies (sliceTy (tyRef (named 3) mut (tyInt w8))) l₄) ∷ ‵ (fat fullShare (tyRef (named 2) mut (tyArray (tyInt w32) 1024)) l₃ 0 (vptr b₂ o₂)) ∷ ‵ (fdies (tyRef (named 2) mut (tyArray (tyInt w32) 1024)) l₃) ∷ ‵ (fat fullShare (sliceTy (tyRef (named 1) mut (tyInt w8))) l₂ 0 (sliceVal (b₁, o₁) n₁)) ∷ ‵ (fdies (sliceTy (tyRef (named 1) mut (tyInt w8))) l₂) ∷ ‵ (fat fullShare (sliceTy (tyRef (named 0) mut table-ty)) l₁ 0 (sliceVal (b₀, o₀) n₀)) ∷ ‵ (fdies (sliceTy (tyRef (named 0) mut table-ty)) l₁) ∷ ‵ (froom saved-laws.mir l₀ 0) ∷ ‵ (fdies saved-laws.mir l₀) ∷ [])
+      At s = Has (s .ts) (s .po) (s .en) (s .sv) (‵ (froom (sliceTy (tyRef erased mut (tyInt w8))) l₂₈ 0) ∷ ‵ (fdies (sliceTy (tyRef erased mut (tyInt w8))) l₂₈) ∷ ‵ (froom (tyRef erased mut (tyInt w8)) l₂₇ 0) ∷ ‵ (fdies (tyRef erased mut (tyInt w8)) l₂₇) ∷ ‵ (froom (tyRef erased mut (tyArray (tyInt w32) 1024)) l₂₆ 0) ∷ ‵ (fdies (tyRef erased mut (tyArray (tyInt w32) 1024)) l₂₆) ∷ ‵ (froom (sliceTy (tyRef erased mut (tyInt w8))) l₂₅ 0) ∷ ‵ (fdies (sliceTy (tyRef erased mut (tyInt w8))) l₂₅) ∷ ‵ (froom (tyRef erased mut (tyInt w8)) l₂₄ 0) ∷ ‵ (fdies (tyRef erased mut (tyInt w8)) l₂₄) ∷ ‵ (froom (sliceTy (tyRef erased mut table-ty)) l₂₃ 0) ∷ ‵ (fdies (sliceTy (tyRef erased mut table-ty)) l₂₃) ∷ ‵ (froom (tyRef erased mut table-ty) l₂₂ 0) ∷ ‵ (fdies (tyRef erased mut table-ty) l₂₂) ∷ ‵ (froom tyBool l₂₁ 0) ∷ ‵ (fdies tyBool l₂₁) ∷ ‵ (froom (sliceTy (tyRef erased mut (tyInt w8))) l₂₀ 0) ∷ ‵ (fdies (sliceTy (tyRef erased mut (tyInt w8))) l₂₀) ∷ ‵ (froom (tyRef erased mut (tyInt w8)) l₁₉ 0) ∷ ‵ (fdies (tyRef erased mut (tyInt w8)) l₁₉) ∷ ‵ (froom (tyRef erased mut (tyArray (tyInt w32) 1024)) l₁₈ 0) ∷ ‵ (fdies (tyRef erased mut (tyArray (tyInt w32) 1024)) l₁₈) ∷ ‵ (froom (sliceTy (tyRef erased mut (tyInt w8))) l₁₇ 0) ∷ ‵ (fdies (sliceTy (tyRef erased mut (tyInt w8))) l₁₇) ∷ ‵ (froom (tyRef erased mut (tyInt w8)) l₁₆ 0) ∷ ‵ (fdies (tyRef erased mut (tyInt w8)) l₁₆) ∷ ‵ (froom (sliceTy (tyRef erased mut table-ty)) l₁₅ 0) ∷ ‵ (fdies (sliceTy (tyRef erased mut table-ty)) l₁₅) ∷ ‵ (froom (tyRef erased mut table-ty) l₁₄ 0) ∷ ‵ (fdies (tyRef erased mut table-ty) l₁₄) ∷ ‵ (froom (tyInt w64) l₁₃ 0) ∷ ‵ (fdies (tyInt w64) l₁₃) ∷ ‵ (froom task-laws.mir l₁₂ 0) ∷ ‵ (fdies task-laws.mir l₁₂) ∷ ‵ (fat fullShare (tyInt w64) l₁₁ 0 (vint w64 (s .i))) ∷ ‵ (fdies (tyInt w64) l₁₁) ∷ ‵ (fat fullShare (tyInt w64) l₁₀ 0 (vint w64 (s .k))) ∷ ‵ (fdies (tyInt w64) l₁₀) ∷ ‵ (fat fullShare begun-laws.mir l₉ 0 (struct.val begun.the-type begun-laws.the-laws (s .b))) ∷ ‵ (fdies begun-laws.mir l₉) ∷ ‵ (froom measured-laws.mir l₈ 0) ∷ ‵ (fdies measured-laws.mir l₈) ∷ ‵ (froom (tyInt w64) l₇ 0) ∷ ‵ (fdies (tyInt w64) l₇) ∷ ‵ (fat fullShare id-ty l₆ 0 (id-val next-id)) ∷ ‵ (fdies id-ty l₆) ∷ ‵ (fat fullShare (tyInt w64) l₅ 0 (vint w64 entries)) ∷ ‵ (fdies (tyInt w64) l₅) ∷ ‵ (fat fullShare (sliceTy (tyRef (named 3) mut (tyInt w8))) l₄ 0 (sliceVal (b₃, o₃) n₃)) ∷ ‵ (fdies (sliceTy (tyRef (named 3) mut (tyInt w8))) l₄) ∷ ‵ (fat fullShare (tyRef (named 2) mut (tyArray (tyInt w32) 1024)) l₃ 0 (vptr b₂ o₂)) ∷ ‵ (fdies (tyRef (named 2) mut (tyArray (tyInt w32) 1024)) l₃) ∷ ‵ (fat fullShare (sliceTy (tyRef (named 1) mut (tyInt w8))) l₂ 0 (sliceVal (b₁, o₁) n₁)) ∷ ‵ (fdies (sliceTy (tyRef (named 1) mut (tyInt w8))) l₂) ∷ ‵ (fat fullShare (sliceTy (tyRef (named 0) mut table-ty)) l₁ 0 (sliceVal (b₀, o₀) n₀)) ∷ ‵ (fdies (sliceTy (tyRef (named 0) mut table-ty)) l₁) ∷ ‵ (froom saved-laws.mir l₀ 0) ∷ ‵ (fdies saved-laws.mir l₀) ∷ [])
 
       abbrev Left : Out → SProp 𝓤
       Left = afterBlock 𝓤 H (afterSeq 𝓤 H (Wp 𝓤 H C Λ En mir.t-16 (atReturn 𝓤 H En Post)) (atReturn 𝓤 H En Post))
@@ -261,11 +265,12 @@ module _ {M : Type 1} (𝓤 : URA M) (H : Heap 𝓤) (A : Atoms 𝓤) (W : Given
       looped : (s : State x₀ x₁ x₂ n₃ y₀) → Sq W (At s) (runs C Λ En mir.t-15 (atRet En Post))
       looped s = first ! $ blocks ! $ loops ! 𝓣 Less (InvImage·wf (λ (s : State x₀ x₁ x₂ n₃ y₀). s .b .slots - s .i) (Nat·lt-wfRel .wf)) At turns s
 
-    walk : (𝓣 : Tables 𝓤 H) (known-measure : Triple 𝓤 (𝓣 .C #measure) (measure-con 𝓤 H A at-mem run)) (known-begins : Triple 𝓤 (𝓣 .C #begins) (begins-con 𝓤 H A at-mem run)) (known-get : Triple 𝓤 (𝓣 .C #get) (get-con 𝓤 H A at-mem run)) (known-slot : Triple 𝓤 (𝓣 .C #slot) (slot-con 𝓤 H A at-mem run)) → ent 𝓤 (onEntry 𝓤 H A f.signature κs₀ qs₀ x at) (WpFn 𝓤 H (𝓣 .C) (𝓣 .Λ) code.function (sliceVal (b₀, o₀) n₀ ∷ sliceVal (b₁, o₁) n₁ ∷ vptr b₂ o₂ ∷ sliceVal (b₃, o₃) n₃ ∷ vint w64 entries ∷ vint w32 next-id ∷ []) Post)
+    walk : (𝓣 : Tables 𝓤 H) (known-measure : Triple 𝓤 (𝓣 .C #measure) (measure-con 𝓤 H A at-mem run)) (known-begins : Triple 𝓤 (𝓣 .C #begins) (begins-con 𝓤 H A at-mem run)) (known-get : Triple 𝓤 (𝓣 .C #get) (get-con 𝓤 H A at-mem run)) (known-slot : Triple 𝓤 (𝓣 .C #slot) (slot-con 𝓤 H A at-mem run)) → ent 𝓤 (onEntry 𝓤 H A f.signature κs₀ qs₀ x at) (WpFn 𝓤 H (𝓣 .C) (𝓣 .Λ) code.function (sliceVal (b₀, o₀) n₀ ∷ sliceVal (b₁, o₁) n₁ ∷ vptr b₂ o₂ ∷ sliceVal (b₃, o₃) n₃ ∷ vint w64 entries ∷ id-val next-id ∷ []) Post)
+    unfolding id-shut
     walk 𝓣 known-measure known-begins known-get known-slot =
-        qed W ((‵ (flft κ₀ q₀) ⊛ ‵ (flft κ₁ q₁) ⊛ ‵ (flft κ₂ q₂) ⊛ ‵ (flft κ₃ q₃) ⊛ ‵ ftrue) ∷ ‵ (owns (typesAt (f.signature .params) κs₀) x at) ∷ []) ∵ enter ! (𝓣 .C) (𝓣 .Λ) code.function (sliceVal (b₀, o₀) n₀ ∷ sliceVal (b₁, o₁) n₁ ∷ vptr b₂ o₂ ∷ sliceVal (b₃, o₃) n₃ ∷ vint w64 entries ∷ vint w32 next-id ∷ []) _ $
+        qed W ((‵ (flft κ₀ q₀) ⊛ ‵ (flft κ₁ q₁) ⊛ ‵ (flft κ₂ q₂) ⊛ ‵ (flft κ₃ q₃) ⊛ ‵ ftrue) ∷ ‵ (owns (typesAt (f.signature .params) κs₀) x at) ∷ []) ∵ enter ! (𝓣 .C) (𝓣 .Λ) code.function (sliceVal (b₀, o₀) n₀ ∷ sliceVal (b₁, o₁) n₁ ∷ vptr b₂ o₂ ∷ sliceVal (b₃, o₃) n₃ ∷ vint w64 entries ∷ id-val next-id ∷ []) _ $
         alloc1 ! (λ l₀. alloc1 ! (λ l₁. alloc1 ! (λ l₂. alloc1 ! (λ l₃. alloc1 ! (λ l₄. alloc1 ! (λ l₅. alloc1 ! (λ l₆. alloc1 ! (λ l₇. alloc1 ! (λ l₈. alloc1 ! (λ l₉. alloc1 ! (λ l₁₀. alloc1 ! (λ l₁₁. alloc1 ! (λ l₁₂. alloc1 ! (λ l₁₃. alloc1 ! (λ l₁₄. alloc1 ! (λ l₁₅. alloc1 ! (λ l₁₆. alloc1 ! (λ l₁₇. alloc1 ! (λ l₁₈. alloc1 ! (λ l₁₉. alloc1 ! (λ l₂₀. alloc1 ! (λ l₂₁. alloc1 ! (λ l₂₂. alloc1 ! (λ l₂₃. alloc1 ! (λ l₂₄. alloc1 ! (λ l₂₅. alloc1 ! (λ l₂₆. alloc1 ! (λ l₂₇. alloc1 ! (λ l₂₈. alloc0 ! $ params1 ! $
-        pass1 ! (init ! 54 refl (tt, (tt, (record { fits = g₀ .0 }, tt)))) $ pass1 ! (init ! 52 refl (tt, (tt, (record { fits = g₁ .0 }, tt)))) $ pass1 ! (init ! 50 refl (tt, tt)) $ pass1 ! (init ! 48 refl (tt, (tt, (record { fits = g₃ .0 }, tt)))) $ pass1 ! (init ! 46 refl (tt, record { fits = entries-fits })) $ pass1 ! (init ! 44 refl (tt, record { fits = next-id-fits })) $ pass0 ! $
+        pass1 ! (init ! 54 refl (tt, (tt, (record { fits = g₀ .0 }, tt)))) $ pass1 ! (init ! 52 refl (tt, (tt, (record { fits = g₁ .0 }, tt)))) $ pass1 ! (init ! 50 refl (tt, tt)) $ pass1 ! (init ! 48 refl (tt, (tt, (record { fits = g₃ .0 }, tt)))) $ pass1 ! (init ! 46 refl (tt, record { fits = entries-fits })) $ pass1 ! (init ! 44 refl (id-typed 𝓤 H A W next-id next-id-is)) $ pass0 ! $
         move ! (59 ∷ []) $ fsplit ! $ move ! (1 ∷ []) $ fsplit ! $ move ! (1 ∷ []) $ fsplit ! $ move ! (1 ∷ []) $ fsplit ! $ move ! (1 ∷ []) $ drop ! $ nothing ! $ move ! (1 ∷ 0 ∷ []) $ fjoin ! $ nothing ! $ move ! (2 ∷ 0 ∷ []) $ fjoin ! $ move ! (2 ∷ 0 ∷ []) $ fjoin ! $ move ! (2 ∷ 0 ∷ []) $ fjoin ! $
         move ! (60 ∷ []) $ split ! $ move ! (1 ∷ []) $ split ! $ move ! (1 ∷ []) $ split ! $ move ! (1 ∷ []) $ split ! $ move ! (1 ∷ []) $ drop ! $ nothing ! $ move ! (1 ∷ 0 ∷ []) $ fjoin ! $ nothing ! $ move ! (2 ∷ 0 ∷ []) $ fjoin ! $ move ! (2 ∷ 0 ∷ []) $ fjoin ! $ move ! (2 ∷ 0 ∷ []) $ fjoin ! $
         move ! (2 ∷ 0 ∷ 3 ∷ 1 ∷ []) $
@@ -284,30 +289,30 @@ module _ {M : Type 1} (𝓤 : URA M) (H : Heap 𝓤) (A : Atoms 𝓤) (W : Given
         assigns ! (addr ! (from ! (fld ! refl (hop ! (look-in ! 52 (sub ! 0 refl (whole !))) (stop !))))) (from ! (stop !)) (init ! 22 refl (tt, tt)) $
         assigns ! (agg ! (and-then ! (load ! (from ! (stop !)) (look ! 22 refl)) (and-then ! (load ! (from ! (fld ! refl (stop !))) (look-in ! 52 (sub ! 1 refl (whole !)))) (no-more !)))) (from ! (stop !)) (init ! 20 refl (tt, (tt, (record { fits = g₃ .0 }, tt)))) $
         assigns ! (of-opd ! (load ! (from ! (fld ! refl (stop !))) (look-in ! 58 (sub ! 1 refl (whole !))))) (from ! (stop !)) (store ! 34 refl (tt, record { fits = g₀ .0 })) $
-        lent 1 Save (tt, tt) (measured.the-row ∷ u32 ∷ usize ∷ []) begun.the-row 𝓤 (begins.clauses 𝓤 H A at-mem run) (x₃, tt) (r₁, (next-id, (n₀, tt))) (struct.val measured.the-type measured-laws.the-laws r₁ ∷ [], (vint w32 next-id ∷ [], (vint w64 n₀ ∷ [], tt))) ! (fmOf 𝓤 H (W .laws) 𝓣) known-begins
-        (g₃, tt) (refl, tt) (struct.makes measured.the-type measured-laws.the-plain 𝓤 H A r₁ _ is₁, (uint-makes 𝓤 H A W w32 next-id _ (refl, next-id-fits), (uint-makes 𝓤 H A W w64 n₀ _ (refl, g₀ .0), tt))) (λ αs δs. tt) (λ αs δs. id⊢ 𝓤 (emp 𝓤))
+        lent 1 Save (tt, tt) (measured.the-row ∷ id.the-row ∷ usize ∷ []) begun.the-row 𝓤 (begins.clauses 𝓤 H A at-mem run) (x₃, tt) (r₁, (next-id, (n₀, tt))) (struct.val measured.the-type measured-laws.the-laws r₁ ∷ [], (id-val next-id ∷ [], (vint w64 n₀ ∷ [], tt))) ! (fmOf 𝓤 H (W .laws) 𝓣) known-begins
+        (g₃, tt) (refl, tt) (struct.makes measured.the-type measured-laws.the-plain 𝓤 H A r₁ _ is₁, (id-makes 𝓤 H A next-id _ next-id-is, (uint-makes 𝓤 H A W w64 n₀ _ (refl, g₀ .0), tt))) (λ αs δs. tt) (λ αs δs. id⊢ 𝓤 (emp 𝓤))
         (λ αs δs. (and-then ! (load ! (from ! (stop !)) (look ! 20 refl)) (and-then ! (load ! (from ! (stop !)) (look ! 44 refl)) (and-then ! (load ! (from ! (stop !)) (look ! 48 refl)) (and-then ! (load ! (from ! (stop !)) (look ! 34 refl)) (no-more !))))))
-        (λ αs δs w₂ r₂ z₂ f₂. heard ! (after r₂ (z₂ .0) ≡ begin-save next-id n₀ x₃ (measured-as r₁)) (λ e₂. landed begun.the-type begun-laws.the-laws ! r₂ w₂ (λ is₂.
+        (λ αs δs w₂ r₂ z₂ f₂. heard ! (after r₂ (z₂ .0) ≡ begin-save (next-id .0) n₀ x₃ (measured-as r₁)) (λ e₂. landed begun.the-type begun-laws.the-laws ! r₂ w₂ (λ is₂.
         land ! (from ! (stop !)) (init ! 42 refl (typed-as begun.the-type begun-laws.the-laws 𝓤 H A W r₂ is₂ .0)) $ move ! (2 ∷ 3 ∷ []) $
         assigns ! (of-opd ! (lit ! tt)) (from ! (stop !)) (init ! 40 refl (tt, record { fits = header-fits })) $
         assigns ! (of-opd ! (lit ! tt)) (from ! (stop !)) (init ! 38 refl (tt, record { fits = zero-fits })) $ forget ! 20 refl $ forget ! 22 refl $ forget ! 24 refl $ forget ! 26 refl $ forget ! 28 refl $ forget ! 30 refl $ forget ! 32 refl $ forget ! 34 refl $ forget ! 44 refl $ forget ! 46 refl $
         -- [the table, the pool and the ends; their tokens; the save buffer; its token; the locals]: the table alone, and the others
         fsplit ! $ move ! (1 ∷ []) $ fsplit ! $ move ! (1 ∷ []) $ fsplit ! $ move ! (1 ∷ []) $ drop ! $ move ! (4 ∷ []) $ fsplit ! $ move ! (1 ∷ []) $ drop ! $ nothing ! $ move ! (1 ∷ 0 ∷ []) $ fjoin ! $ move ! (1 ∷ 0 ∷ []) $ fjoin ! $ move ! (1 ∷ 0 ∷ []) $ fjoin ! $ nothing ! $ move ! (2 ∷ 0 ∷ []) $ fjoin ! $
         move ! (2 ∷ []) $ fsplit ! $ move ! (1 ∷ []) $ fsplit ! $ move ! (1 ∷ []) $ fsplit ! $ move ! (1 ∷ []) $ drop ! $ move ! (5 ∷ []) $ fsplit ! $ move ! (1 ∷ []) $ drop ! $ nothing ! $ move ! (1 ∷ 0 ∷ []) $ fjoin ! $ move ! (1 ∷ 0 ∷ []) $ fjoin ! $ move ! (1 ∷ 0 ∷ []) $ fjoin ! $ nothing ! $ move ! (2 ∷ 0 ∷ []) $ fjoin ! $ move ! (2 ∷ 0 ∷ 3 ∷ 1 ∷ []) $
-        looped 𝓣 known-measure known-begins known-get known-slot l₀ l₁ l₂ l₃ l₄ l₅ l₆ l₇ l₈ l₉ l₁₀ l₁₁ l₁₂ l₁₃ l₁₄ l₁₅ l₁₆ l₁₇ l₁₈ l₁₉ l₂₀ l₂₁ l₂₂ l₂₃ l₂₄ l₂₅ l₂₆ l₂₇ l₂₈ (record { b = r₂; i = 0; k = 14; ts = z₁ .0; po = z₁ .1 .0; en = z₁ .1 .1 .0; sv = z₂ .0; b-is = is₂; i-in = from-zero (r₂ .slots); k-fits = header-fits; ts-is = held-is e₁ .1 .0; po-is = held-is e₁ .1 .1 .0; en-is = held-is e₁ .1 .1 .1; sv-len = f₂ .0; so-far = save-begins x₀ x₁ x₂ next-id entries x₃ r₁ (held-is e₁ .0) e₂ }))))))))))))))))))))))))))))))))))))
+        looped 𝓣 known-measure known-begins known-get known-slot l₀ l₁ l₂ l₃ l₄ l₅ l₆ l₇ l₈ l₉ l₁₀ l₁₁ l₁₂ l₁₃ l₁₄ l₁₅ l₁₆ l₁₇ l₁₈ l₁₉ l₂₀ l₂₁ l₂₂ l₂₃ l₂₄ l₂₅ l₂₆ l₂₇ l₂₈ (record { b = r₂; i = 0; k = 14; ts = z₁ .0; po = z₁ .1 .0; en = z₁ .1 .1 .0; sv = z₂ .0; b-is = is₂; i-in = from-zero (r₂ .slots); k-fits = header-fits; ts-is = held-is e₁ .1 .0; po-is = held-is e₁ .1 .1 .0; en-is = held-is e₁ .1 .1 .1; sv-len = f₂ .0; so-far = save-begins x₀ x₁ x₂ (next-id .0) entries x₃ r₁ (held-is e₁ .0) e₂ }))))))))))))))))))))))))))))))))))))
 
 module _ {M : Type 1} (𝓤 : URA M) (H : Heap 𝓤) (A : Atoms 𝓤) (W : Given 𝓤 H A) (at-mem : Memory → SProp 𝓤) (run : Routine → Fun 𝓤) (𝓣 : Tables 𝓤 H) (known-measure : Triple 𝓤 (𝓣 .C #measure) (measure-con 𝓤 H A at-mem run)) (known-begins : Triple 𝓤 (𝓣 .C #begins) (begins-con 𝓤 H A at-mem run)) (known-get : Triple 𝓤 (𝓣 .C #get) (get-con 𝓤 H A at-mem run)) (known-slot : Triple 𝓤 (𝓣 .C #slot) (slot-con 𝓤 H A at-mem run)) where
   walks : Walks 𝓤 H A f.ended stayed (WpFn 𝓤 H (𝓣 .C) (𝓣 .Λ) code.function) (f.clauses 𝓤 H A at-mem run)
   walks =
-      walked 𝓤 H A f.ended stayed (f.clauses 𝓤 H A at-mem run) (WpFn 𝓤 H (𝓣 .C) (𝓣 .Λ) code.function) (λ κs. (slice-vals, (slice-vals, (ptr-vals, (slice-vals, (uint-vals w64, (uint-vals w32, tt)))))))
-      (λ κs. (mut-slice-tells (named 0) (κs .0) R, (mut-slice-tells (named 1) (κs .1 .0) u8, (mut-tells (named 2) (κs .1 .1 .0) (Array u32 1024), (mut-slice-tells (named 3) (κs .1 .1 .1 .0) u8, (uint-tells w64, (uint-tells w32, tt)))))))
+      walked 𝓤 H A f.ended stayed (f.clauses 𝓤 H A at-mem run) (WpFn 𝓤 H (𝓣 .C) (𝓣 .Λ) code.function) (λ κs. (slice-vals, (slice-vals, (ptr-vals, (slice-vals, (uint-vals w64, (id-vals, tt)))))))
+      (λ κs. (mut-slice-tells (named 0) (κs .0) R, (mut-slice-tells (named 1) (κs .1 .0) u8, (mut-tells (named 2) (κs .1 .1 .0) (Array u32 1024), (mut-slice-tells (named 3) (κs .1 .1 .1 .0) u8, (uint-tells w64, (id-tells, tt)))))))
       (λ κs qs bounds a g are. via 𝓤 _ (fst∗ 𝓤 _ (emp 𝓤))
       (walk 𝓤 H A W at-mem run (κs .0) (κs .1 .0) (κs .1 .1 .0) (κs .1 .1 .1 .0) (qs .0) (qs .1 .0) (qs .1 .1 .0) (qs .1 .1 .1 .0) (a .0 .ptr .0) (a .0 .ptr .1) (a .1 .0 .ptr .0) (a .1 .0 .ptr .1) (a .1 .1 .0 .ptr .0) (a .1 .1 .0 .ptr .1) (a .1 .1 .1 .0 .ptr .0) (a .1 .1 .1 .0 .ptr .1) (a .0 .name) (a .1 .0 .name) (a .1 .1 .0 .name) (a .1 .1 .1 .0 .name) (a .0 .now) (a .1 .0 .now) (a .1 .1 .0 .now) (a .1 .1 .1 .0 .now) (a .1 .1 .1 .1 .0) (a .1 .1 .1 .1 .1 .0)
-      (are .0 .0 .1) (are .1 .0 .0 .1) (are .1 .1 .1 .0 .0 .1) (are .1 .1 .1 .1 .0 .1) (are .1 .1 .1 .1 .1 .0 .1) 𝓣 known-measure known-begins known-get known-slot))
+      (are .0 .0 .1) (are .1 .0 .0 .1) (are .1 .1 .1 .0 .0 .1) (are .1 .1 .1 .1 .0 .1) (are .1 .1 .1 .1 .1 .0) 𝓣 known-measure known-begins known-get known-slot))
 
   meets : Meets 𝓤 H A f.signature (WpFn 𝓤 H (𝓣 .C) (𝓣 .Λ) code.function) (f.spec 𝓤 H A at-mem run)
   meets =
-      walk-meets 𝓤 H A f.ended stayed W (goes-slice 𝓤 H A W 4 0 tt (plain (λ _. R)), (goes-slice 𝓤 H A W 4 1 tt (plain (λ _. u8)), (goes-ref 𝓤 H A W 4 2 tt (plain (λ _. Array u32 1024)), (goes-slice 𝓤 H A W 4 3 tt (plain (λ _. u8)), (goes-none 𝓤 H A W 4 (λ _. usize) yes (λ κs x f. refl), (goes-none 𝓤 H A W 4 (λ _. u32) yes (λ κs x f. refl), tt)))))) (f.clauses 𝓤 H A at-mem run)
+      walk-meets 𝓤 H A f.ended stayed W (goes-slice 𝓤 H A W 4 0 tt (plain (λ _. R)), (goes-slice 𝓤 H A W 4 1 tt (plain (λ _. u8)), (goes-ref 𝓤 H A W 4 2 tt (plain (λ _. Array u32 1024)), (goes-slice 𝓤 H A W 4 3 tt (plain (λ _. u8)), (goes-none 𝓤 H A W 4 (λ _. usize) yes (λ κs x f. refl), (goes-none 𝓤 H A W 4 (λ _. id.the-row) yes (λ κs x f. refl), tt)))))) (f.clauses 𝓤 H A at-mem run)
       (WpFn 𝓤 H (𝓣 .C) (𝓣 .Λ) code.function) (WpFn-mono 𝓤 H (W .laws) 𝓣 code.function) walks
 
 pub save-table-spec : {M : Type 1} → stated.statement M

@@ -3,7 +3,8 @@ use Prim.Native.Nat.{_-_}
 use lib.ListN.{length}
 use borrow.Author.Needs.{needs}
 use Rattle.text.specs.Lines.{lined}
-use Rattle.host.specs.Listings.{values-of, put-values}
+use Rattle.listing.specs.Listing.{values-of}
+use Rattle.host.specs.Listings.{put-values}
 use Rattle.host.proofs.AnsweringLines.{Telling, begun, turned, ended}
 use Rattle.host.proofs.listings.put_values.Statement.{statement}
 use Rattle.host.proofs.listings.put_values.Tie as tie

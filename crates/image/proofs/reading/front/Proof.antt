@@ -91,7 +91,7 @@ returns-9 c =
       inside = omega arith;
       text = text-is _ (c .before .before .before .before .before .u16-at2 .ensures .0) (c .before .before .part .ensures) (c .before .is-utf8 .ensures) (c .if9 .taken);
     })
-    (c .before .before .before .before .before .before .before .before .before .before .before .u32-at2 .ensures .0) (c .before .before .before .before .before .before .before .before .before .before .before .before .before .before .before .before .u32-at .ensures .0) (c .before .before .before .before .before .u16-at2 .ensures .0)
+    (c .before .before .before .before .before .before .before .before .before .before .before .before .before .before .u32-at2 .ensures .0) (c .before .before .before .before .before .before .before .before .before .before .before .before .before .before .before .before .before .before .before .u32-at .ensures .0) (c .before .before .before .before .before .u16-at2 .ensures .0)
 
 returns-10 : tie.Need-returns-10
 returns-10 c =

@@ -36,8 +36,8 @@ u32-at-requires-2 c κs = search needs
 cast-if3 : tie.Need-cast-if3
 cast-if3 c = search needs
 
-cast-t15 : tie.Need-cast-t15
-cast-t15 c = search needs
+cast-t17 : tie.Need-cast-t17
+cast-t17 c = search needs
 
 returns-3 : tie.Need-returns-3
 returns-3 c =
@@ -64,7 +64,7 @@ test-image-spec =
     enum-known-count
     u32-at-requires-2
     cast-if3
-    cast-t15
+    cast-t17
     returns-3
     returns-4
     returns-5)

@@ -9,7 +9,7 @@ use Rattle.image.proofs.reading.walk.Tie as tie
 
 abbrev Inv-loop : tie.InvT-loop
 Inv-loop image next-id at₀ low₀ count₀ sum₀ at low count sum =
-    Inv image next-id at low count sum
+    Inv image (next-id .0) at low count sum
 
 abbrev μ-loop : tie.MeasureT-loop
 μ-loop image next-id at₀ low₀ count₀ sum₀ at low count sum =
@@ -49,15 +49,15 @@ enum-known-id c =
 
 add-low : tie.Need-add-low Inv-loop μ-loop
 add-low c =
-    omega (arith, fits (c .before .before .before .before .before .before .loop .inv) (c .before .before .before .before .before .loop-test .taken) (c .before .before .before .front .ensures) (c .before .id .given .1))
+    omega (arith, fits (c .before .before .before .before .before .before .before .loop .inv) (c .before .before .before .before .before .before .loop-test .taken) (c .before .before .before .before .front .ensures) (c .before .before .id .given .1))
 
 add-at : tie.Need-add-at Inv-loop μ-loop
 add-at c =
-    omega (arith, fits (c .before .before .before .before .before .before .loop .inv) (c .before .before .before .before .before .loop-test .taken) (c .before .before .before .front .ensures) (c .before .id .given .1))
+    omega (arith, fits (c .before .before .before .before .before .before .before .loop .inv) (c .before .before .before .before .before .before .loop-test .taken) (c .before .before .before .before .front .ensures) (c .before .before .id .given .1))
 
 add-sum : tie.Need-add-sum Inv-loop μ-loop
 add-sum c =
-    omega (arith, fits (c .before .before .before .before .before .before .loop .inv) (c .before .before .before .before .before .loop-test .taken) (c .before .before .before .front .ensures) (c .before .id .given .1))
+    omega (arith, fits (c .before .before .before .before .before .before .before .loop .inv) (c .before .before .before .before .before .before .loop-test .taken) (c .before .before .before .before .front .ensures) (c .before .before .id .given .1))
 
 add-count : tie.Need-add-count Inv-loop μ-loop
 add-count c =
@@ -65,11 +65,11 @@ add-count c =
 
 loop-less : tie.Need-loop-less Inv-loop μ-loop
 loop-less c =
-    omega (arith, fits (c .before .before .before .before .before .before .loop .inv) (c .before .before .before .before .before .loop-test .taken) (c .before .before .before .front .ensures) (c .before .id .given .1))
+    omega (arith, fits (c .before .before .before .before .before .before .before .loop .inv) (c .before .before .before .before .before .before .loop-test .taken) (c .before .before .before .before .front .ensures) (c .before .before .id .given .1))
 
 loop-again : tie.Need-loop-again Inv-loop μ-loop
 loop-again c =
-    turn (c .before .before .before .before .before .before .loop .inv) (c .before .before .before .before .before .loop-test .taken) (c .before .before .before .front .ensures) (c .before .id .given .1)
+    turn (c .before .before .before .before .before .before .before .loop .inv) (c .before .before .before .before .before .before .loop-test .taken) (c .before .before .before .before .front .ensures) (c .before .before .id .given .1)
 
 returns-2 : tie.Need-returns-2 Inv-loop μ-loop
 returns-2 c =

@@ -5,6 +5,9 @@ use Rattle.image.specs.Image.{header, framed}
 use Rattle.image.specs.Numbers.{little-endian}
 use Rattle.image.proofs.writing.heading.Tie as tie
 
+cast-next-id : tie.Need-cast-next-id
+cast-next-id c = search needs
+
 low-requires : tie.Need-low-requires
 low-requires c κs = search needs
 
@@ -38,6 +41,7 @@ pub heading-spec : {M : Type 1} → statement M
 heading-spec =
     tie.close
     (tie.spec
+    cast-next-id
     low-requires
     low-requires-2
     low-requires-3

@@ -4,6 +4,9 @@ use Rattle.image.proofs.writing.opening.Statement.{statement}
 use Rattle.image.specs.Numbers.{little-endian}
 use Rattle.image.proofs.writing.opening.Tie as tie
 
+cast-id : tie.Need-cast-id
+cast-id c = search needs
+
 low-requires : tie.Need-low-requires
 low-requires c κs = search needs
 
@@ -43,6 +46,7 @@ pub opening-spec : {M : Type 1} → statement M
 opening-spec =
     tie.close
     (tie.spec
+    cast-id
     low-requires
     low-requires-2
     low-requires-3

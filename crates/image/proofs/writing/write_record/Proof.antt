@@ -22,9 +22,6 @@ add-body-2 c =
     let held : length (start .args .task .title) ≡ 128 = search needs in
     omega (arith, part-short 0 (start .args .task .«title_len») (start .args .task .title) (c .part .ensures), start .good .1 .0 .1)
 
-cast-id : tie.Need-cast-id
-cast-id c = search needs
-
 opening-requires : tie.Need-opening-requires
 opening-requires c κs = search needs
 
@@ -45,7 +42,7 @@ same-length c = search needs
 
 returns : tie.Need-returns
 returns c =
-    record-put _ _ _ _ (c .before .before .before .before .before .before .before .before .before .before .before .before .before .before .before .part .ensures) (c .before .before .before .before .before .before .before .before .before .before .before .before .before .opening .ensures) (c .before .before .before .before .before .before .before .before .before .before .put .ensures) (c .before .before .before .before .before .before .put2 .ensures) (c .before .before .put3 .ensures)
+    record-put _ _ _ _ (c .before .before .before .before .before .before .before .before .before .before .before .before .before .before .part .ensures) (c .before .before .before .before .before .before .before .before .before .before .before .before .before .opening .ensures) (c .before .before .before .before .before .before .before .before .before .before .put .ensures) (c .before .before .before .before .before .before .put2 .ensures) (c .before .before .put3 .ensures)
 
 pub write-record-spec : {M : Type 1} → statement M
 write-record-spec =
@@ -55,7 +52,6 @@ write-record-spec =
     part-requires
     add-body
     add-body-2
-    cast-id
     opening-requires
     slice-aggregate-put
     put-requires

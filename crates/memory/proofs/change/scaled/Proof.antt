@@ -10,7 +10,7 @@ use Rattle.memory.proofs.change.scaled.Tie as tie
 
 abbrev Inv-loop : tie.InvT-loop
 Inv-loop index width sum₀ turn₀ sum turn =
-    (turn ≤ width) × (sum ≡ scaled index turn)
+    (turn ≤ width) × (sum ≡ scaled (index .0) turn)
 
 abbrev μ-loop : tie.MeasureT-loop
 μ-loop index width sum₀ turn₀ sum turn =
@@ -18,7 +18,7 @@ abbrev μ-loop : tie.MeasureT-loop
 
 loop-holds : tie.Need-loop-holds Inv-loop μ-loop
 loop-holds c =
-    (omega arith, none (c .args .index))
+    (omega arith, none (c .args .index .0))
 
 wrapping-add-u32-requires : tie.Need-wrapping-add-u32-requires Inv-loop μ-loop
 wrapping-add-u32-requires c κs =

@@ -69,10 +69,10 @@ use Rattle.vm.proofs.creating.create.Symbol.{name as #creates}
 use Rattle.vm.proofs.creating.create as creates
 use Rattle.vm.proofs.creating.create.Symbol as creates-def
 use Rattle.vm.proofs.creating.create.Met as creates-thm
-use Rattle.printer.proofs.show_creation.Symbol.{name as #shows-creation}
-use Rattle.printer.proofs.show_creation as shows-creation
-use Rattle.printer.proofs.show_creation.Symbol as shows-creation-def
-use Rattle.printer.proofs.show_creation.Met as shows-creation-thm
+use Rattle.printer.proofs.listing_lines.show_creation.Symbol.{name as #shows-creation}
+use Rattle.printer.proofs.listing_lines.show_creation as shows-creation
+use Rattle.printer.proofs.listing_lines.show_creation.Symbol as shows-creation-def
+use Rattle.printer.proofs.listing_lines.show_creation.Met as shows-creation-thm
 use Rattle.machine.proofs.new_machines.machine_of.Symbol.{name as #begins}
 use Rattle.machine.proofs.new_machines.machine_of as begins
 use Rattle.machine.proofs.new_machines.machine_of.Symbol as begins-def
@@ -275,7 +275,7 @@ own-spec 𝓤 H 𝓜 𝓖 𝓡 =
     (meets 𝓤 H (𝓖 .A) (givenOf 𝓤 H 𝓜 𝓖) (𝓜 .mem) (𝓡 .run) (tablesOf 𝓤 H 𝓜 (tables 𝓤 H 𝓜 𝓡 code.env))
     (cited 𝓤 H (blanks-con 𝓤 H (𝓖 .A) (𝓜 .mem) (𝓡 .run)) 𝓜 𝓡 code.env #blanks blanks-def.routine code.calls-storage·task-types·blank (blanks-thm.met 𝓤 H 𝓜 𝓖 𝓡))
     (cited 𝓤 H (creates-con 𝓤 H (𝓖 .A) (𝓜 .mem) (𝓡 .run)) 𝓜 𝓡 code.env #creates creates-def.routine code.calls-vm·creating·create (creates-thm.met 𝓤 H 𝓜 𝓖 𝓡))
-    (cited 𝓤 H (shows-creation-con 𝓤 H (𝓖 .A) (𝓜 .mem) (𝓡 .run)) 𝓜 𝓡 code.env #shows-creation shows-creation-def.routine code.calls-printer·show-creation (shows-creation-thm.met 𝓤 H 𝓜 𝓖 𝓡))
+    (cited 𝓤 H (shows-creation-con 𝓤 H (𝓖 .A) (𝓜 .mem) (𝓡 .run)) 𝓜 𝓡 code.env #shows-creation shows-creation-def.routine code.calls-printer·listing-lines·show-creation (shows-creation-thm.met 𝓤 H 𝓜 𝓖 𝓡))
     (cited 𝓤 H (begins-con 𝓤 H (𝓖 .A) (𝓜 .mem) (𝓡 .run)) 𝓜 𝓡 code.env #begins begins-def.routine code.calls-machine·new-machines·machine-of (begins-thm.met 𝓤 H 𝓜 𝓖 𝓡))
     (cited 𝓤 H (allows-con 𝓤 H (𝓖 .A) (𝓜 .mem) (𝓡 .run)) 𝓜 𝓡 code.env #allows allows-def.routine code.calls-printer·asked·count-of (allows-thm.met 𝓤 H 𝓜 𝓖 𝓡))
     (cited 𝓤 H (plays-con 𝓤 H (𝓖 .A) (𝓜 .mem) (𝓡 .run)) 𝓜 𝓡 code.env #plays plays-def.routine code.calls-printer·shows·play (plays-thm.met 𝓤 H 𝓜 𝓖 𝓡)))

@@ -1,6 +1,7 @@
 -- `runner::wanted::named` meets its contract.
 use Rattle.mechanism.specs.Advance.{named, named-by}
 use borrow.Author.Needs.{needs}
+use Rattle.storage.specs.Storage.{slot-of}
 use Rattle.runner.proofs.wanted.named.Statement.{statement}
 use Rattle.runner.proofs.wanted.named.Tie as tie
 use Rattle.runner.proofs.wanted.named.Reads as reads
@@ -20,8 +21,8 @@ enum-known-value c = search needs
 to-u32-requires : tie.Need-to-u32-requires
 to-u32-requires c κs = search needs
 
-cast-result : tie.Need-cast-result
-cast-result c = search needs
+slot-of-requires : tie.Need-slot-of-requires
+slot-of-requires c κs = search needs
 
 returns : tie.Need-returns
 unfolding named named-by
@@ -29,9 +30,9 @@ returns c =
     simp (c .enum-told .given .1, ← c .before .before .pop .ensures)
 
 returns-2 : tie.Need-returns-2
-unfolding named named-by
+unfolding named named-by slot-of
 returns-2 c =
-    simp (← c .to-u32 .ensures, c .before .before .value .given .1, ← c .before .before .before .before .pop .ensures)
+    simp (c .slot-of .ensures, ← c .before .to-u32 .ensures, c .before .before .before .value .given .1, ← c .before .before .before .before .before .pop .ensures)
 
 pub named-spec : {M : Type 1} → statement M
 named-spec =
@@ -41,6 +42,6 @@ named-spec =
     enum-told
     enum-known-value
     to-u32-requires
-    cast-result
+    slot-of-requires
     returns
     returns-2)

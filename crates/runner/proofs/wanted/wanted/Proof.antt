@@ -2,19 +2,20 @@
 use borrow.Author.Tests.{eq-eqb, ne-eqb}
 use Rattle.mechanism.specs.Advance.{wanted}
 use borrow.Author.Needs.{needs}
+use Rattle.storage.specs.Storage.{slot-of}
 use Rattle.runner.proofs.wanted.wanted.Statement.{statement}
 use Rattle.runner.proofs.wanted.wanted.Tie as tie
 use Rattle.runner.proofs.wanted.wanted.Reads as reads
 use Rattle.runner.proofs.wanted.wanted.Lts as lts
 use Rattle.runner.proofs.wanted.named.Reads as named-reads
 
-cast-result : tie.Need-cast-result
-cast-result c = search needs
+slot-of-requires : tie.Need-slot-of-requires
+slot-of-requires c κs = search needs
 
 returns : tie.Need-returns
-unfolding wanted
+unfolding wanted slot-of
 returns c =
-    simp (eq-eqb _ _ (c .before .if1 .taken))
+    simp (c .slot-of .ensures, eq-eqb _ _ (c .before .if1 .taken))
 
 returns-2 : tie.Need-returns-2
 unfolding wanted
@@ -55,7 +56,7 @@ pub wanted-spec : {M : Type 1} → statement M
 wanted-spec =
     tie.close
     (tie.spec
-    cast-result
+    slot-of-requires
     returns
     returns-2
     sub-named

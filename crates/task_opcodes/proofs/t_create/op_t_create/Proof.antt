@@ -64,7 +64,7 @@ returns-2 c =
 returns-3 : tie.Need-returns-3
 unfolding op-t-create with-two with-state
 returns-3 c =
-    simp (← c .titled .ensures, ← c .before .to-u322 .ensures, ← c .before .before .moved .ensures, c .before .before .before .before .state .given .1, ← c .before .before .before .before .before .before .default-state .ensures, ← c .before .before .before .before .before .before .before .to-u32 .ensures, c .before .before .before .before .before .before .before .before .before .reference .given .1, ← c .before .before .before .before .before .before .before .before .before .before .before .pop-two .ensures)
+    simp (← c .before .to-u322 .ensures, ← c .before .before .moved .ensures, c .before .before .before .before .state .given .1, ← c .before .before .before .before .before .before .default-state .ensures, ← c .before .before .before .before .before .before .before .to-u32 .ensures, c .before .before .before .before .before .before .before .before .before .reference .given .1, ← c .before .before .before .before .before .before .before .before .before .before .before .pop-two .ensures) (c .titled .ensures)
 
 pub op-t-create-spec : {M : Type 1} → statement M
 op-t-create-spec =

@@ -44,7 +44,8 @@ use Rattle.lent.proofs.Emptied.{emptied}
 use Rattle.lent.proofs.Landed.{landed-by}
 use Rattle.lent.proofs.Shut.{Shut}
 use Rattle.storage.specs.declared.Task.{Task}
-use Rattle.storage.proofs.Records.{R, table-ty}
+use Rattle.storage.proofs.Records.{R, table-ty, id-shut}
+use Rattle.storage.proofs.TaskId as id
 use Rattle.machine.specs.declared.Machine.{Machine}
 use Rattle.machine.proofs.Machine as machine
 use Rattle.image.proofs.SaveResult as saved
@@ -52,7 +53,7 @@ use Rattle.image.specs.Table.{saved-table, save-table}
 use Rattle.table_image.specs.Tables.{held}
 use Rattle.machine.specs.World.{world}
 use Rattle.mechanism.proofs.Values.{machine-shut, machine-vals}
-use Rattle.mechanism.proofs.Fields.{entries-fit, next-id-fits, is-true, is-false}
+use Rattle.mechanism.proofs.Fields.{entries-fit, next-id-is, is-true, is-false}
 use Rattle.machine.specs.declared.SaveReport.{SaveReport}
 use Rattle.machine.proofs.SaveReport as save-report
 use Rattle.mechanism.proofs.VmValues.{save-report-shut, save-report-vals, saved-shut, saved-vals}
@@ -81,6 +82,7 @@ use Rattle.vm.proofs.saving.save as f
 use Rattle.vm.proofs.saving.save.Statement as stated
 use Rattle.vm.proofs.saving.save.Code as code
 use Rattle.vm.proofs.saving.save.Code.Mir as mir
+open Shut id-shut using (val as id-val, makes as id-makes)
 open Shut machine-shut using (val as machine-val, ty as machine-ty, tells as machine-tells, makes as machine-makes, typed as machine-typed)
 open Shut save-report-shut using (val as save-report-val, ty as save-report-ty, tells as save-report-tells, makes as save-report-makes, typed as save-report-typed)
 open Shut saved-shut using (val as saved-val, ty as saved-ty, tells as saved-tells, makes as saved-makes, typed as saved-typed)
@@ -200,10 +202,10 @@ module _ {M : Type 1} (𝓤 : URA M) (H : Heap 𝓤) (A : Atoms 𝓤) (W : Given
           assigns ! (addr ! (from ! (hop ! (look ! 44 refl) (stop !)))) (from ! (stop !)) (init ! 6 refl (tt, tt)) $
           assigns ! (addr ! (from ! (fld ! refl (hop ! (look-in ! 42 (sub ! 0 refl (whole !))) (stop !))))) (from ! (stop !)) (init ! 4 refl (tt, tt)) $
           assigns ! (agg ! (and-then ! (load ! (from ! (stop !)) (look ! 4 refl)) (and-then ! (load ! (from ! (fld ! refl (stop !))) (look-in ! 42 (sub ! 1 refl (whole !)))) (no-more !)))) (from ! (stop !)) (init ! 2 refl (tt, (tt, (record { fits = g₅ .0 }, tt)))) $
-          lent-some 4 All Four (tt, (tt, (tt, (tt, tt)))) (usize ∷ u32 ∷ []) saved.the-row 𝓤 (saves.clauses 𝓤 H A at-mem run) (ts, (x₁, (me, (po, (en, (sv, tt)))))) (m .entries, (m .«next_id», tt)) (vint w64 (m .entries) ∷ [], (vint w32 (m .«next_id») ∷ [], tt)) ! (fmOf 𝓤 H (W .laws) 𝓣) known-saves
-          (g₀, (g₃, (tt, (g₅, tt)))) (m₀, (m₃, (tt, (m₅, tt)))) (uint-makes 𝓤 H A W w64 (m .entries) _ (refl, entries-fit m m-is), (uint-makes 𝓤 H A W w32 (m .«next_id») _ (refl, next-id-fits m m-is), tt)) (λ αs δs. tt) (λ αs δs. id⊢ 𝓤 (emp 𝓤))
+          lent-some 4 All Four (tt, (tt, (tt, (tt, tt)))) (usize ∷ id.the-row ∷ []) saved.the-row 𝓤 (saves.clauses 𝓤 H A at-mem run) (ts, (x₁, (me, (po, (en, (sv, tt)))))) (m .entries, (m .«next_id», tt)) (vint w64 (m .entries) ∷ [], (id-val (m .«next_id») ∷ [], tt)) ! (fmOf 𝓤 H (W .laws) 𝓣) known-saves
+          (g₀, (g₃, (tt, (g₅, tt)))) (m₀, (m₃, (tt, (m₅, tt)))) (uint-makes 𝓤 H A W w64 (m .entries) _ (refl, entries-fit m m-is), (id-makes 𝓤 H A (m .«next_id») _ (next-id-is m m-is), tt)) (λ αs δs. tt) (λ αs δs. id⊢ 𝓤 (emp 𝓤))
           (λ αs δs. (and-then ! (load ! (from ! (stop !)) (look ! 14 refl)) (and-then ! (load ! (from ! (stop !)) (look ! 10 refl)) (and-then ! (load ! (from ! (stop !)) (look ! 8 refl)) (and-then ! (load ! (from ! (stop !)) (look ! 4 refl)) (and-then ! (take-entries ! 7 42 m refl refl) (and-then ! (take-next-id ! 7 42 m refl refl) (no-more !))))))))
-          (λ αs δs w₁ r₁ z₁ f₁. heard ! (held (saved-table r₁ (z₁ .1 .1 .1 .0)) (z₁ .0) (z₁ .1 .0) (z₁ .1 .1 .0) ≡ held (save-table (m .«next_id») ts po en (m .entries) sv) ts po en) (λ e₁. landed-by ! saved.the-row saved-vals saved-tells r₁ w₁ (λ is₁.
+          (λ αs δs w₁ r₁ z₁ f₁. heard ! (held (saved-table r₁ (z₁ .1 .1 .1 .0)) (z₁ .0) (z₁ .1 .0) (z₁ .1 .1 .0) ≡ held (save-table (m .«next_id» .0) ts po en (m .entries) sv) ts po en) (λ e₁. landed-by ! saved.the-row saved-vals saved-tells r₁ w₁ (λ is₁.
           land ! (from ! (stop !)) (init ! 36 refl (saved-typed 𝓤 H A W r₁ is₁)) $
           nothing ! $ nothing ! $
           lent 0 [] tt (machine.the-row ∷ saved.the-row ∷ []) save-report.the-row 𝓤 (keeps.clauses 𝓤 H A at-mem run) tt (m, (r₁, tt)) (machine-val m ∷ [], (saved-val r₁ ∷ [], tt)) ! (fmOf 𝓤 H (W .laws) 𝓣) known-keeps

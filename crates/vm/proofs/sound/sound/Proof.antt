@@ -45,11 +45,12 @@ use Rattle.lent.proofs.Landed.{landed-by}
 use Rattle.lent.proofs.Shut.{Shut}
 use Rattle.storage.specs.declared.Task.{Task}
 use Rattle.storage.specs.Tasks.{after}
-use Rattle.storage.proofs.Records.{R, table-ty}
+use Rattle.storage.proofs.Records.{R, table-ty, id-shut}
+use Rattle.storage.proofs.TaskId as id
 use Rattle.machine.specs.declared.Machine.{Machine}
 use Rattle.machine.proofs.Machine as machine
 use Rattle.mechanism.proofs.Values.{machine-shut, machine-vals}
-use Rattle.mechanism.proofs.Fields.{next-id-fits}
+use Rattle.mechanism.proofs.Fields.{next-id-is}
 use Rattle.storage.specs.Table.{sound-table}
 use Rattle.machine.specs.Sound.{tested, beside, sound-record, sound-world}
 use Rattle.mechanism.proofs.VmFields.{count-fits, take-next-id, take-count}
@@ -67,6 +68,7 @@ use Rattle.vm.proofs.sound.sound as f
 use Rattle.vm.proofs.sound.sound.Statement as stated
 use Rattle.vm.proofs.sound.sound.Code as code
 use Rattle.vm.proofs.sound.sound.Code.Mir as mir
+open Shut id-shut using (val as id-val, makes as id-makes)
 open Shut machine-shut using (val as machine-val, ty as machine-ty, tells as machine-tells, makes as machine-makes, typed as machine-typed)
 
 abbrev stayed : Stays (f.ended .signature .params) (f.ended .kept)
@@ -154,10 +156,10 @@ module _ {M : Type 1} (𝓤 : URA M) (H : Heap 𝓤) (A : Atoms 𝓤) (W : Given
       steps =
           assigns ! (addr ! (from ! (fld ! refl (hop ! (look-in ! 32 (sub ! 0 refl (whole !))) (stop !))))) (from ! (stop !)) (init ! 18 refl (tt, tt)) $
           assigns ! (agg ! (and-then ! (load ! (from ! (stop !)) (look ! 18 refl)) (and-then ! (load ! (from ! (fld ! refl (stop !))) (look-in ! 32 (sub ! 1 refl (whole !)))) (no-more !)))) (from ! (stop !)) (init ! 16 refl (tt, (tt, (record { fits = g₀ .0 }, tt)))) $
-          lent-some 1 All Table (tt, tt) (u32 ∷ u32 ∷ []) bool 𝓤 (slots.clauses 𝓤 H A at-mem run) (x₀, (x₁, (x₂, (x₃, (x₄, tt))))) (m .«next_id», (m .count, tt)) (vint w32 (m .«next_id») ∷ [], (vint w32 (m .count) ∷ [], tt)) ! (fmOf 𝓤 H (W .laws) 𝓣) known-slots
-          (g₀, tt) (refl, tt) (uint-makes 𝓤 H A W w32 (m .«next_id») _ (refl, next-id-fits m m-is), (uint-makes 𝓤 H A W w32 (m .count) _ (refl, count-fits m m-is), tt)) (λ αs δs. tt) (λ αs δs. id⊢ 𝓤 (emp 𝓤))
+          lent-some 1 All Table (tt, tt) (id.the-row ∷ u32 ∷ []) bool 𝓤 (slots.clauses 𝓤 H A at-mem run) (x₀, (x₁, (x₂, (x₃, (x₄, tt))))) (m .«next_id», (m .count, tt)) (id-val (m .«next_id») ∷ [], (vint w32 (m .count) ∷ [], tt)) ! (fmOf 𝓤 H (W .laws) 𝓣) known-slots
+          (g₀, tt) (refl, tt) (id-makes 𝓤 H A (m .«next_id») _ (next-id-is m m-is), (uint-makes 𝓤 H A W w32 (m .count) _ (refl, count-fits m m-is), tt)) (λ αs δs. tt) (λ αs δs. id⊢ 𝓤 (emp 𝓤))
           (λ αs δs. (and-then ! (load ! (from ! (stop !)) (look ! 18 refl)) (and-then ! (take-next-id ! 6 24 m refl refl) (and-then ! (take-count ! 6 24 m refl refl) (no-more !)))))
-          (λ αs δs w₁ r₁ z₁ f₁. heard ! (after r₁ (z₁ .0) ≡ after (sound-table x₀ (m .«next_id») (m .count)) x₀) (λ e₁. landed-by ! bool bool-vals bool-tells r₁ w₁ (λ is₁.
+          (λ αs δs w₁ r₁ z₁ f₁. heard ! (after r₁ (z₁ .0) ≡ after (sound-table x₀ (m .«next_id» .0) (m .count)) x₀) (λ e₁. landed-by ! bool bool-vals bool-tells r₁ w₁ (λ is₁.
           land ! (from ! (stop !)) (init ! 20 refl (tt, tt)) $
           assigns ! (addr ! (from ! (fld ! refl (hop ! (look-in ! 30 (sub ! 0 refl (whole !))) (stop !))))) (from ! (stop !)) (init ! 14 refl (tt, tt)) $
           assigns ! (agg ! (and-then ! (load ! (from ! (stop !)) (look ! 14 refl)) (and-then ! (load ! (from ! (fld ! refl (stop !))) (look-in ! 30 (sub ! 1 refl (whole !)))) (no-more !)))) (from ! (stop !)) (init ! 12 refl (tt, (tt, (record { fits = g₁ .0 }, tt)))) $

@@ -50,6 +50,7 @@ use Rattle.storage.specs.Storage.{slot-of}
 use Rattle.storage.proofs.Records.{R, table-ty, val as task-val, vals as task-vals, tells as task-tells, makes, typed}
 use Rattle.storage.proofs.Task.Laws as task-laws
 use Rattle.storage.proofs.TaskId as id
+use Rattle.storage.proofs.Records.{id-shut, id-vals}
 use Rattle.machine.specs.declared.Machine.{Machine}
 use Rattle.machine.proofs.Machine as machine
 use Rattle.image.specs.Writing.{stepped}
@@ -57,7 +58,7 @@ use Rattle.machine.specs.World.{world}
 use Rattle.mechanism.proofs.Values.{machine-shut, machine-vals}
 use Rattle.machine.specs.declared.TaskRead.{TaskRead}
 use Rattle.machine.proofs.TaskRead as task-read
-use Rattle.mechanism.proofs.VmValues.{task-read-shut, task-read-vals, id-shut, id-vals}
+use Rattle.mechanism.proofs.VmValues.{task-read-shut, task-read-vals}
 use Rattle.machine.specs.Sound.{tested, sound-world}
 use Rattle.machine.specs.Reads.{read-to, task-at, task-read as task-read-of}
 use Rattle.mechanism.proofs.Answers.{reads-task}

@@ -1,10 +1,10 @@
--- `host::listings::words_of` meets its contract.
+-- `listing::lines::words_of` meets its contract.
 use mathlib.Core.Path.{sym}
 use lib.Seq.{length-take-le}
-use Rattle.host.proofs.AnsweringLines.{all-words}
+use Rattle.listing.proofs.LineByLine.{all-words}
 use borrow.Author.Needs.{needs}
-use Rattle.host.proofs.listings.words_of.Statement.{statement}
-use Rattle.host.proofs.listings.words_of.Tie as tie
+use Rattle.listing.proofs.lines.words_of.Statement.{statement}
+use Rattle.listing.proofs.lines.words_of.Tie as tie
 
 returns : tie.Need-returns
 returns c = all-words _ _ (c .if1 .taken)
@@ -18,9 +18,4 @@ returns-2 : tie.Need-returns-2
 returns-2 c = search needs
 
 pub words-of-spec : {M : Type 1} → statement M
-words-of-spec =
-    tie.close
-    (tie.spec
-    returns
-    slice-aggregate-result
-    returns-2)
+words-of-spec = tie.close (tie.spec returns slice-aggregate-result returns-2)

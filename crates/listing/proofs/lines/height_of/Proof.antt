@@ -1,8 +1,8 @@
--- `host::outcomes::height_of` meets its contract.
+-- `listing::lines::height_of` meets its contract.
 use borrow.Author.Needs.{needs}
-use Rattle.host.specs.Hosting.{height-of}
-use Rattle.host.proofs.outcomes.height_of.Statement.{statement}
-use Rattle.host.proofs.outcomes.height_of.Tie as tie
+use Rattle.listing.specs.Listing.{height-of}
+use Rattle.listing.proofs.lines.height_of.Statement.{statement}
+use Rattle.listing.proofs.lines.height_of.Tie as tie
 
 enum-told : tie.Need-enum-told
 enum-told c = search needs
