@@ -11,7 +11,7 @@ use borrow.Author.Tests.{ltb-true, ltb-false}
 use Rattle.slices.proofs.SlicesWrites.{sets-append}
 use Rattle.labels.specs.declared.Kind.{Kind}
 use Rattle.labels.specs.declared.Kind.the-variants.{Number, Calldata, Boolean, Text, Numbers}
-use Rattle.labels.specs.Labels.{letter, letters, Open, opened, kinds-of, loops-of}
+use Rattle.labels.specs.Labels.{letter, letters, Open, opened, kinds-of, open-loops}
 use Rattle.admission.specs.Nodes.{top, below, stacked}
 use Rattle.labels.specs.Check.{admitted, admission}
 use Rattle.labels.specs.Faults.{WrongJump, Ended, Fault, without-rule, wrong-jump, open-loop}
@@ -169,7 +169,7 @@ module _ (code : List ℕ) (more : 1 ≤ length code) (short : length code ≤ 6
     admitted-answer j r {word} {node} {out} e none n o =
         let last = ended-of s .last in
         let kinds = kinds-of last in
-        let closed : loops-of last ≡ [] = word-closed (loops-of last) (at-end .opens) (sym e ∙ none) in
+        let closed : open-loops last ≡ [] = word-closed (open-loops last) (at-end .opens) (sym e ∙ none) in
         let verdict : admission code ≡ admitted kinds = passed code more short (ended-of s) (no-wrong j r) closed in
         let list : out ≡ sets buffer 0 (letters (reverse kinds)) =
         o ∙ ap₂ (λ h m. written h cells m buffer) (high-of s) n ∙ written-is cells kinds (getD nodes (length code) 0 - 1) buffer (at-end .kinds) in

@@ -13,7 +13,7 @@ use Rattle.labels.specs.declared.Exchange.{Exchange}
 use Rattle.labels.specs.declared.Exchange.the-variants.{Unchanged, Adds, Takes, Turns, Joins, Creates, Gets, Sets, Dup, Swap, Drop, Compares, Changes}
 use Rattle.labels.specs.declared.Element.{Element}
 use Rattle.labels.specs.declared.Element.the-variants.{NoRule, Kinds, Do, Loop, LoopIndex, JumpIfFalse}
-use Rattle.labels.specs.Labels.{letter, letters, same-kind, onward, takes, gives, keeps-vector, exchanged, kinds-after}
+use Rattle.labels.specs.Labels.{letter, letters, same-kind, and-then, takes, gives, keeps-vector, exchanged, kinds-after}
 use Rattle.admission.specs.declared.elements.Change.{Change}
 use Rattle.admission.specs.declared.elements.Change.the-variants as changes
 use Rattle.admission.specs.Changes.{take-one, take-two, create, compare, change-vector, move-kinds, exchange-change, element-change}
@@ -159,12 +159,12 @@ unfolding change-vector take-two exchanged
 vector-changed [] = refl
 vector-changed (top ∷ []) = by (same-kind Number top)
   where
-    by : (b : Bool) → none ≡ lettered (onward (cond b none none) keeps-vector)
+    by : (b : Bool) → none ≡ lettered (and-then (cond b none none) keeps-vector)
     by true = refl
     by false = refl
 vector-changed (top ∷ second ∷ []) = by (same-kind Number top) (same-kind Number second)
   where
-    by : (b d : Bool) → none ≡ lettered (onward (cond b (cond d (some []) none) none) keeps-vector)
+    by : (b d : Bool) → none ≡ lettered (and-then (cond b (cond d (some []) none) none) keeps-vector)
     by true true = refl
     by true false = refl
     by false d = refl
@@ -175,7 +175,7 @@ vector-changed (top ∷ second ∷ third ∷ kinds) =
         → performed
         (cond f (cond b (cond d (changes.Change 2 0 0) changes.NoChange) changes.NoChange) (cond g (cond b (cond d (changes.Change 2 0 0) changes.NoChange) changes.NoChange) changes.NoChange))
         (letters (top ∷ second ∷ third ∷ kinds))
-        ≡ lettered (onward (cond b (cond d (some (third ∷ kinds)) none) none) keeps-vector)
+        ≡ lettered (and-then (cond b (cond d (some (third ∷ kinds)) none) none) keeps-vector)
     by true true true e g h = rw e refl
     by true true false e true h = rw (e, h) refl
     by true true false e false h = rw (e, h) refl

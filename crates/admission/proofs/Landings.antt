@@ -13,8 +13,8 @@ use Rattle.slices.proofs.Equality.{same-refl, same-equal}
 use Rattle.labels.specs.declared.Kind.{Kind}
 use Rattle.labels.specs.declared.Element.{Element}
 use Rattle.labels.specs.declared.Element.the-variants.{NoRule, Kinds, Do, Loop, LoopIndex, JumpIfFalse}
-use Rattle.labels.specs.Elements.{after, whole-element, element}
-use Rattle.labels.specs.Labels.{letters, Open, opened, Label, label, kinds-of, loops-of, empty, next-label}
+use Rattle.labels.specs.Elements.{element-end, whole-element, element}
+use Rattle.labels.specs.Labels.{letters, Open, opened, Label, label, kinds-of, open-loops, empty, next-label}
 use Rattle.labels.specs.Faults.{here, Reached, WrongJump, Ended}
 use Rattle.labels.proofs.Comparison.{letters-equal}
 use Rattle.labels.proofs.Ways.{cond-true, cond-false, further, no-back, snoc, fits, reached-once, through}
@@ -81,7 +81,7 @@ module _ {cells nodes : List ℕ} where
       let firsts : q ≡ t = same-left q t k (subst (λ z. LoopAt cells nodes other z t) (sym outer) n) in
       cc
 
-label-by : (l k : Label) → kinds-of l ≡ kinds-of k → loops-of l ≡ loops-of k → l ≡ k
+label-by : (l k : Label) → kinds-of l ≡ kinds-of k → open-loops l ≡ open-loops k → l ≡ k
 label-by (label kinds loops) (label others more) e f = cc
 
 -- the loop stands at an element's start, behind jumps that are right
@@ -126,8 +126,8 @@ module _ (code cells nodes loops : List ℕ) (tells : (place : ℕ) → Tells co
       by false ex true ey (nothing n no-way) f = absurd (eqb-false (getD nodes place 0) 0 ex n)
       by false ex true ey (this {now = l} v a) f =
           let stacks : letters (kinds-of l) ≡ letters (kinds-of now) = sym (a .kinds) ∙ same-equal _ _ f ∙ b .kinds in
-          let opens : loops-of l ≡ loops-of now =
-          opens-same (loops-of l) (loops-of now) (a .opens) (subst (λ z. Opens cells nodes other z (loops-of now)) (sym (eqb-true (getD loops place 0) (getD loops other 0) ey)) (b .opens)) in
+          let opens : open-loops l ≡ open-loops now =
+          opens-same (open-loops l) (open-loops now) (a .opens) (subst (λ z. Opens cells nodes other z (open-loops now)) (sym (eqb-true (getD loops place 0) (getD loops other 0) ey)) (b .opens)) in
           subst (Reached code place) (label-by l now (letters-equal (kinds-of l) (kinds-of now) stacks) opens) v
 
   pub looking : Looking code 0
@@ -136,15 +136,15 @@ module _ (code cells nodes loops : List ℕ) (tells : (place : ℕ) → Tells co
   pub looked : (at : ℕ) → Looking code at → length code ≤ at → Jumps code AllRight
   looked at k end = all-right λ place j. k .right place (omega (arith, j .inside)) j
 
-  whole-found : (at next : ℕ) (e : Element) → found code at ≡ Whole e next → (element code at ≡ e) × (next ≡ after code at)
+  whole-found : (at next : ℕ) (e : Element) → found code at ≡ Whole e next → (element code at ≡ e) × (next ≡ element-end code at)
   unfolding found element
-  whole-found at next e is = by (leb (after code at) (length code)) is
+  whole-found at next e is = by (leb (element-end code at) (length code)) is
     where
-      by : (b : Bool) → cond b (Whole (whole-element code at (getD code at 0)) (after code at)) Cut ≡ Whole e next
-          → (cond b (whole-element code at (getD code at 0)) NoRule ≡ e) × (next ≡ after code at)
+      by : (b : Bool) → cond b (Whole (whole-element code at (getD code at 0)) (element-end code at)) Cut ≡ Whole e next
+          → (cond b (whole-element code at (getD code at 0)) NoRule ≡ e) × (next ≡ element-end code at)
       by true f =
           let elements : whole-element code at (getD code at 0) ≡ e = cc in
-          let places : next ≡ after code at = cc in
+          let places : next ≡ element-end code at = cc in
           (elements, places)
       by false f = absurd (let z : _≡_ {A = ℕ} 0 1 = cc in omega arith)
 
@@ -156,14 +156,14 @@ module _ (code cells nodes loops : List ℕ) (tells : (place : ℕ) → Tells co
     pub not-cut : {result : Found} → result ≡ found code at → result ≡ Cut → Jumps code (WrongAt at)
     unfolding found
     not-cut {result} e f =
-        absurd (by (leb (after code at) (length code)) (le-leb (after code at) (length code) (fits code at (k .now) (ruled .1))) (sym e ∙ f))
+        absurd (by (leb (element-end code at) (length code)) (le-leb (element-end code at) (length code) (fits code at (k .now) (ruled .1))) (sym e ∙ f))
       where
-        by : (b : Bool) → b ≡ true → cond b (Whole (whole-element code at (getD code at 0)) (after code at)) Cut ≡ Cut → ⊥
+        by : (b : Bool) → b ≡ true → cond b (Whole (whole-element code at (getD code at 0)) (element-end code at)) Cut ≡ Cut → ⊥
         by true t x = absurd (let z : _≡_ {A = ℕ} 0 1 = cc in omega arith)
         by false t x = false≢true t
 
     module _ {result : Found} {e : Element} {next : ℕ} (is : result ≡ found code at) (whole : result ≡ Whole e next) where
-      here-found : (element code at ≡ e) × (next ≡ after code at)
+      here-found : (element code at ≡ e) × (next ≡ element-end code at)
       here-found = whole-found at next e (sym is ∙ whole)
 
       behind : Reached code next (ruled .0)

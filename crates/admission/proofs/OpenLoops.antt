@@ -12,7 +12,7 @@ use Rattle.slices.specs.Same.{same}
 use Rattle.labels.specs.declared.Kind.{Kind}
 use Rattle.labels.specs.declared.Element.{Element}
 use Rattle.labels.specs.declared.Element.the-variants.{NoRule, Kinds, Do, Loop, LoopIndex, JumpIfFalse}
-use Rattle.labels.specs.Labels.{letters, Open, opened, label, onward, kinds-after, loops-after, bounded}
+use Rattle.labels.specs.Labels.{letters, Open, opened, label, and-then, kinds-after, loops-after, bounded}
 use Rattle.labels.proofs.Ways.{cond-true, cond-false}
 use Rattle.admission.specs.declared.LoopsResult.{LoopsResult}
 use Rattle.admission.specs.declared.LoopsResult.the-variants.{NoLoops, Loops}
@@ -28,7 +28,7 @@ pub data Later (cells nodes : List ℕ) (at next word : ℕ) (left : List Kind) 
 
 -- what the code's answer says of the rule
 pub data Told (cells nodes : List ℕ) (element : Element) (at next : ℕ) (left : List Kind) (loops : List Open) : LoopsResult → Type 0 where
-  cannot : onward (loops-after element next left loops) (bounded left) ≡ none → Told cells nodes element at next left loops NoLoops
+  cannot : and-then (loops-after element next left loops) (bounded left) ≡ none → Told cells nodes element at next left loops NoLoops
   can : {word : ℕ} {others : List Open} → loops-after element next left loops ≡ some others → length others ≤ 2 → Later cells nodes at next word left others
       → Told cells nodes element at next left loops (Loops word)
 
@@ -76,14 +76,14 @@ module _ (cells nodes : List ℕ) (at next node word : ℕ) (kinds left : List K
     where
       by : (b : Bool) → same (letters left) (letters first) ≡ b → Told cells nodes Loop at next left (opened inner first ∷ []) (cond b (Loops (word / 65536)) NoLoops)
       by true t = can {word = word / 65536} (cond-true _ _ _ t) (omega arith) (kept (no-loop (omega (arith, l .small))))
-      by false t = cannot (ap (λ o. onward o (bounded left)) (cond-false _ _ _ t))
+      by false t = cannot (ap (λ o. and-then o (bounded left)) (cond-false _ _ _ t))
   closing (opened inner first ∷ opened outer second ∷ []) (two-loops e l m) f =
       decided (eqb (word % 65536) 0) false _ _ (ne-eqb (word % 65536) 0 (λ z. omega (arith, l .small, l .some-place)))
       (decided _ (same (letters left) (letters first)) _ _ (compared l (omega (arith, l .small)) f) (by (same (letters left) (letters first)) refl))
     where
       by : (b : Bool) → same (letters left) (letters first) ≡ b → Told cells nodes Loop at next left (opened inner first ∷ opened outer second ∷ []) (cond b (Loops (word / 65536)) NoLoops)
       by true t = can {word = word / 65536} (cond-true _ _ _ t) (omega arith) (kept (one-loop {inner = outer} {left = second} (omega (arith, l .small)) m))
-      by false t = cannot (ap (λ o. onward o (bounded left)) (cond-false _ _ _ t))
+      by false t = cannot (ap (λ o. and-then o (bounded left)) (cond-false _ _ _ t))
 
   indexing : (loops : List Open) → Opens cells nodes at word loops → Told cells nodes LoopIndex at next left loops (word-after cells nodes LoopIndex next node word)
   unfolding word-after loops-after

@@ -14,7 +14,7 @@ use Rattle.bytecode.specs.declared.Extent.the-variants as extents
 use Rattle.bytecode.proofs.OperandRule.{by-table}
 use Rattle.labels.proofs.Ways.{cond-false}
 use Rattle.labels.proofs.Comparison.{and-right}
-use Rattle.labels.specs.Elements.{joined, after, whole-element}
+use Rattle.labels.specs.Elements.{joined, element-end, whole-element}
 use Rattle.admission.specs.Found.{found, found-extent, found-by}
 use Rattle.admission.specs.declared.elements.Found.the-variants.{Whole, Cut}
 
@@ -31,11 +31,11 @@ module _ (code : List ℕ) (at : ℕ) where
           absurd (false≢true (ap (λ x. eqb x T-GET-FIELD || eqb x T-SET-FIELD) (sym past) ∙ and-right (eqb (getD code at 0) PUSH-TASK-FIELD) _ pair))
 
   pub found-joined : joined code at ≡ true → Whole (whole-element code at (getD code at 0)) (at + 3) ≡ found code at
-  unfolding found after
+  unfolding found element-end
   found-joined pair = simp (pair, le-leb _ _ (joined-whole pair))
 
   pub found-next : {next : ℕ} → joined code at ≡ false → extent code at ≡ extents.Next next → Whole (whole-element code at (getD code at 0)) next ≡ found code at
-  unfolding found after extent
+  unfolding found element-end extent
   found-next {next} lone reach = simp lone (by (leb (behind code at) (length code)) reach)
     where
       by : (b : Bool) → cond b (extents.Next (behind code at)) extents.Cut ≡ extents.Next next
@@ -44,7 +44,7 @@ module _ (code : List ℕ) (at : ℕ) where
       by false e = absurd (let z : _≡_ {A = ℕ} 0 1 = cc in omega arith)
 
   pub found-cut : joined code at ≡ false → extent code at ≡ extents.Cut → Cut ≡ found code at
-  unfolding found after extent
+  unfolding found element-end extent
   found-cut lone reach = simp lone (by (leb (behind code at) (length code)) reach)
     where
       by : (b : Bool) → cond b (extents.Next (behind code at)) extents.Cut ≡ extents.Cut → Cut ≡ cond b (Whole (whole-element code at (getD code at 0)) (behind code at)) Cut

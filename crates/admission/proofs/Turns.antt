@@ -13,8 +13,8 @@ use Rattle.labels.specs.declared.Kind.{Kind}
 use Rattle.labels.specs.declared.Kind.the-variants.{Number, Calldata, Boolean, Text, Numbers}
 use Rattle.labels.specs.declared.Element.{Element}
 use Rattle.labels.specs.declared.Element.the-variants.{NoRule}
-use Rattle.labels.specs.Elements.{after, whole-element, element}
-use Rattle.labels.specs.Labels.{letter, letters, Open, opened, Label, label, kinds-of, loops-of, empty, onward, kinds-after, loops-after, bounded, rule, next-label}
+use Rattle.labels.specs.Elements.{element-end, whole-element, element}
+use Rattle.labels.specs.Labels.{letter, letters, Open, opened, Label, label, kinds-of, open-loops, empty, and-then, kinds-after, loops-after, bounded, rule, next-label}
 use Rattle.labels.specs.Faults.{here, on, Reached, WithoutRule}
 use Rattle.labels.proofs.Ways.{cond-true, cond-false, further, snoc, no-back, fits, through}
 use Rattle.admission.specs.declared.elements.Change.{Change}
@@ -99,7 +99,7 @@ height-is kinds left height taken low high e f =
     )
 
 -- more than 1,000 kinds are no label
-too-high : (left : List Kind) (o : Option (List Open)) → 1000 < length left → onward o (bounded left) ≡ none
+too-high : (left : List Kind) (o : Option (List Open)) → 1000 < length left → and-then o (bounded left) ≡ none
 unfolding bounded
 too-high left none many = refl
 too-high left (some loops) many = cond-false (leb (length left) 1000 && leb (length loops) 2) _ _ (ap (λ b. b && leb (length loops) 2) (lt-leb _ _ many))
@@ -110,7 +110,7 @@ fits-label left loops high few = cond-true (leb (length left) 1000 && leb (lengt
 
 -- an element's rule by its parts
 rule-by : (element : Element) (next : ℕ) (now : Label) {left : List Kind} → kinds-after element (kinds-of now) ≡ some left
-    → rule element next now ≡ onward (loops-after element next left (loops-of now)) (bounded left)
+    → rule element next now ≡ and-then (loops-after element next left (open-loops now)) (bounded left)
 unfolding rule
 rule-by element next (label kinds loops) e = rw e refl
 
@@ -144,7 +144,7 @@ module _ (cells others nodes marks loops words : List ℕ) (at free : ℕ) (same
       record {
         seen = omega (arith, same-nodes place near, n .seen);
         kinds = held place near ∙ n .kinds;
-        opens = subst (λ w. Opens others marks place w (loops-of now)) (sym (same-words place near)) (opens-held near (omega arith) (n .opens));
+        opens = subst (λ w. Opens others marks place w (open-loops now)) (sym (same-words place near)) (opens-held near (omega arith) (n .opens));
       }
 
   pub tells-held : {code : List ℕ} {place : ℕ} → place ≤ at → Tells code cells nodes loops place → Tells code others marks words place
@@ -170,7 +170,7 @@ module _ (places : ℕ) (code cells nodes loops : List ℕ) (at height free : �
   goes x = Goes places code at (x .step) (x .cells) (x .nodes) (x .loops)
 
   abbrev next : ℕ
-  next = after code at
+  next = element-end code at
 
   abbrev node : ℕ
   node = getD nodes at 0 - 1
@@ -355,21 +355,21 @@ module _ (places : ℕ) (code cells nodes loops : List ℕ) (at height free : �
   unfolding plan-change plan-loops step-plan noted-cells noted-nodes noted-node
   changed e is whole left ke taken low high spelled =
       by (ltb 1000 (height-after height taken low high)) refl (word-after cells nodes e next node (getD loops at 0))
-      (loops-told cells nodes at next node (getD loops at 0) kinds left (further code at) (omega arith) (s .noted .kinds) e (loops-of (s .now)) (s .noted .opens) ke)
+      (loops-told cells nodes at next node (getD loops at 0) kinds left (further code at) (omega arith) (s .noted .kinds) e (open-loops (s .now)) (s .noted .opens) ke)
     where
       tall : height-after height taken low high ≡ length left
       tall = height-is kinds left height taken low high (s .high) spelled
 
-      given-label : next-label code at (s .now) ≡ onward (loops-after e next left (loops-of (s .now))) (bounded left)
+      given-label : next-label code at (s .now) ≡ and-then (loops-after e next left (open-loops (s .now))) (bounded left)
       given-label = ruled e is ∙ rule-by e next (s .now) ke
 
-      by : (b : Bool) → ltb 1000 (height-after height taken low high) ≡ b → (result : LoopsResult) → Told cells nodes e at next left (loops-of (s .now)) result
+      by : (b : Bool) → ltb 1000 (height-after height taken low high) ≡ b → (result : LoopsResult) → Told cells nodes e at next left (open-loops (s .now)) result
           → goes (step-plan cells nodes loops free next (cond b plans.NoPlan (plan-loops (lowered taken cells node) low high (height-after height taken low high) result)))
-      by true t result told = stuck (given-label ∙ too-high left (loops-after e next left (loops-of (s .now))) (omega (arith, ltb-true 1000 (height-after height taken low high) t, tall)))
+      by true t result told = stuck (given-label ∙ too-high left (loops-after e next left (open-loops (s .now))) (omega (arith, ltb-true 1000 (height-after height taken low high) t, tall)))
       by false t NoLoops (cannot none-there) = stuck (given-label ∙ none-there)
       by false t (Loops word) (can {others = list} le few later) =
           let most : length left ≤ 1000 = omega (arith, ltb-false 1000 (height-after height taken low high) t, tall) in
-          (further code at, advance left list taken low high word whole (given-label ∙ ap (λ o. onward o (bounded left)) le ∙ fits-label left list most few) spelled later most)
+          (further code at, advance left list taken low high word whole (given-label ∙ ap (λ o. and-then o (bounded left)) le ∙ fits-label left list most few) spelled later most)
 
   planned : (e : Element) → element code at ≡ e → next ≤ length code → goes (step-plan cells nodes loops free next (plan cells nodes loops e at next height))
   unfolding plan plan-change step-plan

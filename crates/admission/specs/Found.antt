@@ -7,12 +7,12 @@ use lib.ListN.{length, getD}
 use Rattle.bytecode.specs.Operands.{extent-by}
 use Rattle.bytecode.specs.declared.Extent.{Extent}
 use Rattle.bytecode.specs.declared.Extent.the-variants as extents
-use Rattle.labels.specs.Elements.{joined, after, whole-element}
+use Rattle.labels.specs.Elements.{joined, element-end, whole-element}
 use Rattle.admission.specs.declared.elements.Found.{Found}
 use Rattle.admission.specs.declared.elements.Found.the-variants.{Whole, Cut}
 
 unfoldable pub found : List ℕ → ℕ → Found
-found code at = cond (leb (after code at) (length code)) (Whole (whole-element code at (getD code at 0)) (after code at)) Cut
+found code at = cond (leb (element-end code at) (length code)) (Whole (whole-element code at (getD code at 0)) (element-end code at)) Cut
 
 -- the same by how far the instruction reaches, and by a table of operand sizes
 unfoldable pub found-extent : List ℕ → ℕ → Extent → Found

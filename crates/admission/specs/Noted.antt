@@ -4,7 +4,7 @@ use mathlib.Core.Path.{_≡_}
 use mathlib.Core.List.{List, [], _∷_}
 use lib.ListN.{length, getD}
 use Rattle.labels.specs.declared.Kind.{Kind}
-use Rattle.labels.specs.Labels.{letters, Open, opened, Label, kinds-of, loops-of}
+use Rattle.labels.specs.Labels.{letters, Open, opened, Label, kinds-of, open-loops}
 use Rattle.labels.specs.Faults.{Reached, WithoutRule, WrongJump, Ended}
 use Rattle.admission.specs.declared.SweepResult.{SweepResult}
 use Rattle.admission.specs.declared.SweepResult.the-variants.{StuckAt, EndedWith}
@@ -30,7 +30,7 @@ pub data Opens (cells nodes : List ℕ) (at word : ℕ) : List Open → Type 0 w
 pub record Noted (cells nodes loops : List ℕ) (at : ℕ) (now : Label) : Type 0 where
   pub seen : 1 ≤ getD nodes at 0
   pub kinds : stacked cells (getD nodes at 0 - 1) ≡ letters (kinds-of now)
-  pub opens : Opens cells nodes at (getD loops at 0) (loops-of now)
+  pub opens : Opens cells nodes at (getD loops at 0) (open-loops now)
 
 -- they hold the label that the rules lead to at a place, or nothing where no element starts
 pub data Tells (code cells nodes loops : List ℕ) (at : ℕ) : Type 0 where

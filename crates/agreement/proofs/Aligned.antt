@@ -14,7 +14,7 @@ use Rattle.bytecode.specs.Opcodes.{PUSH-U32, PUSH-STATE, PUSH-CALLDATA, PUSH-TA
 use Rattle.bytecode.specs.Operands.{big-endian}
 use Rattle.slices.specs.Same.{same}
 use Rattle.utf8.specs.Utf8.{valid}
-use Rattle.memory.specs.Change.{little-endian}
+use Rattle.slices.specs.Numbers.{little-endian}
 use Rattle.values.specs.Values.{is-vec, is-qnan, is-u32-val, to-u32, raw-tag, fat-pointer, make-scalar-tagged, make-vec-tagged, to-u32-val, to-bool-val, bool-not}
 use Rattle.values.specs.declared.FatPointer.{FatPointer}
 use Rattle.values.proofs.Laws.{vec-tag-back, pointer-back, bool-turned}

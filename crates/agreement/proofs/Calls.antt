@@ -10,7 +10,7 @@ use lib.ListN.{length, getD}
 use borrow.Author.Tests.{lt-ltb}
 use Rattle.errors.specs.declared.Refusal.{Refusal}
 use Rattle.errors.specs.declared.Refusal.the-variants as refusal
-use Rattle.image.specs.Numbers.{Bytes}
+use Rattle.slices.specs.Numbers.{Bytes}
 use Rattle.inlinevec.specs.Stacks.{values-of}
 use Rattle.inlinevec.specs.declared.Frame.{Frame}
 use Rattle.pools.proofs.Laws.{length-entries}
@@ -24,7 +24,7 @@ use Rattle.machine.specs.declared.Outcome.{Outcome}
 use Rattle.machine.specs.declared.Outcome.the-variants as outcome
 use Rattle.machine.specs.World.{World, place, memory-in-use, with-machine}
 use Rattle.machine.specs.Run.{End, run}
-use Rattle.machine.specs.Calls.{may-start, may-continue, fresh, allowed, ended, report, Reported, at-end, call-with, call, start, go-on}
+use Rattle.machine.specs.Calls.{may-start, may-continue, fresh, allowed, ended, report, Reported, reported-end, call-with, call, start, go-on}
 use Rattle.machine.specs.declared.Verb.the-variants.{Start, Continue}
 use Rattle.machine.specs.Reads.{is-done, readable, value-at, value-read}
 use Rattle.machine.specs.History.{runs, world-after}
@@ -100,13 +100,13 @@ rests-done w =
 done-is : (stale : ℕ) (w : World) → finished (view stale w) ≡ returned (values-of (w .machine .height) (w .stack)) (at-rest (with-machine w (ended (w .machine) outcome.Done)))
 done-is stale w = finished-is stale w ∙ ap (returned (values-of (w .machine .height) (w .stack))) (sym (rests-done w))
 
-leaves-by : (w : World) (outcome : Outcome) (fuel left : ℕ) → Sound w → Bytes (w .pool) → Leaves (at-end fuel (record { world = w; left = left; outcome = outcome }))
+leaves-by : (w : World) (outcome : Outcome) (fuel left : ℕ) → Sound w → Bytes (w .pool) → Leaves (reported-end fuel (record { world = w; left = left; outcome = outcome }))
 unfolding report ended phase-by rewound placed settled
 leaves-by w outcome.Done fuel left s bytes = record { is-sound = ended-sound w outcome.Done s; bytes = bytes; phase = refl }
 leaves-by w outcome.Paused fuel left s bytes = record { is-sound = ended-sound w outcome.Paused s; bytes = bytes; phase = refl }
 leaves-by w (outcome.Refused number) fuel left s bytes = record { is-sound = ended-sound w (outcome.Refused number) s; bytes = bytes; phase = refl }
 
-told : (fuel : ℕ) (e : End) (ran : Ran) → Same e ran → Told (at-end fuel e) ran
+told : (fuel : ℕ) (e : End) (ran : Ran) → Same e ran → Told (reported-end fuel e) ran
 unfolding report ended view rewound placed
 told fuel _ _ (same.both-end stale w left s bytes) = rw (done-is stale w) (told-end refl (leaves-by w outcome.Done fuel left s bytes))
 told fuel _ _ (same.both-pause stale w s bytes) = told-pause stale refl (leaves-by w outcome.Paused fuel 0 s bytes)
@@ -189,11 +189,11 @@ begun-sound : (w : World) → Sound w → Sound (begun w)
 unfolding allowed
 begun-sound w s = allowed-sound w true Start s
 
-start-is : (fuel : ℕ) (w : World) → Ready w → start fuel w ≡ at-end fuel (run fuel (begun w))
+start-is : (fuel : ℕ) (w : World) → Ready w → start fuel w ≡ reported-end fuel (run fuel (begun w))
 unfolding call call-with allowed
 start-is fuel w ready = rw (ready .is-sound .tested, ready .phase)
 
-go-on-is : (fuel : ℕ) (w : World) → Sound w → may-continue (w .machine .phase) ≡ true → go-on fuel w ≡ at-end fuel (run fuel w)
+go-on-is : (fuel : ℕ) (w : World) → Sound w → may-continue (w .machine .phase) ≡ true → go-on fuel w ≡ reported-end fuel (run fuel w)
 unfolding call call-with allowed
 go-on-is fuel w s may = rw (s .tested, may)
 

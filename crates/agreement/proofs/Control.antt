@@ -12,7 +12,7 @@ use Rattle.bytecode.specs.Operands.{big-endian}
 use Rattle.bytecode.specs.declared.Extent.{Extent}
 use Rattle.bytecode.specs.declared.Extent.the-variants as extents
 use Rattle.errors.specs.declared.Refusal.the-variants as refusal
-use Rattle.image.specs.Numbers.{Bytes}
+use Rattle.slices.specs.Numbers.{Bytes}
 use Rattle.inlinevec.specs.Stacks.{if-room, if-some, pop, values-of, Two, two-of, push-two, pop-two, last-two, of-loops, to-loops, loops-of, push-loop, pop-loop, last-loop}
 use Rattle.inlinevec.specs.declared.Loop.{Loop}
 use Rattle.inlinevec.specs.declared.Loops.{Loops}

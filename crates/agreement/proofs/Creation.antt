@@ -11,11 +11,11 @@ use lib.Seq.{sets, length-sets, getD-set-other}
 use borrow.Author.Tests.{le-leb, eq-eqb, ne-eqb}
 use Rattle.errors.specs.declared.Refusal.{Refusal}
 use Rattle.errors.specs.declared.Refusal.the-variants.{PoolFull}
-use Rattle.image.specs.Numbers.{Bytes}
+use Rattle.slices.specs.Numbers.{Bytes}
 use Rattle.image.proofs.Endian.{bytes-drop}
 use Rattle.image.specs.Image as image
 use Rattle.image.specs.Image.{ImageTask, Image, Fine, Rising, sound, read-image}
-use Rattle.image.specs.Reading.{s-len, instruction-bytes}
+use Rattle.image.specs.Reading.{s-len-of, instruction-bytes}
 use Rattle.image.specs.Walking.{read-record}
 use Rattle.image.specs.Slots.{loaded-task}
 use Rattle.image.specs.Table.{Loading, load-slot, load-tasks, next-reference}
@@ -56,9 +56,9 @@ use Rattle.rust.specs.TaskTypes.{TaskVM}
 use Rattle.rust.specs.Storage as storage
 use Rattle.rust.specs.Vm.{VM, at}
 use Rattle.rust.specs.Run.{init}
-use Rattle.agreement.specs.View.{callers, held, task-of, storage-of, view}
+use Rattle.agreement.specs.View.{callers, held, task-in-slot, storage-of, view}
 use Rattle.agreement.specs.Runs.{at-rest}
-use Rattle.agreement.specs.Agreement.{total}
+use Rattle.agreement.specs.Agreement.{total-length}
 use Rattle.agreement.specs.Creation as rust
 use Rattle.agreement.specs.Creation.{Creations, both-refuse, too-long, no-room, both-make}
 use Rattle.agreement.proofs.Store.{bytes-taken}
@@ -95,7 +95,7 @@ loaded-id task entries = refl
 
 -- what is shown of a loading, up to a count
 abbrev shown-tasks : ℕ → Loading → List (Option TaskVM)
-shown-tasks count l = take count (map task-of (l .table))
+shown-tasks count l = take count (map task-in-slot (l .table))
 
 abbrev shown-pool : Loading → List (List ℕ)
 shown-pool l = entries-of (l .pool) (l .ends) (l .entries)
@@ -106,18 +106,18 @@ record Blank (count : ℕ) (l : Loading) : Type 0 where
   empty : (i : ℕ) → count ≤ i → getD (l .table) i blank ≡ blank
 
 blank-beyond : (count : ℕ) (l : Loading) → count ≤ 256 → Blank count l → Beyond (l .table) count
-blank-beyond count l few b = record { long = b .long; few = few; none-there = λ i past. ap task-of (b .empty i past) ∙ blank-none }
+blank-beyond count l few b = record { long = b .long; few = few; none-there = λ i past. ap task-in-slot (b .empty i past) ∙ blank-none }
 
 bytes-of-more : (task : ImageTask) (tasks : List ImageTask) → instruction-bytes (task ∷ tasks) ≡ length (task .instructions) + instruction-bytes tasks
 unfolding instruction-bytes
 bytes-of-more task tasks = refl
 
-len-of-more : (task : ImageTask) (tasks : List ImageTask) → s-len (task ∷ tasks) ≡ max (task .id + 1) (s-len tasks)
-unfolding s-len
+len-of-more : (task : ImageTask) (tasks : List ImageTask) → s-len-of (task ∷ tasks) ≡ max (task .id + 1) (s-len-of tasks)
+unfolding s-len-of
 len-of-more task tasks = refl
 
-len-of-none : s-len [] ≡ 0
-unfolding s-len
+len-of-none : s-len-of [] ≡ 0
+unfolding s-len-of
 len-of-none = refl
 
 load-more : (task : ImageTask) (tasks : List ImageTask) (l : Loading) → load-tasks (task ∷ tasks) l ≡ load-tasks tasks (load-slot (loaded-task task (next-reference (l .entries))) (task .instructions) l)
@@ -137,7 +137,7 @@ module _ {B : Type 0} (onward : List (Option TaskVM) → List (List ℕ) → Out
       let slot = loaded-task task (next-reference (l .entries)) in
       let table-is : s .table ≡ set (l .table) (task .id) slot = t .slots ∙ ap (λ (k : ℕ). set (l .table) k slot) (loaded-id task (l .entries)) in
       let tasks-are : shown-tasks (task .id + 1) s ≡ storage.put (shown-tasks count l) (task .id) (held slot) =
-      ap (λ (x : List Task). take (task .id + 1) (map task-of x)) table-is
+      ap (λ (x : List Task). take (task .id + 1) (map task-in-slot x)) table-is
       ∙ more-in (l .table) count (blank-beyond count l (omega (arith, fine .rising, fine .below)) b) (task .id) slot (loaded-living task (l .entries)) (omega (arith, fine .rising)) (omega (arith, fine .below)) in
       rw (length-entries (l .pool) (l .ends) (l .entries), one-more l s slot (task .instructions) t, tasks-are, loaded-held task (l .entries) (fine .short) entries)
 
@@ -152,7 +152,7 @@ module _ {B : Type 0} (onward : List (Option TaskVM) → List (List ℕ) → Out
 
   -- the Rust's loop of load, and ours
   loads : {next-id low : ℕ} {tasks : List ImageTask} → Rising next-id low tasks → (l : Loading) (count : ℕ) → next-id ≤ 256 → count ≤ low → Blank count l → Pool l → Room l tasks
-      → storage.from-tasks (map rust.stored-task tasks) (shown-tasks count l) (shown-pool l) onward ≡ onward (shown-tasks (max count (s-len tasks)) (load-tasks tasks l)) (shown-pool (load-tasks tasks l))
+      → storage.from-tasks (map rust.stored-task tasks) (shown-tasks count l) (shown-pool l) onward ≡ onward (shown-tasks (max count (s-len-of tasks)) (load-tasks tasks l)) (shown-pool (load-tasks tasks l))
   unfolding storage.from-tasks
   loads image.none l count few before b p room = let z : max count 0 ≡ count = omega arith in rw (load-none l, len-of-none, z)
   loads {next-id} {low} (image.more {task = task} {tasks = tasks} fine r) l count few before b p room =
@@ -160,7 +160,7 @@ module _ {B : Type 0} (onward : List (Option TaskVM) → List (List ℕ) → Out
       let slot = loaded-task task (next-reference (l .entries)) in
       let t = stored l slot (task .instructions) p (omega (arith, room .few)) (omega (arith, room .small)) in
       let s = load-slot slot (task .instructions) l in
-      let z : max count (max (task .id + 1) (s-len tasks)) ≡ max (task .id + 1) (s-len tasks) = omega (arith, fine .rising) in
+      let z : max count (max (task .id + 1) (s-len-of tasks)) ≡ max (task .id + 1) (s-len-of tasks) = omega (arith, fine .rising) in
       load-one task l s count fine few before (omega (arith, room .few)) b t tasks
       ∙ loads r s (task .id + 1) few (omega arith) (slots-blank task l s count (omega (arith, fine .rising)) b t) (t .still) (record { few = omega (arith, room .few, t .one-more); small = omega (arith, room .small, t .bytes-more, t .same-pool) })
       ∙ rw (load-more task tasks l, len-of-more task tasks, z)
@@ -276,7 +276,7 @@ module _ (table : List Task) (pool ends bytes program : List ℕ) (next-id count
       → storage.from-tasks (map rust.stored-task (found .tasks)) [] (program ∷ []) onward ≡ onward (shown-tasks len whole) (shown-pool whole)
   from-tasks-is onward =
       let o = orders bytes found all (f .image .read) in
-      let z : max 0 (s-len (found .tasks)) ≡ len = omega (arith, f .image .s-len-is) in
+      let z : max 0 (s-len-of (found .tasks)) ≡ len = omega (arith, f .image .s-len-is) in
       ap (λ (x : List (List ℕ)). storage.from-tasks (map rust.stored-task (found .tasks)) [] x onward) (sym first-entry)
       ∙ loads onward (o .tasks) first 0 (o .few) (omega arith) first-blank first-pool first-room-for
       ∙ rw (z, ← whole-is)
@@ -354,7 +354,7 @@ ok-is e = cc
 
 -- the Rust's loop of load never errs, and interns the bytes of all instructions
 interns-all : {B : Type 0} (onward : List (Option TaskVM) → List (List ℕ) → Out B) (tasks : List ImageTask) (before : List (Option TaskVM)) (entries : List (List ℕ))
-    → (after : List (Option TaskVM)) × (new : List (List ℕ)) × (storage.from-tasks (map rust.stored-task tasks) before entries onward ≡ onward after new) × (total new ≡ total entries + instruction-bytes tasks)
+    → (after : List (Option TaskVM)) × (new : List (List ℕ)) × (storage.from-tasks (map rust.stored-task tasks) before entries onward ≡ onward after new) × (total-length new ≡ total-length entries + instruction-bytes tasks)
 unfolding storage.from-tasks instructions.intern-instructions instruction-bytes
 interns-all onward [] before entries = (before, entries, refl, omega arith)
 interns-all onward (task ∷ tasks) before entries =
@@ -376,8 +376,8 @@ new-vm next-id tasks entries = record {
 }
 
 -- a program that is not empty goes on in the Rust, with the bytes of program and instructions in its pool
-init-goes-on : (program : List ℕ) (found : Image) → 1 ≤ length program → (vm : VM) × (init program (rust.stored found) ≡ ok vm) × (total (vm .instructions-pool) ≡ pool-bytes program found)
-unfolding init storage.load instructions.intern-instructions inlinevec.push total
+init-goes-on : (program : List ℕ) (found : Image) → 1 ≤ length program → (vm : VM) × (init program (rust.stored found) ≡ ok vm) × (total-length (vm .instructions-pool) ≡ pool-bytes program found)
+unfolding init storage.load instructions.intern-instructions inlinevec.push total-length
 init-goes-on program found not-empty =
     let all = interns-all (λ tasks entries. ok (new-vm (found .next-id) tasks entries)) (found .tasks) [] (program ∷ []) in
     (new-vm (found .next-id) (all .0) (all .1), rw (ne-eqb (length program) 0 (λ (z : length program ≡ 0). omega (arith, not-empty))) (all .2), (let q = all .3 in omega (arith, q)))
@@ -399,7 +399,7 @@ module _ (table : List Task) (pool ends image program : List ℕ) (lent : length
   refused-alike _ e (not-creatable.no-room other is not-empty short is-sound past) =
       let goes = init-goes-on program found (omega (arith, not-empty)) in
       let same : pool-bytes program other ≡ pool-bytes program found = ap (pool-bytes program) (sound-is (sym is-sound ∙ read)) in
-      let over : min 65536 (length pool) < total (goes .0 .instructions-pool) = (let q = goes .2 in omega (arith, q, same, past)) in
+      let over : min 65536 (length pool) < total-length (goes .0 .instructions-pool) = (let q = goes .2 in omega (arith, q, same, past)) in
       rw (goes .1) (no-room e over)
 
   shown-alike : (machine : Machine) → creation .answer ≡ Created machine → (stack memory save : List ℕ) → init program (rust.stored found) ≡ ok (at-rest (new-world machine creation stack memory save))

@@ -4,7 +4,7 @@ use mathlib.Core.Bool.{true, false}
 use mathlib.Core.Path.{_≡_, refl, sym, ap, subst, _∙_}
 use mathlib.Core.List.{List, []}
 use native.Mathlib.Omega.{arith}
-use Rattle.image.specs.Numbers.{Bytes}
+use Rattle.slices.specs.Numbers.{Bytes}
 use Rattle.image.specs.Image.{Image, sound, read-image}
 use Rattle.pools.specs.declared.InternResult.{InternResult}
 use Rattle.pools.specs.declared.InternResult.the-variants.{Interned, NotInterned}
@@ -29,7 +29,7 @@ use Rattle.agreement.specs.View.{view}
 use Rattle.agreement.specs.Reads.{TaskReads}
 use Rattle.agreement.specs.Runs.{rust-call, rust-takes, rust-history, at-rest, ReadAlike, Answers}
 use Rattle.agreement.specs.Creation.{stored}
-use Rattle.agreement.specs.Demand.{lent-pool, Beginning, Ends, it-returns, it-fails, meets-added, NoneMet, SameMachine, SameValues, Equal, same-end, same-refusal, MachineOf, it-rests, in-a-run, before-failing}
+use Rattle.agreement.specs.Demand.{lent-pool, Beginning, RustEnds, it-returns, it-fails, meets-added, NoneMet, SameMachine, SameValues, Equal, same-end, same-refusal, MachineOf, it-rests, in-a-run, before-failing}
 use Rattle.agreement.proofs.Aligned.{empty, Given, given}
 use Rattle.agreement.proofs.Calls.{Told, told-end, told-err, told-met, done-if-any, read-alike, answers}
 use Rattle.agreement.proofs.Histories.{Related, both-rest, both-run, it-failed, is-met, told-call, given-call, refused-call, sound-related, history-related}
@@ -86,7 +86,7 @@ machine-same {w} (it-failed stale s phase is) before-failing = subst (λ (v : VM
 values-same : {w : World} {values : List ℕ} {vm : VM} → Related w (returned values vm) → SameValues w values vm
 values-same {w} (both-rest ready done lined values-are is) = record { same = values-are; read-alike = subst (λ (v : VM). ReadAlike w v) is (read-alike w (ready .is-sound) done lined) }
 
-equal : {r : Reported} {ran : Ran} → Told r ran → Given ran → meets-added (r .report .outcome) ≡ false → Ends ran → Equal r ran
+equal : {r : Reported} {ran : Ran} → Told r ran → Given ran → meets-added (r .report .outcome) ≡ false → RustEnds ran → Equal r ran
 unfolding view
 equal {r} (told-end e leaves) (given _ _ lined) none-met it-returns =
     same-end e (record { same = refl; read-alike = read-alike (world-after r) (leaves .is-sound) (done-if-any r e leaves) lined }) (same.same-machine (world-after r) (leaves .is-sound) (at-rest (world-after r)) refl refl refl)
@@ -122,7 +122,7 @@ module _ {program image : List ℕ} {first : World} {vm : VM} (both : Beginning 
   call-answers verb fuel takes = answers (told-call verb fuel related takes) (given-call verb fuel related takes)
 
   -- demand 2: values, tasks, memory and refusals equal the Rust's wherever the Rust ends without a panic and no added capacity is met
-  pub demand-2 : (verb : Verb) (fuel : ℕ) → rust-takes verb rust-later ≡ true → meets-added (call verb fuel later .report .outcome) ≡ false → Ends (rust-call verb fuel rust-later)
+  pub demand-2 : (verb : Verb) (fuel : ℕ) → rust-takes verb rust-later ≡ true → meets-added (call verb fuel later .report .outcome) ≡ false → RustEnds (rust-call verb fuel rust-later)
       → Equal (call verb fuel later) (rust-call verb fuel rust-later)
   demand-2 verb fuel takes not-met ends = equal (told-call verb fuel related takes) (given-call verb fuel related takes) not-met ends
 

@@ -8,7 +8,7 @@ use lib.Dec.{eqb}
 use lib.ListN.{length, getD, take}
 use lib.Seq.{length-take-le}
 use borrow.Author.Tests.{le-leb}
-use Rattle.image.specs.Numbers.{Bytes}
+use Rattle.slices.specs.Numbers.{Bytes}
 use Rattle.inlinevec.specs.Stacks.{values-of}
 use Rattle.values.specs.Values.{is-vec, raw-tag, fat-pointer, to-fat-pointer, bool-not, value-eq, turned}
 use Rattle.values.specs.declared.FatPointer.{FatPointer}

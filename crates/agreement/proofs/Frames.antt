@@ -12,8 +12,8 @@ use borrow.Author.Tests.{ltb-true, ltb-false, leb-true, leb-false, lt-ltb, le-le
 use Rattle.bytecode.specs.Opcodes.{PUSH-CALLDATA, CALL}
 use Rattle.bytecode.specs.Operands.{big-endian}
 use Rattle.errors.specs.declared.Refusal.the-variants as refusal
-use Rattle.image.specs.Numbers as numbers
-use Rattle.image.specs.Numbers.{Bytes}
+use Rattle.slices.specs.Numbers as numbers
+use Rattle.slices.specs.Numbers.{Bytes}
 use Rattle.image.proofs.Endian.{bytes-drop}
 use Rattle.inlinevec.specs.Stacks.{if-room, if-some, pop, values-of, last-two, push-two, pop-two, change-two, of-frames, to-frames, push-frame, pop-frame}
 use Rattle.inlinevec.specs.declared.Frames.{Frames}
@@ -51,8 +51,8 @@ use Rattle.rust.specs.TaskTypes.{TaskVM}
 use Rattle.rust.specs.Storage as rust-storage
 use Rattle.rust.specs.Vm as rust
 use Rattle.rust.specs.Vm.{VM, at, with-instructions-pool, with-call-stack, in-frame, last-pc}
-use Rattle.agreement.specs.View.{frame-of, callers, held, task-of, storage-of, view}
-use Rattle.agreement.specs.Agreement.{Agree, lacks, errs, panics, Over, many-entries, many-bytes, total}
+use Rattle.agreement.specs.View.{frame-of, callers, held, task-in-slot, storage-of, view}
+use Rattle.agreement.specs.Agreement.{Agree, lacks, errs, panics, Over, many-entries, many-bytes, total-length}
 use Rattle.agreement.proofs.Facts.{Facts}
 use Rattle.agreement.proofs.Laws.{goes-by, like, fails, one-off}
 use Rattle.agreement.proofs.Views.{current-is, callers-are, view-settled}
@@ -72,15 +72,15 @@ pub bytes-sets : {l new : List ℕ} (i : ℕ) → Bytes l → Bytes new → Byte
 bytes-sets i all numbers.none = all
 bytes-sets i all (numbers.byte {b} less more) = bytes-sets (suc i) (bytes-set i b all less) more
 
-pub total-more : (entries : List (List ℕ)) (entry : List ℕ) → total (entries ++ (entry ∷ [])) ≡ total entries + length entry
-unfolding total
+pub total-more : (entries : List (List ℕ)) (entry : List ℕ) → total-length (entries ++ (entry ∷ [])) ≡ total-length entries + length entry
+unfolding total-length
 total-more [] entry = omega arith
 total-more (first ∷ entries) entry = let z = total-more entries entry in omega arith
 
 -- the entries' bytes are the bytes in use
 total-upto : (pool ends : List ℕ) (bytes entries : ℕ) → end-to-end ends bytes entries ≡ true → bytes ≤ length pool → (n : ℕ) → n ≤ entries
-    → total (entries-of pool ends n) ≡ start-of ends n
-unfolding total entries-of start-of
+    → total-length (entries-of pool ends n) ≡ start-of ends n
+unfolding total-length entries-of start-of
 total-upto pool ends bytes entries sound lent zero few = refl
 total-upto pool ends bytes entries sound lent (suc n) few =
     let ih = total-upto pool ends bytes entries sound lent n (omega arith) in
@@ -109,7 +109,7 @@ module _ (w : World) (stale : ℕ) (h : Facts w) (bytes : Bytes (w .pool)) where
   pub entries-length : length entries ≡ m .entries
   entries-length = length-entries (w .pool) (w .ends) (m .entries)
 
-  total-is : total entries ≡ m .pool
+  total-is : total-length entries ≡ m .pool
   total-is =
       total-upto (w .pool) (w .ends) (m .pool) (m .entries) (h .ends) (h .pool) (m .entries) (omega arith) ∙ stands (w .ends) (m .pool) (m .entries) (h .ends) .last
 
@@ -164,7 +164,7 @@ module _ (w : World) (stale : ℕ) (h : Facts w) (bytes : Bytes (w .pool)) where
   pool-over : (vm : VM) → (few enough : Bool) → ltb (m .entries) 1024 ≡ few → leb (m .pool + length calldata) (min 65536 (length (w .pool))) ≡ enough → (few && enough) ≡ false
       → Over w refusal.PoolFull (with-instructions-pool vm (entries ++ (calldata ∷ [])))
   pool-over vm true enough a b fails =
-      let over : min 65536 (length (w .pool)) < total (entries ++ (calldata ∷ [])) = rw (total-more entries calldata, total-is) (leb-false _ _ (b ∙ fails)) in
+      let over : min 65536 (length (w .pool)) < total-length (entries ++ (calldata ∷ [])) = rw (total-more entries calldata, total-is) (leb-false _ _ (b ∙ fails)) in
       many-bytes over
   pool-over vm false enough a b fails =
       let over : 1024 < length (entries ++ (calldata ∷ [])) = rw (length-append entries (calldata ∷ []), entries-length) (let z : 1024 ≤ m .entries = ltb-false _ _ a in omega arith) in
@@ -278,12 +278,12 @@ module _ (w : World) (stale : ℕ) (h : Facts w) (bytes : Bytes (w .pool)) where
   -- a missing task does nothing
   call-there : (to height slot : ℕ) (task : Task)
       → Agree w (went-as slot task (cond (task .living) (enter (w .ends) (machine-at m to height) (task .«instructions_ref»)) (Onto (machine-at m to height))))
-      (rust-storage.if-some (task-of task) (λ new. rust.enters to (caller to height) new) (ok (at (view stale w) to (values-of height (w .stack)))))
+      (rust-storage.if-some (task-in-slot task) (λ new. rust.enters to (caller to height) new) (ok (at (view stale w) to (values-of height (w .stack)))))
   call-there to height slot task = by (task .living) refl
     where
       by : (b : Bool) → task .living ≡ b
           → Agree w (went-as slot task (cond b (enter (w .ends) (machine-at m to height) (task .«instructions_ref»)) (Onto (machine-at m to height))))
-          (rust-storage.if-some (task-of task) (λ new. rust.enters to (caller to height) new) (ok (at (view stale w) to (values-of height (w .stack)))))
+          (rust-storage.if-some (task-in-slot task) (λ new. rust.enters to (caller to height) new) (ok (at (view stale w) to (values-of height (w .stack)))))
       by true e = rw (a-task task e) (enters-agree to height slot task (held task) refl)
       by false e = rw (no-task task e) (stays to height slot task)
 

@@ -4,7 +4,7 @@ use mathlib.Core.Bool.{Bool, true, false, true≢false}
 use mathlib.Core.Path.{_≡_, refl, sym, ap, subst, _∙_}
 use mathlib.Core.List.{List, [], _∷_}
 use Rattle.errors.specs.declared.Refusal.{Refusal}
-use Rattle.image.specs.Numbers.{Bytes}
+use Rattle.slices.specs.Numbers.{Bytes}
 use Rattle.image.specs.declared.SaveResult.{SaveResult}
 use Rattle.image.specs.declared.SaveResult.the-variants.{Saved, NotSaved}
 use Rattle.inlinevec.specs.Stacks.{values-of}

@@ -8,7 +8,7 @@ use lib.ListN.{getD}
 use borrow.Author.Tests.{le-leb, ne-eqb}
 use Rattle.errors.specs.declared.Refusal.{Refusal}
 use Rattle.errors.specs.declared.Refusal.the-variants as refusal
-use Rattle.image.specs.Numbers.{Bytes}
+use Rattle.slices.specs.Numbers.{Bytes}
 use Rattle.inlinevec.specs.Stacks.{if-some, pop, last, values-of}
 use Rattle.inlinevec.specs.declared.PopResult.{PopResult}
 use Rattle.inlinevec.specs.declared.PopResult.the-variants.{Popped, NotPopped}

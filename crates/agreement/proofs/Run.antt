@@ -7,7 +7,7 @@ use lib.ListN.{length}
 use borrow.Author.Tests.{leb-true, leb-false, lt-ltb, le-ltb}
 use Rattle.errors.specs.declared.Refusal.{Refusal}
 use Rattle.errors.specs.declared.Refusal.the-variants as refusal
-use Rattle.image.specs.Numbers.{Bytes}
+use Rattle.slices.specs.Numbers.{Bytes}
 use Rattle.pools.proofs.Laws.{getD-entries}
 use Rattle.machine.specs.Machines.{current, code-of}
 use Rattle.machine.specs.declared.Outcome.the-variants as outcome

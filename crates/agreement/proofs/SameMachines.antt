@@ -27,7 +27,7 @@ use Rattle.rust.specs.TaskTypes.{to-task}
 use Rattle.rust.specs.Storage as storage
 use Rattle.rust.specs.Vm.{VM}
 use Rattle.rust.specs.Unbox.{print-task}
-use Rattle.agreement.specs.View.{task-of, storage-of}
+use Rattle.agreement.specs.View.{task-in-slot, storage-of}
 use Rattle.agreement.specs.Reads.{TaskReads, readable, no-task, no-entry, no-text}
 use Rattle.agreement.specs.Demand.{instructions-in, instructions-of, rust-instructions-in, rust-instructions-of, SameMachine}
 use Rattle.agreement.proofs.Facts.{Facts, facts}
@@ -38,16 +38,16 @@ module _ (w : World) (h : Facts w) where
   all = entries-of (w .pool) (w .ends) (w .machine .entries)
 
   -- the task of an id in what is shown
-  task-shown : (id : ℕ) → storage.get (storage-of (w .machine .«next_id» .0) (w .machine .count) (w .table)) id ≡ task-of (getD (w .table) id blank)
+  task-shown : (id : ℕ) → storage.get (storage-of (w .machine .«next_id» .0) (w .machine .count) (w .table)) id ≡ task-in-slot (getD (w .table) id blank)
   unfolding storage.get storage-of
   task-shown id = slots.get-is w h id
 
-  instructions-shown : (slot : Task) → instructions-in (w .pool) (w .ends) (w .machine .entries) slot ≡ rust-instructions-in all (task-of slot)
+  instructions-shown : (slot : Task) → instructions-in (w .pool) (w .ends) (w .machine .entries) slot ≡ rust-instructions-in all (task-in-slot slot)
   unfolding instructions-in rust-instructions-in
   instructions-shown slot = by (slot .living) (ltb (slot .«instructions_ref» .0) (w .machine .entries)) refl refl
     where
       by : (living names : Bool) → slot .living ≡ living → ltb (slot .«instructions_ref» .0) (w .machine .entries) ≡ names
-          → instructions-in (w .pool) (w .ends) (w .machine .entries) slot ≡ rust-instructions-in all (task-of slot)
+          → instructions-in (w .pool) (w .ends) (w .machine .entries) slot ≡ rust-instructions-in all (task-in-slot slot)
       by true true l n =
           rw (slots.a-task slot l, l, length-entries (w .pool) (w .ends) (w .machine .entries), n)
           (ap some (sym (getD-entries (w .pool) (w .ends) (w .machine .entries) (slot .«instructions_ref» .0) (ltb-true _ _ n))))
@@ -64,12 +64,12 @@ module _ (w : World) (h : Facts w) where
 
   -- 9, then 12, then 15, in both
   read-shown : (id : TaskId) (slot : Task)
-      → TaskReads (w .pool) (w .ends) (task-as (if-found (w .ends) (w .machine) slot (find slot id)) slot) (storage.if-some (task-of slot) (λ task. to-task task all ok) (err (TaskNotFound (id .0))))
+      → TaskReads (w .pool) (w .ends) (task-as (if-found (w .ends) (w .machine) slot (find slot id)) slot) (storage.if-some (task-in-slot slot) (λ task. to-task task all ok) (err (TaskNotFound (id .0))))
   unfolding if-found readable-unless task-refusal refusal-by to-task instructions.get
   read-shown id slot = by (slot .living) (ltb (slot .«instructions_ref» .0) (w .machine .entries)) (valid (title-in slot)) refl refl refl
     where
       by : (living names text : Bool) → slot .living ≡ living → ltb (slot .«instructions_ref» .0) (w .machine .entries) ≡ names → valid (title-in slot) ≡ text
-          → TaskReads (w .pool) (w .ends) (task-as (if-found (w .ends) (w .machine) slot (find slot id)) slot) (storage.if-some (task-of slot) (λ task. to-task task all ok) (err (TaskNotFound (id .0))))
+          → TaskReads (w .pool) (w .ends) (task-as (if-found (w .ends) (w .machine) slot (find slot id)) slot) (storage.if-some (task-in-slot slot) (λ task. to-task task all ok) (err (TaskNotFound (id .0))))
       by true true true l n t =
           rw (
             slots.a-task slot l,

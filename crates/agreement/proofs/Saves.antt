@@ -12,8 +12,8 @@ use lib.ListN.{length, getD, take, drop, length-append, drop-of-length-le}
 use lib.Seq.{drop-cons}
 use borrow.Author.Tests.{ltb-true, ltb-false, leb-false}
 use Rattle.utf8.specs.Utf8.{valid}
-use Rattle.image.specs.Numbers.{Bytes}
-use Rattle.image.specs.Image.{framed, body, records, header, written}
+use Rattle.slices.specs.Numbers.{Bytes}
+use Rattle.image.specs.Image.{record-of, body, records, header, written}
 use Rattle.image.specs.Walking.{on}
 use Rattle.image.specs.Slots.{saved-task, task-in}
 use Rattle.image.specs.Writing.{size-of, sized, measure, added, measure-slot}
@@ -41,7 +41,7 @@ use Rattle.rust.specs.TaskTypes.{TaskVM, to-task}
 use Rattle.rust.specs.Storage as rust-storage
 use Rattle.rust.specs.Vm as rust
 use Rattle.rust.specs.Vm.{VM, at}
-use Rattle.agreement.specs.View.{held, task-of, storage-of, view}
+use Rattle.agreement.specs.View.{held, task-in-slot, storage-of, view}
 use Rattle.agreement.specs.Agreement.{Agree, lacks, errs, refusal-of, long-image, image-task, image-tasks}
 use Rattle.agreement.proofs.Facts.{Facts}
 use Rattle.agreement.proofs.Laws.{goes-by, same}
@@ -57,7 +57,7 @@ module _ (w : World) (stale : ℕ) (h : Facts w) (bytes : Bytes (w .pool)) where
   entries = entries-of (w .pool) (w .ends) (m .entries)
 
   abbrev tasks : List (Option TaskVM)
-  tasks = take (m .count) (map task-of (w .table))
+  tasks = take (m .count) (map task-in-slot (w .table))
 
   abbrev slot : ℕ → Task
   slot i = getD (w .table) i blank
@@ -69,19 +69,19 @@ module _ (w : World) (stale : ℕ) (h : Facts w) (bytes : Bytes (w .pool)) where
 
   -- the bytes of a list with a living task in front, and with none
   living-length : (i : ℕ) (rest : List (Option TaskVM)) → slot i .living ≡ true → slot i .«instructions_ref» .0 < m .entries
-      → length (records (image-tasks entries (task-of (slot i) ∷ rest))) ≡ length (framed 2 (body (task-in (w .pool) (w .ends) (slot i)))) + length (records (image-tasks entries rest))
+      → length (records (image-tasks entries (task-in-slot (slot i) ∷ rest))) ≡ length (record-of 2 (body (task-in (w .pool) (w .ends) (slot i)))) + length (records (image-tasks entries rest))
   unfolding records image-tasks
   living-length i rest e less =
-      rw (a-task (slot i) e, image-is (slot i) less) (length-append (framed 2 (body (task-in (w .pool) (w .ends) (slot i)))) (records (image-tasks entries rest)))
+      rw (a-task (slot i) e, image-is (slot i) less) (length-append (record-of 2 (body (task-in (w .pool) (w .ends) (slot i)))) (records (image-tasks entries rest)))
 
-  dead-length : (i : ℕ) (rest : List (Option TaskVM)) → slot i .living ≡ false → length (records (image-tasks entries (task-of (slot i) ∷ rest))) ≡ length (records (image-tasks entries rest))
+  dead-length : (i : ℕ) (rest : List (Option TaskVM)) → slot i .living ≡ false → length (records (image-tasks entries (task-in-slot (slot i) ∷ rest))) ≡ length (records (image-tasks entries rest))
   unfolding image-tasks
   dead-length i rest e = rw (no-task (slot i) e)
 
   module _ (f : Measured → StepResult) (o : Out VM) (missed : (error : VMError) → Agree w (f (refused (refusal-of error))) (err error)) where
     -- a living slot: 12, then 15
     one-saved : (limit size : ℕ) (task : Task) (others : ℕ → Measured) (rest : List (Option TaskVM))
-        → (task .«instructions_ref» .0 < m .entries → (more : ℕ) → more ≤ size + length (framed 2 (body (task-in (w .pool) (w .ends) task))) → Agree w (f (others more)) (rust-storage.to-tasks entries rest λ ts. o))
+        → (task .«instructions_ref» .0 < m .entries → (more : ℕ) → more ≤ size + length (record-of 2 (body (task-in (w .pool) (w .ends) task))) → Agree w (f (others more)) (rust-storage.to-tasks entries rest λ ts. o))
         → Agree w (f (grown (added limit size (measure (w .pool) (w .ends) (m .entries) task)) others)) (to-task (held task) entries λ t. rust-storage.to-tasks entries rest λ ts. o)
     unfolding measure sized size-of added grown on to-task instructions.get task-in saved-task
     one-saved limit size task others rest onto = by (ltb (task .«instructions_ref» .0) (m .entries)) refl
@@ -114,9 +114,9 @@ module _ (w : World) (stale : ℕ) (h : Facts w) (bytes : Bytes (w .pool)) where
     one-by : (limit n i count size : ℕ) (b : Bool) → slot i .living ≡ b → (rest : List (Option TaskVM))
         → ((count′ size′ : ℕ) → ((count″ size″ : ℕ) → size″ ≤ size′ + length (records (image-tasks entries rest)) → Agree w (f (measured size″ count″)) o)
         → Agree w (f (measures n (i + 1) (w .table) (w .pool) (w .ends) (m .entries) limit count′ size′)) (rust-storage.to-tasks entries rest λ ts. o))
-        → ((count′ size′ : ℕ) → size′ ≤ size + length (records (image-tasks entries (task-of (slot i) ∷ rest))) → Agree w (f (measured size′ count′)) o)
+        → ((count′ size′ : ℕ) → size′ ≤ size + length (records (image-tasks entries (task-in-slot (slot i) ∷ rest))) → Agree w (f (measured size′ count′)) o)
         → Agree w (f (grown (cond b (added limit size (measure (w .pool) (w .ends) (m .entries) (slot i))) (Size size)) (measures n (i + 1) (w .table) (w .pool) (w .ends) (m .entries) limit (count-slot (slot i) count))))
-        (rust-storage.to-tasks entries (task-of (slot i) ∷ rest) λ ts. o)
+        (rust-storage.to-tasks entries (task-in-slot (slot i) ∷ rest) λ ts. o)
     unfolding grown rust-storage.to-tasks
     one-by limit n i count size true e rest others fits =
         rw (a-task (slot i) e)
@@ -135,7 +135,7 @@ module _ (w : World) (stale : ℕ) (h : Facts w) (bytes : Bytes (w .pool)) where
         rw z (fits count size (omega arith))
     all-saved limit (suc n) i sum count size fits = by (decLt i (m .count)) (λ count′ size′. all-saved limit n (i + 1) (omega arith) count′ size′)
       where
-        first : i < m .count → drop i tasks ≡ task-of (slot i) ∷ drop (i + 1) tasks
+        first : i < m .count → drop i tasks ≡ task-in-slot (slot i) ∷ drop (i + 1) tasks
         first less = drop-cons tasks i none (let l = count-length w h in omega arith) ∙ rw (get-is w h i, add-one i)
 
         by : Dec (i < m .count)

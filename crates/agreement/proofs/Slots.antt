@@ -18,38 +18,38 @@ use Rattle.pools.specs.declared.InstructionsRef.{InstructionsRef}
 use Rattle.machine.specs.World.{World}
 use Rattle.rust.specs.TaskTypes.{TaskVM}
 use Rattle.rust.specs.Storage.{resize, put}
-use Rattle.agreement.specs.View.{held, task-of}
+use Rattle.agreement.specs.View.{held, task-in-slot}
 use Rattle.agreement.proofs.Facts.{Facts}
 
-pub no-task : (task : Task) → task .living ≡ false → task-of task ≡ none
-unfolding task-of
+pub no-task : (task : Task) → task .living ≡ false → task-in-slot task ≡ none
+unfolding task-in-slot
 no-task task dead = rw dead
 
-pub a-task : (task : Task) → task .living ≡ true → task-of task ≡ some (held task)
-unfolding task-of
+pub a-task : (task : Task) → task .living ≡ true → task-in-slot task ≡ some (held task)
+unfolding task-in-slot
 a-task task living = rw living
 
-pub blank-none : task-of blank ≡ none
-unfolding task-of blank
+pub blank-none : task-in-slot blank ≡ none
+unfolding task-in-slot blank
 blank-none = refl
 
-pub map-set : (l : List Task) (i : ℕ) (task : Task) → map task-of (set l i task) ≡ set (map task-of l) i (task-of task)
+pub map-set : (l : List Task) (i : ℕ) (task : Task) → map task-in-slot (set l i task) ≡ set (map task-in-slot l) i (task-in-slot task)
 map-set [] i task = refl
 map-set (first ∷ l) zero task = refl
-map-set (first ∷ l) (suc i) task = ap (λ (r : List (Option TaskVM)). task-of first ∷ r) (map-set l i task)
+map-set (first ∷ l) (suc i) task = ap (λ (r : List (Option TaskVM)). task-in-slot first ∷ r) (map-set l i task)
 
 -- a table of 256 slots, of which those from a count on hold no task
 pub record Beyond (table : List Task) (count : ℕ) : Type 0 where
   pub long : length table ≡ 256
   pub few : count ≤ 256
-  pub none-there : (i : ℕ) → count ≤ i → task-of (getD table i blank) ≡ none
+  pub none-there : (i : ℕ) → count ≤ i → task-in-slot (getD table i blank) ≡ none
 
 module _ (table : List Task) (count : ℕ) (beyond : Beyond table count) where
   abbrev all : List (Option TaskVM)
-  all = map task-of table
+  all = map task-in-slot table
 
   all-length : length all ≡ 256
-  all-length = length-map table task-of ∙ beyond .long
+  all-length = length-map table task-in-slot ∙ beyond .long
 
   front-length : length (take count all) ≡ count
   front-length = length-take-le count all (let z = all-length in omega (arith, beyond .few))
@@ -61,7 +61,7 @@ module _ (table : List Task) (count : ℕ) (beyond : Beyond table count) where
       let e = length-take-le k (drop count all) long in
       ext-getD none _ _ (e ∙ sym (length-replicate k none))
       (λ i q. let less : i < k = omega (arith, e) in
-      getD-take k (drop count all) i none less ∙ getD-drop count all i none ∙ ap (getD all (count + i)) (sym blank-none) ∙ List·getD-map task-of table (count + i) blank
+      getD-take k (drop count all) i none less ∙ getD-drop count all i none ∙ ap (getD all (count + i)) (sym blank-none) ∙ List·getD-map task-in-slot table (count + i) blank
       ∙ beyond .none-there (count + i) (omega arith) ∙ sym (getD-replicate k i none none less))
 
   -- the list grown by gaps up to an id, and a task at its end
@@ -77,47 +77,47 @@ module _ (table : List Task) (count : ℕ) (beyond : Beyond table count) where
       (set-at (take i all) none [] (some task) i (length-take-le i all (omega arith)))
 
   -- one task more, at or past the count
-  pub more-in : (i : ℕ) (task : Task) → task .living ≡ true → count ≤ i → i < 256 → take (i + 1) (map task-of (set table i task)) ≡ put (take count all) i (held task)
+  pub more-in : (i : ℕ) (task : Task) → task .living ≡ true → count ≤ i → i < 256 → take (i + 1) (map task-in-slot (set table i task)) ≡ put (take count all) i (held task)
   more-in i task living past less =
       let z = all-length in
-      ap (λ (n : ℕ). take n (map task-of (set table i task))) (add-one i)
+      ap (λ (n : ℕ). take n (map task-in-slot (set table i task))) (add-one i)
       ∙ ap (take (suc i)) (map-set table i task)
-      ∙ take-suc-set all i (task-of task) (omega arith)
+      ∙ take-suc-set all i (task-in-slot task) (omega arith)
       ∙ ap (λ (o : Option TaskVM). take i all ++ (o ∷ [])) (a-task task living)
       ∙ sym (resized-in i (held task) past less)
 
 module _ (w : World) (h : Facts w) where
   abbrev tasks : List (Option TaskVM)
-  tasks = map task-of (w .table)
+  tasks = map task-in-slot (w .table)
 
   abbrev count : ℕ
   count = w .machine .count
 
   tasks-length : length tasks ≡ 256
-  tasks-length = length-map (w .table) task-of ∙ h .counts .slots-are
+  tasks-length = length-map (w .table) task-in-slot ∙ h .counts .slots-are
 
   pub count-length : length (take count tasks) ≡ count
   count-length = length-take-le count tasks (let z = tasks-length in omega (arith, h .counts .count-most))
 
   -- a slot at or past the count is no task
-  past-none : (i : ℕ) → count ≤ i → task-of (getD (w .table) i blank) ≡ none
+  past-none : (i : ℕ) → count ≤ i → task-in-slot (getD (w .table) i blank) ≡ none
   past-none i past = by (getD (w .table) i blank .living) refl
     where
-      by : (b : Bool) → getD (w .table) i blank .living ≡ b → task-of (getD (w .table) i blank) ≡ none
+      by : (b : Bool) → getD (w .table) i blank .living ≡ b → task-in-slot (getD (w .table) i blank) ≡ none
       by true e = let l = h .living i e in absurd (let z : getD (w .table) i blank .id .0 ≡ i = l .place in let y : getD (w .table) i blank .id .0 < count = l .held in omega arith)
       by false e = no-task _ e
 
   -- the task of an id is the slot's
-  pub get-is : (i : ℕ) → getD (take count tasks) i none ≡ task-of (getD (w .table) i blank)
+  pub get-is : (i : ℕ) → getD (take count tasks) i none ≡ task-in-slot (getD (w .table) i blank)
   get-is i = by (decLt i count)
     where
-      by : Dec (i < count) → getD (take count tasks) i none ≡ task-of (getD (w .table) i blank)
-      by (yes less) = getD-take count tasks i none less ∙ ap (getD tasks i) (sym blank-none) ∙ List·getD-map task-of (w .table) i blank
+      by : Dec (i < count) → getD (take count tasks) i none ≡ task-in-slot (getD (w .table) i blank)
+      by (yes less) = getD-take count tasks i none less ∙ ap (getD tasks i) (sym blank-none) ∙ List·getD-map task-in-slot (w .table) i blank
       by (no more) = List·getD-eq-default (take count tasks) none {n = i} (let z = count-length in omega arith) ∙ sym (past-none i (omega arith))
 
   -- a slot written anew
-  pub put-is : (i : ℕ) (task : Task) → i < count → take count (map task-of (set (w .table) i task)) ≡ set (take count tasks) i (task-of task)
-  put-is i task less = ap (take count) (map-set (w .table) i task) ∙ take-set-lt count tasks i (task-of task) less
+  pub put-is : (i : ℕ) (task : Task) → i < count → take count (map task-in-slot (set (w .table) i task)) ≡ set (take count tasks) i (task-in-slot task)
+  put-is i task less = ap (take count) (map-set (w .table) i task) ∙ take-set-lt count tasks i (task-in-slot task) less
 
   -- the tasks from the count on are none, as a table
   beyond : Beyond (w .table) count
@@ -127,7 +127,7 @@ module _ (w : World) (h : Facts w) where
   resized = resized-in (w .table) count beyond
 
   -- one task more, at or past the count
-  pub more-is : (i : ℕ) (task : Task) → task .living ≡ true → count ≤ i → i < 256 → take (i + 1) (map task-of (set (w .table) i task)) ≡ put (take count tasks) i (held task)
+  pub more-is : (i : ℕ) (task : Task) → task .living ≡ true → count ≤ i → i < 256 → take (i + 1) (map task-in-slot (set (w .table) i task)) ≡ put (take count tasks) i (held task)
   more-is = more-in (w .table) count beyond
 
   -- and it is found there

@@ -6,7 +6,7 @@ use mathlib.Core.List.{List, _∷_}
 use native.Mathlib.Omega.{arith}
 use lib.ListN.{getD, set, length-set}
 use borrow.Author.Tests.{lt-ltb}
-use Rattle.image.specs.Numbers.{Bytes}
+use Rattle.slices.specs.Numbers.{Bytes}
 use Rattle.inlinevec.specs.Stacks.{values-of}
 use Rattle.inlinevec.specs.declared.PopResult.{PopResult}
 use Rattle.inlinevec.specs.declared.LastResult.{LastResult}

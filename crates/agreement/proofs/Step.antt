@@ -10,7 +10,7 @@ use Rattle.bytecode.specs.Opcodes.{PUSH-U32, PUSH-STATE, PUSH-CALLDATA, PUSH-TA
 use Rattle.bytecode.specs.Operands.{extent}
 use Rattle.bytecode.specs.declared.Extent.{Extent}
 use Rattle.bytecode.specs.declared.Extent.the-variants as extents
-use Rattle.image.specs.Numbers.{Bytes}
+use Rattle.slices.specs.Numbers.{Bytes}
 use Rattle.inlinevec.specs.Stacks.{values-of}
 use Rattle.pools.proofs.Laws.{getD-entries}
 use Rattle.values.specs.Values.{to-u32-val}

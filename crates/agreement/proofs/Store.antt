@@ -12,8 +12,8 @@ use Rattle.bytecode.specs.Opcodes.{M-STI, M-ST}
 use Rattle.bytecode.specs.Operands.{big-endian}
 use Rattle.bytecode.specs.declared.Extent.{Extent}
 use Rattle.bytecode.specs.declared.Extent.the-variants as extents
-use Rattle.image.specs.Numbers as numbers
-use Rattle.image.specs.Numbers.{Bytes}
+use Rattle.slices.specs.Numbers as numbers
+use Rattle.slices.specs.Numbers.{Bytes}
 use Rattle.image.proofs.Endian.{bytes-drop, byte-at}
 use Rattle.inlinevec.specs.Stacks.{pop, values-of}
 use Rattle.inlinevec.specs.declared.PopResult.{PopResult}
@@ -28,7 +28,8 @@ use Rattle.values.specs.declared.ValueResult.the-variants.{Value, NoValue}
 use Rattle.memory.specs.Allocation as allocation
 use Rattle.memory.specs.Allocation.{offset-aligned, is-element-tag, vector, filling, alloc}
 use Rattle.memory.specs.Change as change
-use Rattle.memory.specs.Change.{element-size-bytes, scaled, little-endian, mut-vec}
+use Rattle.slices.specs.Numbers.{little-endian}
+use Rattle.memory.specs.Change.{element-size-bytes, scaled, mut-vec}
 use Rattle.memory.specs.declared.SizeResult.{SizeResult}
 use Rattle.memory.specs.declared.SizeResult.the-variants.{Size}
 use Rattle.memory.proofs.Placed.{aligned-above}
@@ -124,10 +125,10 @@ module _ (w : World) (stale : ℕ) (h : Facts w) (bytes : Bytes (w .pool)) where
     boxing value =
         stepped w
         (cond (leb 1000 height) (on-memory (Refused (full-by value)) (w .stack) (w .memory))
-        (placed (w .stack) r next height (allocation.stored (w .memory) payload used size offset value .memory) (allocation.stored (w .memory) payload used size offset value .answer)))
+        (placed (w .stack) r next height (allocation.vector-stored (w .memory) payload used size offset value .memory) (allocation.vector-stored (w .memory) payload used size offset value .answer)))
 
     not-boxed : (error : VMError) → Agree w (boxing (NoValue (refusal-of error))) (err error)
-    unfolding allocation.stored placed full-by inner-did
+    unfolding allocation.vector-stored placed full-by inner-did
     not-boxed error = by (leb 1000 height)
       where
         by : (b : Bool) → Agree w (stepped w (cond b (on-memory (Refused (refusal-of error)) (w .stack) (w .memory)) (on-memory (Refused (refusal-of error)) (w .stack) (w .memory)))) (err error)
@@ -148,7 +149,7 @@ module _ (w : World) (stale : ℕ) (h : Facts w) (bytes : Bytes (w .pool)) where
         goes w stale bytes _ _ _ _ (rw (a, b))
 
     is-boxed : (value : ℕ) → Agree w (boxing (Value value)) (inlinevec.push 1000 (values-of height (w .stack)) value λ after. ok (with-memory (at (view stale w) next after) grows))
-    unfolding allocation.stored placed full-by inner-did inlinevec.push
+    unfolding allocation.vector-stored placed full-by inner-did inlinevec.push
     is-boxed value = by (leb 1000 height) (leb (offset + size) (length (w .memory))) refl refl
       where
         by : (b d : Bool) → leb 1000 height ≡ b → leb (offset + size) (length (w .memory)) ≡ d
@@ -173,7 +174,7 @@ module _ (w : World) (stale : ℕ) (h : Facts w) (bytes : Bytes (w .pool)) where
   -- ---- M_MUTA
 
   module _ (next height index payload : ℕ) (pointer : FatPointer) (lies : pointer .offset + pointer .size ≤ length (take used (w .memory))) where
-    abbrev changing : SizeResult → change.After
+    abbrev changing : SizeResult → change.AfterChange
     changing width = change.changed (take used (w .memory)) pointer index payload width
 
     -- a change by the width of an element
@@ -194,7 +195,7 @@ module _ (w : World) (stale : ℕ) (h : Facts w) (bytes : Bytes (w .pool)) where
         (ok (with-memory (at (view stale w) next (values-of height (w .stack))) (sets (take used (w .memory)) (pointer .offset + index * width) (take width (little-endian 4 payload))))) panic))
     unfolding change.changed scaled mutated inner-did
     change-agrees width low element =
-        same (λ (a : change.After). stepped w (changed (w .stack) (changed-to (mutated r next height (a .answer)) (a .memory ++ drop used (w .memory))))) (leb (pointer .size / width) index)
+        same (λ (a : change.AfterChange). stepped w (changed (w .stack) (changed-to (mutated r next height (a .answer)) (a .memory ++ drop used (w .memory))))) (leb (pointer .size / width) index)
         (λ t. errs (MSliceOutOfBounds (index * width % 2 ^ 32) (pointer .size)))
         (λ t. let e : index * width + width ≤ pointer .size = element (leb-false _ _ t) in
         rw (is-inside (take used (w .memory)) pointer lies, low)

@@ -11,7 +11,7 @@ use lib.Seq.{length-take-le, getD-set-same}
 use borrow.Author.Tests.{ltb-true, ltb-false, leb-true, leb-false, lt-ltb, le-ltb, ne-eqb}
 use Rattle.bytecode.specs.Opcodes.{T-CREATE, T-GET-FIELD, T-SET-FIELD, T-DELETE}
 use Rattle.errors.specs.declared.Refusal.the-variants as refusal
-use Rattle.image.specs.Numbers.{Bytes}
+use Rattle.slices.specs.Numbers.{Bytes}
 use Rattle.inlinevec.specs.Stacks.{if-some, pop, values-of}
 use Rattle.inlinevec.specs.declared.PopResult.{PopResult}
 use Rattle.inlinevec.specs.declared.PopResult.the-variants.{Popped, NotPopped}
@@ -60,7 +60,7 @@ use Rattle.rust.specs.TaskTypes as types
 use Rattle.rust.specs.Storage as rust-storage
 use Rattle.rust.specs.Vm as rust
 use Rattle.rust.specs.Vm.{VM, at, with-storage}
-use Rattle.agreement.specs.View.{held, task-of, storage-of, view}
+use Rattle.agreement.specs.View.{held, task-in-slot, storage-of, view}
 use Rattle.agreement.specs.Agreement.{Agree, errs, many-tasks, long-title}
 use Rattle.agreement.proofs.Facts.{Facts}
 use Rattle.agreement.proofs.Laws.{goes-by, same, room, popped, popped-none, one-off, two-off}
@@ -126,11 +126,11 @@ wanted-set stack machine most = below-by stack (machine .height) most
 module _ {w : World} where
   found : (task : Task) (id : ℕ) (f : FindResult → StepResult) (k : TaskVM → Out VM) → (task .living ≡ true → Agree w (f Found) (k (held task)))
       → Agree w (f (NotFound (refusal.TaskNotFound id))) (err (TaskNotFound id))
-      → Agree w (f (find task (record { 0 = id }))) (rust-storage.if-some (task-of task) k (err (TaskNotFound id)))
+      → Agree w (f (find task (record { 0 = id }))) (rust-storage.if-some (task-in-slot task) k (err (TaskNotFound id)))
   unfolding find
   found task id f k there missing = by (task .living) refl
     where
-      by : (b : Bool) → task .living ≡ b → Agree w (f (find task (record { 0 = id }))) (rust-storage.if-some (task-of task) k (err (TaskNotFound id)))
+      by : (b : Bool) → task .living ≡ b → Agree w (f (find task (record { 0 = id }))) (rust-storage.if-some (task-in-slot task) k (err (TaskNotFound id)))
       by true e = rw (a-task task e, e) (there e)
       by false e = rw (no-task task e, e) missing
 
@@ -151,7 +151,7 @@ module _ (w : World) (stale : ℕ) (h : Facts w) (bytes : Bytes (w .pool)) where
   r = registers-of (w .machine)
 
   abbrev tasks : List (Option TaskVM)
-  tasks = take (w .machine .count) (map task-of (w .table))
+  tasks = take (w .machine .count) (map task-in-slot (w .table))
 
   abbrev slot : ℕ → Task
   slot i = getD (w .table) i blank
@@ -165,7 +165,7 @@ module _ (w : World) (stale : ℕ) (h : Facts w) (bytes : Bytes (w .pool)) where
       omega arith
 
   -- on with another record in a slot below the count
-  slot-goes : (place height i : ℕ) (task : Task) (new : Option TaskVM) → i < w .machine .count → task-of task ≡ new
+  slot-goes : (place height i : ℕ) (task : Task) (new : Option TaskVM) → i < w .machine .count → task-in-slot task ≡ new
       → Agree w (next (world (settled (w .machine) (moved r place height)) (set (w .table) i task) (w .stack) (w .memory) (w .pool) (w .ends) (w .save)))
       (ok (with-storage (at (view stale w) place (values-of height (w .stack))) (record { tasks-vm = set tasks i new; next-id = w .machine .«next_id» .0 })))
   unfolding registers-of view storage-of

@@ -6,7 +6,7 @@ use mathlib.Core.List.{List, _∷_}
 use native.Mathlib.Omega.{arith}
 use lib.Dec.{eqb, ltb}
 use lib.ListN.{length, take, set}
-use Rattle.image.specs.Numbers.{Bytes}
+use Rattle.slices.specs.Numbers.{Bytes}
 use Rattle.inlinevec.specs.Stacks.{if-room, push, values-of, loops-of, last-two, change-two}
 use Rattle.inlinevec.specs.declared.Frame.{Frame}
 use Rattle.inlinevec.specs.declared.Frames.{Frames}

@@ -7,7 +7,7 @@ use lib.ListN.{length, getD}
 use Rattle.errors.specs.declared.Refusal.{Refusal}
 use Rattle.errors.specs.declared.Refusal.the-variants as refusal
 use Rattle.image.specs.Image.{ImageTask, Image, written}
-use Rattle.image.specs.Numbers.{Bytes}
+use Rattle.slices.specs.Numbers.{Bytes}
 use Rattle.machine.specs.World.{World}
 use Rattle.machine.specs.Words.{StepResult, next, refused}
 use Rattle.rust.specs.Errors.{VMError, TaskNotFound, InvalidInstructionsIndex, StackUnderflow, StackOverflow, MSliceParamOverflow, MSliceOutOfBounds, TypeMismatch, InvalidType, EmptyInstructions, MaxStatesError, InvalidStatus, InvalidTaskField, BytesToStringConversionError, AlignmentMismatch, MultiplicationOverflowed, SliceSizeMismatch, Out, ok, err, panic}
@@ -36,9 +36,9 @@ refusal-of MultiplicationOverflowed = refusal.MultiplicationOverflowed
 refusal-of SliceSizeMismatch = refusal.SliceSizeMismatch
 
 -- the bytes of a list of entries
-unfoldable pub total : List (List ℕ) → ℕ
-total [] = 0
-total (entry ∷ entries) = length entry + total entries
+unfoldable pub total-length : List (List ℕ) → ℕ
+total-length [] = 0
+total-length (entry ∷ entries) = length entry + total-length entries
 
 -- a task of the Rust as document 01's image holds it, its instructions taken from the pool
 abbrev pub image-task : List (List ℕ) → TaskVM → ImageTask
@@ -64,7 +64,7 @@ pub data Over (w : World) : Refusal → VM → Type 0 where
   many-tasks : {vm : VM} → 256 < length (vm .storage .tasks-vm) → Over w refusal.TableFull vm
   long-title : {vm : VM} (id : ℕ) (task : TaskVM) → get (vm .storage) id ≡ some task → 128 < length (task .title) → Over w refusal.TitleTooLong vm
   many-entries : {vm : VM} → 1024 < length (vm .instructions-pool) → Over w refusal.PoolFull vm
-  many-bytes : {vm : VM} → min 65536 (length (w .pool)) < total (vm .instructions-pool) → Over w refusal.PoolFull vm
+  many-bytes : {vm : VM} → min 65536 (length (w .pool)) < total-length (vm .instructions-pool) → Over w refusal.PoolFull vm
   long-memory : {vm : VM} → length (w .memory) < length (vm .memory) → Over w refusal.MemoryTooShort vm
   long-image : {vm : VM} → length (w .save) < length (written (image-of vm)) → Over w refusal.SaveBufferTooShort vm
 

@@ -12,7 +12,7 @@ use Rattle.machine.specs.History.{new-world}
 use Rattle.rust.specs.Errors.{Out, ok, err, EmptyInstructions}
 use Rattle.rust.specs.TaskTypes.{Task, StorageData}
 use Rattle.rust.specs.Vm.{VM}
-use Rattle.agreement.specs.Agreement.{refusal-of, total}
+use Rattle.agreement.specs.Agreement.{refusal-of, total-length}
 use Rattle.agreement.specs.Runs.{at-rest}
 
 -- a task of the image
@@ -35,6 +35,6 @@ pub data Creations (pool program : List ℕ) (made : Made) : Out VM → Type 0 w
   -- 28, where the Rust goes on with a program of more than 65,535 bytes
   too-long : {vm : VM} → made .answer ≡ NotCreated refusal.ProgramTooLong → 65535 < length program → Creations pool program made (ok vm)
   -- 22, where the Rust goes on with a pool of more bytes than 65,536 or than the lent pool
-  no-room : {vm : VM} → made .answer ≡ NotCreated refusal.PoolFull → min 65536 (length pool) < total (vm .instructions-pool) → Creations pool program made (ok vm)
+  no-room : {vm : VM} → made .answer ≡ NotCreated refusal.PoolFull → min 65536 (length pool) < total-length (vm .instructions-pool) → Creations pool program made (ok vm)
   -- both make one machine, whatever stack, memory and save buffer ours is lent
   both-make : (machine : Machine) {vm : VM} → made .answer ≡ Created machine → ((stack memory save : List ℕ) → at-rest (new-world machine made stack memory save) ≡ vm) → Creations pool program made (ok vm)

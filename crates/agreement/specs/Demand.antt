@@ -8,7 +8,7 @@ use lib.Dec.{leb, ltb}
 use lib.ListN.{length, getD}
 use Rattle.errors.specs.declared.Refusal.{Refusal}
 use Rattle.errors.specs.Refusals.{number-of}
-use Rattle.image.specs.Numbers.{Bytes}
+use Rattle.slices.specs.Numbers.{Bytes}
 use Rattle.image.specs.Image.{Image, sound, read-image}
 use Rattle.inlinevec.specs.Stacks.{values-of}
 use Rattle.pools.specs.Pool.{entry-of, entries-of}
@@ -46,9 +46,9 @@ pub record Beginning (program image : List ℕ) (first : World) (vm : VM) : Type
   pub is-initialised : init program (stored holds) ≡ ok vm
 
 -- the Rust ends without a panic
-pub data Ends : Ran → Type 0 where
-  it-returns : {values : List ℕ} {vm : VM} → Ends (returned values vm)
-  it-fails : {error : VMError} {before : VM} → Ends (failed error before)
+pub data RustEnds : Ran → Type 0 where
+  it-returns : {values : List ℕ} {vm : VM} → RustEnds (returned values vm)
+  it-fails : {error : VMError} {before : VM} → RustEnds (failed error before)
 
 -- the refusals of an added capacity: 20 to 24
 unfoldable pub is-added : Refusal → Bool

@@ -34,12 +34,12 @@ held task = record {
   instructions-ref = task .«instructions_ref» .0;
 }
 
-unfoldable pub task-of : Task → Option TaskVM
-task-of task = cond (task .living) (some (held task)) none
+unfoldable pub task-in-slot : Task → Option TaskVM
+task-in-slot task = cond (task .living) (some (held task)) none
 
 -- the slots below the S_LEN count
 unfoldable pub storage-of : ℕ → ℕ → List Task → Storage
-storage-of next-id count table = record { tasks-vm = take count (map task-of table); next-id = next-id }
+storage-of next-id count table = record { tasks-vm = take count (map task-in-slot table); next-id = next-id }
 
 -- the current frame, the pc that the Rust's call_stack still has for it, the frames below, stack, loops, memory in use, pool, storage
 abbrev pub shown : InstructionsFrame → ℕ → List InstructionsFrame → List ℕ → List Loop → List ℕ → List (List ℕ) → Storage → VM

@@ -17,28 +17,28 @@ use Rattle.mechanism.specs.Operated as operated
 use Rattle.mechanism.specs.Execute as executing
 use Rattle.mechanism.specs.Steps as steps
 use Rattle.mechanism.specs.Advance.{ProgressOn, halted-at, after-steps, advance}
-use Rattle.cases.specs.Cases.{C1, fresh}
+use Rattle.cases.specs.Cases.{C1, fresh-world}
 
 -- 04 0001 1d
 abbrev Calldata : List ℕ
 Calldata = 0x04 ∷ 0x00 ∷ 0x01 ∷ 0x1d ∷ []
 
 abbrev advancing : ℕ → List ℕ → ProgressOn
-advancing fuel program = advance (fresh program .stack) (fresh program .memory) (fresh program .pool) (fresh program .ends) (fresh program .machine) fuel
+advancing fuel program = advance (fresh-world program .stack) (fresh-world program .memory) (fresh-world program .pool) (fresh-world program .ends) (fresh-world program .machine) fuel
 
 pub record Examples : Type 0 where
   -- C1 comes to its end with one unit of fuel to each of five finished instructions
-  pub to-the-end : advancing 9 C1 .gone .left ≡ 4
+  pub to-the-end : advancing 9 C1 .progress .left ≡ 4
   -- the code's end comes before no fuel
-  pub end-before-fuel : advancing 5 C1 .gone .outcome ≡ Done
+  pub end-before-fuel : advancing 5 C1 .progress .outcome ≡ Done
   -- no fuel before the third instruction
-  pub without-fuel : advancing 2 C1 .gone .outcome ≡ Paused
+  pub without-fuel : advancing 2 C1 .progress .outcome ≡ Paused
   -- all of it is spent
-  pub without-fuel-left : advancing 2 C1 .gone .left ≡ 0
+  pub without-fuel-left : advancing 2 C1 .progress .left ≡ 0
   -- PUSH_CALLDATA needs the pool, and is at hand behind one value
-  pub at-hand : advancing 9 (PUSH-STATE ∷ 0 ∷ Calldata) .gone .op ≡ PUSH-CALLDATA
+  pub at-hand : advancing 9 (PUSH-STATE ∷ 0 ∷ Calldata) .progress .op ≡ PUSH-CALLDATA
   -- it is not finished, so it costs no fuel
-  pub at-hand-left : advancing 9 Calldata .gone .left ≡ 9
+  pub at-hand-left : advancing 9 Calldata .progress .left ≡ 9
 
 pub examples : Examples
 unfolding bytecode-opcodes.operand-size bytecode-operands.big-endian bytecode-operands.operand bytecode-operands.data-size bytecode-operands.behind bytecode-operands.extent stacks.if-room stacks.if-some stacks.push stacks.pop stacks.push-two stacks.last-two stacks.pop-two stacks.change-two stacks.push-loop stacks.pop-loop values.make-scalar-tagged values.to-u32 pools.end-of pools.start-of pools.entry-of machines.current machines.with-current machines.code-of registers.registers-of registers.settled stack.pop-second stack.pop-first stack.pop-two stack.pushed-to stack.push-value stack.op-push control.opened-to control.do-two control.op-do control.looped control.op-loop operated.with-operand operated.push-u32 operated.push-u8 executing.plain executing.operated executing.is-equality executing.execute executing.by-extent executing.instruct steps.is-outer steps.onward steps.turn steps.steps halted-at after-steps advance

@@ -28,7 +28,7 @@ use Rattle.machine.specs.World.{with-machine}
 use Rattle.machine.specs.Creation.{Made, new-machine, create}
 use Rattle.machine.specs.Reads.{SavedTo, value-read, task-read, host-save}
 use Rattle.roundtrips.specs.Images.{I1}
-use Rattle.cases.specs.Cases.{fresh, raised, C1}
+use Rattle.cases.specs.Cases.{fresh-world, raised, C1}
 use Rattle.bytecode.specs.Opcodes as bytecode-opcodes
 use Rattle.bytecode.specs.Operands as bytecode-operands
 use Rattle.inlinevec.specs.Stacks as inlinevec-stacks
@@ -39,7 +39,7 @@ use Rattle.storage.specs.Storage as storage-storage
 use Rattle.storage.specs.Table as storage-table
 use Rattle.utf8.specs.Grammar as utf8-grammar
 use Rattle.utf8.specs.Utf8 as utf8-utf8
-use Rattle.image.specs.Numbers as image-numbers
+use Rattle.slices.specs.Numbers as image-numbers
 use Rattle.image.specs.Image as image-image
 use Rattle.image.specs.Slots as image-slots
 use Rattle.image.specs.Reading as image-reading
@@ -69,11 +69,11 @@ Two-values = 0x01 ∷ 0x00 ∷ 0x00 ∷ 0x00 ∷ 0x05 ∷ 0x01 ∷ 0x00 ∷ 0x00
 
 -- a program after its first instruction
 abbrev stepped : List ℕ → World
-stepped program = run 1 (fresh program) .world
+stepped program = run 1 (fresh-world program) .world
 
 -- a program started, with fuel for all of it
 abbrev started : List ℕ → Reported
-started program = start 9 (fresh program)
+started program = start 9 (fresh-world program)
 
 -- the machine and everything lent to it after a call
 abbrev after : Reported → World
@@ -86,11 +86,11 @@ high height = raised height C1
 -- one in a task, whose frame names this entry
 abbrev in-task : ℕ → World
 in-task entry =
-    with-machine (fresh C1) (with-frames (fresh C1 .machine) (record { count = 2; main = fresh C1 .machine .frames .main; task = record { entry = record { 0 = entry }; place = 0 } }))
+    with-machine (fresh-world C1) (with-frames (fresh-world C1 .machine) (record { count = 2; main = fresh-world C1 .machine .frames .main; task = record { entry = record { 0 = entry }; place = 0 } }))
 
 -- one with a length of the pool in use, and a next id and an S_LEN count
 abbrev counting : ℕ → ℕ → ℕ → World
-counting bytes next-id count = with-machine (fresh C1) (new-machine bytes 1 next-id count)
+counting bytes next-id count = with-machine (fresh-world C1) (new-machine bytes 1 next-id count)
 
 -- a table of so many slots, an image and a program
 abbrev creating : ℕ → List ℕ → List ℕ → Made
@@ -108,7 +108,7 @@ saved bytes w = host-save (world (w .machine) (w .table) (w .stack) (w .memory) 
 -- the table
 pub record Examples : Type 0 where
   -- END_CALL in main does nothing, and goes on behind it
-  pub end-call-in-main : stepped End-call ≡ moved (fresh End-call) 1 0
+  pub end-call-in-main : stepped End-call ≡ moved (fresh-world End-call) 1 0
   -- PUSH_CALLDATA: one value more, calldata of entry 1
   pub calldata-value : getD (stepped Calldata .stack) 0 0 ≡ to-calldata-val 1
   -- one entry more
@@ -128,23 +128,23 @@ pub record Examples : Type 0 where
   -- and the current frame's place becomes 0
   pub start-place : started C1 .report .machine .frames .main .place ≡ 0
   -- with fuel 2 it is paused
-  pub pause-outcome : start 2 (fresh C1) .report .outcome ≡ outcome.Paused
+  pub pause-outcome : start 2 (fresh-world C1) .report .outcome ≡ outcome.Paused
   -- after two instructions
-  pub pause-finished : start 2 (fresh C1) .report .finished ≡ 2
+  pub pause-finished : start 2 (fresh-world C1) .report .finished ≡ 2
   -- start on a paused machine is 26
-  pub start-paused : start 9 (after (start 2 (fresh C1))) .report .outcome ≡ outcome.Refused WrongPhaseOrUnsound
+  pub start-paused : start 9 (after (start 2 (fresh-world C1))) .report .outcome ≡ outcome.Refused WrongPhaseOrUnsound
   -- continue finishes the other three
-  pub continue-paused : go-on 9 (after (start 2 (fresh C1))) .report .finished ≡ 3
+  pub continue-paused : go-on 9 (after (start 2 (fresh-world C1))) .report .finished ≡ 3
   -- continue on a new machine is 26
-  pub continue-new : go-on 9 (fresh C1) .report .outcome ≡ outcome.Refused WrongPhaseOrUnsound
+  pub continue-new : go-on 9 (fresh-world C1) .report .outcome ≡ outcome.Refused WrongPhaseOrUnsound
   -- with no finished instruction
-  pub continue-new-finished : go-on 9 (fresh C1) .report .finished ≡ 0
+  pub continue-new-finished : go-on 9 (fresh-world C1) .report .finished ≡ 0
   -- the control stack carries over from the run before: a loop left open, and one more
   pub loops-carried-over : start 9 (after (started Open-loop)) .report .machine .loops .count ≡ 2
   -- a third finds the control stack full
   pub loops-full : start 9 (after (start 9 (after (started Open-loop)))) .report .outcome ≡ outcome.Refused StackOverflow
   -- vm::sound::sound: a new machine
-  pub sound-new : is-sound (fresh C1) ≡ true
+  pub sound-new : is-sound (fresh-world C1) ≡ true
   -- a full stack
   pub sound-height : is-sound (high 1000) ≡ true
   -- a length above its capacity
@@ -184,9 +184,9 @@ pub record Examples : Type 0 where
   -- calldata, its part being entry 1 of the pool
   pub value-calldata : value-read 0 (after (started Calldata)) .answer ≡ CallData (record { 0 = 1 })
   -- on a machine that is not done it is 26
-  pub value-paused : value-read 0 (after (start 2 (fresh C1))) .answer ≡ NoReturn WrongPhaseOrUnsound
+  pub value-paused : value-read 0 (after (start 2 (fresh-world C1))) .answer ≡ NoReturn WrongPhaseOrUnsound
   -- vm::task_reading::read_task: no such task is 9 with the id
-  pub task-missing : task-read (record { 0 = 3 }) (fresh C1) .answer .result ≡ NotReadable (TaskNotFound 3)
+  pub task-missing : task-read (record { 0 = 3 }) (fresh-world C1) .answer .result ≡ NotReadable (TaskNotFound 3)
   -- an unsound record is 26, before 9
   pub task-unsound : task-read (record { 0 = 3 }) (high 1001) .answer .result ≡ NotReadable WrongPhaseOrUnsound
   -- task 0 of image I1
@@ -196,20 +196,20 @@ pub record Examples : Type 0 where
   -- with the program alone in the pool its entry is missing, 12
   pub task-without-entry : task-read (record { 0 = 0 }) (loaded 1) .answer .result ≡ NotReadable (InvalidInstructionsIndex 1)
   -- vm::saving::save: after a zero-length image a lone kind 1 of zeros
-  pub save-bytes : saved 14 (fresh C1) .save ≡ 0x08 ∷ 0x00 ∷ 0x00 ∷ 0x00 ∷ 0x01 ∷ 0x00 ∷ 0x00 ∷ 0x00 ∷ 0x00 ∷ 0x00 ∷ 0x00 ∷ 0x00 ∷ 0x00 ∷ 0x00 ∷ []
+  pub save-bytes : saved 14 (fresh-world C1) .save ≡ 0x08 ∷ 0x00 ∷ 0x00 ∷ 0x00 ∷ 0x01 ∷ 0x00 ∷ 0x00 ∷ 0x00 ∷ 0x00 ∷ 0x00 ∷ 0x00 ∷ 0x00 ∷ 0x00 ∷ 0x00 ∷ []
   -- of 14 bytes
-  pub save-length : saved 14 (fresh C1) .report .result ≡ Saved 14
+  pub save-length : saved 14 (fresh-world C1) .report .result ≡ Saved 14
   -- a buffer that is too short is 24
-  pub save-short : saved 13 (fresh C1) .report .result ≡ NotSaved SaveBufferTooShort
+  pub save-short : saved 13 (fresh-world C1) .report .result ≡ NotSaved SaveBufferTooShort
   -- and nothing is written
-  pub save-short-bytes : saved 13 (fresh C1) .save ≡ replicate 13 0xff
+  pub save-short-bytes : saved 13 (fresh-world C1) .save ≡ replicate 13 0xff
   -- after image I1 the same bytes; those past it stay
   pub save-loaded : saved 31 (loaded 2) .save ≡ I1 ++ (0xff ∷ [])
   -- an unsound record is 26, before 24
   pub save-unsound : saved 13 (high 1001) .report .result ≡ NotSaved WrongPhaseOrUnsound
 
 pub examples : Examples
-unfolding bytecode-opcodes.operand-size bytecode-operands.big-endian bytecode-operands.operand bytecode-operands.data-size bytecode-operands.behind bytecode-operands.extent inlinevec-stacks.if-room inlinevec-stacks.if-some inlinevec-stacks.push inlinevec-stacks.pop inlinevec-stacks.push-two inlinevec-stacks.last-two inlinevec-stacks.pop-two inlinevec-stacks.change-two inlinevec-stacks.push-loop inlinevec-stacks.pop-loop values-values.make-scalar-tagged values-values.is-qnan values-values.is-scalar values-values.is-vec values-values.raw-tag values-values.tag-of values-values.to-u32 values-values.scalar-type values-values.get-value-type pools-pool.end-of pools-pool.start-of pools-pool.bounds pools-pool.entry-of pools-pool.has-room pools-pool.interned pools-pool.part-in-use pools-pool.never-fall pools-pool.end-to-end storage-tasks.blank storage-tasks.title-of storage-tasks.new-task storage-storage.slot-of storage-storage.find storage-table.sound-slot storage-table.sound-slots storage-table.sound-counts storage-table.sound-table vm-sound.sound-frames vm-sound.sound-lengths vm-sound.sound-record vm-sound.sound-world vm-calls.may-start vm-calls.may-continue vm-calls.allowed vm-calls.ended vm-calls.report vm-calls.call-with vm-calls.call vm-reads.is-done vm-reads.readable vm-reads.value-at vm-reads.value-read vm-reads.readable-unless vm-reads.if-found vm-reads.task-result vm-reads.task-read vm-reads.host-saved vm-reads.host-save vm-creation.create vm-creation.create-fit vm-creation.create-behind creation-creation.image-tests creation-creation.creation-tests unbox-unbox.where-bounded unbox-unbox.by-type unbox-unbox.unbox-value image-image.framed image-image.header image-image.body image-image.task-at image-image.headed image-image.good image-image.joined image-image.read-from image-image.counted image-image.read-image image-numbers.little-endian image-numbers.number-at image-reading.s-len image-reading.instruction-bytes image-reading.tested image-slots.loaded-task image-slots.saved-task image-table.living-tasks image-table.refusal-by image-table.task-refusal image-table.or-else image-table.first-refusal image-table.image-of-tasks image-table.saved-over image-table.saved-unless image-table.save-tasks image-table.save-table image-table.bytes-after image-table.entries-after image-table.next-reference image-slots.task-in utf8-grammar.UTF8-char utf8-utf8.holds utf8-utf8.lead utf8-utf8.from utf8-utf8.valid machine-machines.current machine-machines.with-current machine-machines.code-of machine-machines.op-at machine-machines.placed machine-machines.rewound machine-fields.within machine-fields.title-bytes machine-world.at-end machine-words.test machine-words.operand-found machine-words.popped machine-words.looked-at machine-words.push machine-words.calculated machine-words.pointed machine-words.tagged machine-words.bytes-of machine-words.allocated machine-words.store machine-words.element-changed machine-words.loop-pushed machine-words.loop-popped machine-words.loop-looked-at machine-words.frame-pushed machine-words.frame-popped machine-words.bounded machine-words.interned machine-words.found machine-words.first-state machine-words.has-state machine-words.with-room machine-words.saved machine-opcodes.push-u32 machine-opcodes.push-byte machine-opcodes.push-calldata machine-opcodes.mul machine-opcodes.muli machine-opcodes.compare machine-opcodes.t-create machine-opcodes.get-field machine-opcodes.t-get-field machine-opcodes.set-field machine-opcodes.t-set-field machine-opcodes.t-delete machine-opcodes.s-save machine-opcodes.s-len machine-opcodes.«do» machine-opcodes.loop machine-opcodes.loop-index machine-opcodes.enter machine-opcodes.call machine-opcodes.end-call machine-opcodes.jump-if-false machine-opcodes.drops machine-opcodes.dup machine-opcodes.swap machine-opcodes.equal machine-opcodes.eq machine-opcodes.neq machine-opcodes.m-sti machine-opcodes.m-st machine-opcodes.m-muta machine-step.execute machine-step.step machine-run.follow machine-run.run image-image.written image-image.records image-table.load-slot image-table.load-tasks image-table.load-read image-table.load-table
+unfolding bytecode-opcodes.operand-size bytecode-operands.big-endian bytecode-operands.operand bytecode-operands.data-size bytecode-operands.behind bytecode-operands.extent inlinevec-stacks.if-room inlinevec-stacks.if-some inlinevec-stacks.push inlinevec-stacks.pop inlinevec-stacks.push-two inlinevec-stacks.last-two inlinevec-stacks.pop-two inlinevec-stacks.change-two inlinevec-stacks.push-loop inlinevec-stacks.pop-loop values-values.make-scalar-tagged values-values.is-qnan values-values.is-scalar values-values.is-vec values-values.raw-tag values-values.tag-of values-values.to-u32 values-values.scalar-type values-values.get-value-type pools-pool.end-of pools-pool.start-of pools-pool.bounds pools-pool.entry-of pools-pool.has-room pools-pool.interned pools-pool.part-in-use pools-pool.never-fall pools-pool.end-to-end storage-tasks.blank storage-tasks.title-of storage-tasks.new-task storage-storage.slot-of storage-storage.find storage-table.sound-slot storage-table.sound-slots storage-table.sound-counts storage-table.sound-table vm-sound.sound-frames vm-sound.sound-lengths vm-sound.sound-record vm-sound.sound-world vm-calls.may-start vm-calls.may-continue vm-calls.allowed vm-calls.ended vm-calls.report vm-calls.call-with vm-calls.call vm-reads.is-done vm-reads.readable vm-reads.value-at vm-reads.value-read vm-reads.readable-unless vm-reads.if-found vm-reads.task-result vm-reads.task-read vm-reads.host-saved vm-reads.host-save vm-creation.create vm-creation.create-fit vm-creation.create-behind creation-creation.image-tests creation-creation.creation-tests unbox-unbox.where-bounded unbox-unbox.by-type unbox-unbox.unbox-value image-image.record-of image-image.header image-image.body image-image.task-at image-image.headed image-image.good image-image.task-before image-image.read-from image-image.with-count image-image.read-image image-numbers.little-endian image-numbers.number-at image-reading.s-len-of image-reading.instruction-bytes image-reading.image-result image-slots.loaded-task image-slots.saved-task image-table.living-tasks image-table.refusal-by image-table.task-refusal image-table.or-else image-table.first-refusal image-table.image-of-tasks image-table.saved-over image-table.saved-unless image-table.save-tasks image-table.save-table image-table.bytes-after image-table.entries-after image-table.next-reference image-slots.task-in utf8-grammar.UTF8-char utf8-utf8.holds utf8-utf8.lead utf8-utf8.from utf8-utf8.valid machine-machines.current machine-machines.with-current machine-machines.code-of machine-machines.op-at machine-machines.placed machine-machines.rewound machine-fields.within machine-fields.title-bytes machine-world.at-end machine-words.test machine-words.operand-found machine-words.popped machine-words.looked-at machine-words.push machine-words.calculated machine-words.pointed machine-words.tagged machine-words.bytes-of machine-words.allocated machine-words.store machine-words.element-changed machine-words.loop-pushed machine-words.loop-popped machine-words.loop-looked-at machine-words.frame-pushed machine-words.frame-popped machine-words.bounds-found machine-words.interned machine-words.found machine-words.first-state machine-words.has-state machine-words.with-room machine-words.saved machine-opcodes.push-u32 machine-opcodes.push-byte machine-opcodes.push-calldata machine-opcodes.mul machine-opcodes.muli machine-opcodes.compare machine-opcodes.t-create machine-opcodes.get-field machine-opcodes.t-get-field machine-opcodes.set-field machine-opcodes.t-set-field machine-opcodes.t-delete machine-opcodes.s-save machine-opcodes.s-len machine-opcodes.«do» machine-opcodes.loop machine-opcodes.loop-index machine-opcodes.enter machine-opcodes.call-task machine-opcodes.end-call machine-opcodes.jump-if-false machine-opcodes.drops machine-opcodes.dup machine-opcodes.swap machine-opcodes.equal machine-opcodes.eq machine-opcodes.neq machine-opcodes.m-sti machine-opcodes.m-st machine-opcodes.m-muta machine-step.execute machine-step.step machine-run.follow machine-run.run image-image.written image-image.records image-table.load-slot image-table.load-tasks image-table.load-read image-table.load-table
 examples = record {
   end-call-in-main = refl;
   calldata-value = refl;

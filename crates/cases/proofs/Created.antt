@@ -9,7 +9,7 @@ use borrow.Author.Tests.{ne-eqb, le-ltb, le-leb}
 use Rattle.pools.specs.Pool.{has-room, interned}
 use Rattle.storage.specs.Tasks.{blank}
 use Rattle.image.specs.Image.{read-image}
-use Rattle.image.specs.Reading.{s-len, instruction-bytes, tested}
+use Rattle.image.specs.Reading.{s-len-of, instruction-bytes, image-result}
 use Rattle.image.specs.Table.{load-tasks, load-read, load-table}
 use Rattle.table_image.specs.Creation.{image-tests, creation-tests}
 use Rattle.machine.specs.declared.CreateResult.the-variants.{Created}
@@ -33,7 +33,7 @@ module _ (save program : List ℕ) (some : 1 ≤ length program) (short : length
   written = sets-eq program pool 0 (omega (arith, roomy)) ∙ ap (λ (rest : List ℕ). program ++ rest) (drop-at program (replicate 16 0) (0 + length program) (omega arith))
 
   created : create (replicate 256 blank) pool ends [] program ≡ made (Created (new-machine (length program) 1 0 0)) (replicate 256 blank) pool ends [] program
-  unfolding create create-fit create-behind creation-tests image-tests tested read-image has-room interned load-table load-read load-tasks s-len instruction-bytes
+  unfolding create create-fit create-behind creation-tests image-tests image-result read-image has-room interned load-table load-read load-tasks s-len-of instruction-bytes
   created =
       let none-more : length program + 0 ≡ length program = omega arith in
       let none-before : 0 + length program ≡ length program = omega arith in

@@ -17,7 +17,7 @@ use Rattle.machine.specs.Machines.{with-used}
 use Rattle.machine.specs.World.{World, with-machine, with-memory}
 use Rattle.machine.specs.Run.{run}
 use Rattle.machine.specs.Creation.{new-machine}
-use Rattle.cases.specs.Cases.{A, Field-3, Retitle, Call, End-call, Returning, Delete, fresh, raised, after}
+use Rattle.cases.specs.Cases.{A, Field-3, Retitle, Call, End-call, Returning, Delete, fresh-world, raised, run-end}
 use Rattle.bytecode.specs.Operands as bytecode-operands
 use Rattle.inlinevec.specs.Stacks as inlinevec-stacks
 use Rattle.values.specs.Values as values-values
@@ -93,17 +93,17 @@ abbrev values-in : World → List ℕ
 values-in w = take (w .machine .height) (w .stack)
 
 abbrev values : List ℕ → List ℕ
-values program = values-in (after program .world)
+values program = values-in (run-end program .world)
 
 abbrev memory-in : World → List ℕ
 memory-in w = take (w .machine .memory) (w .memory)
 
 abbrev memory : List ℕ → List ℕ
-memory program = memory-in (after program .world)
+memory program = memory-in (run-end program .world)
 
 -- the world after so many instructions, the place in main and the open loop then
 abbrev stepped : ℕ → List ℕ → World
-stepped count program = run count (fresh program) .world
+stepped count program = run count (fresh-world program) .world
 
 abbrev place : ℕ → List ℕ → ℕ
 place count program = stepped count program .machine .frames .main .place
@@ -113,7 +113,7 @@ opened count program = stepped count program .machine .loops .outer
 
 -- the record of a slot
 abbrev task : ℕ → List ℕ → Task
-task slot program = getD (after program .world .table) slot blank
+task slot program = getD (run-end program .world .table) slot blank
 
 -- how the next instruction ends after so many, with so many bytes of memory in use
 abbrev with-less-memory : ℕ → ℕ → List ℕ → Outcome
@@ -121,7 +121,7 @@ with-less-memory used count program = run 1 (with-machine (stepped count program
 
 -- a machine that is lent 256 bytes of memory
 abbrev roomy : List ℕ → World
-roomy program = with-memory (fresh program) (replicate 256 0) 0
+roomy program = with-memory (fresh-world program) (replicate 256 0) 0
 
 -- the table; PUSH_CALLDATA stands in Calls, S_SAVE, END_CALL in a task, and titles read and set in Table
 pub record Opcodes : Type 0 where
@@ -150,7 +150,7 @@ pub record Opcodes : Type 0 where
   -- the instructions
   pub get-instructions : values (A ++ read 2) ≡ to-calldata-val 1 ∷ []
   -- field 3 is 10 of a living task, too
-  pub get-field-3 : after (A ++ Field-3) .outcome ≡ Refused (InvalidTaskField 3)
+  pub get-field-3 : run-end (A ++ Field-3) .outcome ≡ Refused (InvalidTaskField 3)
   -- a title of 128 bytes comes back as long as it is
   pub get-title-of-128 : to-vec-val 128 128 4 ≡ Value (getD (run 100 (roomy (zeros 128 ++ Create ++ read 0)) .world .stack) 0 0)
   -- T_SET_FIELD: a state below the count
@@ -170,7 +170,7 @@ pub record Opcodes : Type 0 where
   -- and clears the slot
   pub delete-living : task 0 (A ++ Delete) .living ≡ false
   -- S_LEN pushes the count, and not the next id
-  pub s-len : values-in (run 1 (with-machine (fresh (S-LEN ∷ [])) (new-machine 1 1 2 1)) .world) ≡ to-u32-val 1 ∷ []
+  pub s-len : values-in (run 1 (with-machine (fresh-world (S-LEN ∷ [])) (new-machine 1 1 2 1)) .world) ≡ to-u32-val 1 ∷ []
   -- S_LOAD, and a byte without an opcode, do nothing
   pub nothing : values (S-LOAD ∷ 0xff ∷ number 7) ≡ to-u32-val 7 ∷ []
   -- DO: the index is on top, the limit below it, and the loop begins behind it
@@ -182,19 +182,19 @@ pub record Opcodes : Type 0 where
   -- the first round comes before the limit is looked at
   pub loop-once : values (counting 0 5) ≡ to-u32-val 5 ∷ []
   -- behind the last one no loop is open
-  pub loop-closed : after (counting 4 2) .world .machine .loops .count ≡ 0
+  pub loop-closed : run-end (counting 4 2) .world .machine .loops .count ≡ 0
   -- LOOP_INDEX goes on behind it
   pub loop-index-place : place 4 (counting 4 1) ≡ 6
   -- CALL enters a task's instructions
   pub call-enters : stepped 6 (Returning ++ Call) .machine .frames .count ≡ 2
   -- END_CALL in main does not leave it
-  pub end-call-in-main : after End-call .world .machine .frames .count ≡ 1
+  pub end-call-in-main : run-end End-call .world .machine .frames .count ≡ 1
   -- DROP takes a value off
   pub drops : values (Two ++ (DROP ∷ [])) ≡ to-u32-val 5 ∷ []
   -- and goes on behind it
   pub drop-place : place 3 (Two ++ (DROP ∷ [])) ≡ 5
   -- without one it is 3
-  pub drop-empty : after (DROP ∷ []) .outcome ≡ Refused StackUnderflow
+  pub drop-empty : run-end (DROP ∷ []) .outcome ≡ Refused StackUnderflow
   -- DUP pushes the value on top
   pub dup : values (number 6 ++ (DUP ∷ [])) ≡ to-u32-val 6 ∷ to-u32-val 6 ∷ []
   -- and goes on behind it
@@ -210,7 +210,7 @@ pub record Opcodes : Type 0 where
   -- and not on TRUE
   pub no-jump : values (True ++ Jump) ≡ to-u32-val 7 ∷ []
   -- on FALSE it needs its operand
-  pub jump-cut : after (False ++ (JUMP-IF-FALSE ∷ [])) .outcome ≡ Refused UnexpectedEOB
+  pub jump-cut : run-end (False ++ (JUMP-IF-FALSE ∷ [])) .outcome ≡ Refused UnexpectedEOB
   -- M_STI: the memory in use has the new vector
   pub m-sti : memory Text ≡ 0x61 ∷ 0x62 ∷ []
   -- on a full stack it is 4
@@ -220,14 +220,14 @@ pub record Opcodes : Type 0 where
   -- M_ST: zeros
   pub m-st : memory (zeros 2) ≡ 0 ∷ 0 ∷ []
   -- a size above 65,535 is 13
-  pub m-st-large : after (PUSH-U32 ∷ 0 ∷ 1 ∷ 0 ∷ 0 ∷ M-ST ∷ 4 ∷ []) .outcome ≡ Refused MSliceParamOverflow
+  pub m-st-large : run-end (PUSH-U32 ∷ 0 ∷ 1 ∷ 0 ∷ 0 ∷ M-ST ∷ 4 ∷ []) .outcome ≡ Refused MSliceParamOverflow
   -- M_MUTA: the value is on top, the index below it
   pub m-muta : memory Changed ≡ 0x61 ∷ 0x00 ∷ []
   -- a vector that reaches past the memory in use is 14
   pub m-muta-outside : with-less-memory 1 3 Changed ≡ Refused (MSliceOutOfBounds 0 2)
 
 pub opcodes : Opcodes
-unfolding bytecode-operands.big-endian bytecode-operands.operand inlinevec-stacks.if-room inlinevec-stacks.if-some inlinevec-stacks.pop inlinevec-stacks.last inlinevec-stacks.push-two inlinevec-stacks.last-two inlinevec-stacks.pop-two inlinevec-stacks.change-two inlinevec-stacks.push-loop inlinevec-stacks.pop-loop inlinevec-stacks.last-loop inlinevec-stacks.push-frame values-values.make-scalar-tagged values-values.make-vec-tagged values-values.to-vec-val values-values.to-bool-val values-values.is-qnan values-values.is-scalar values-values.is-vec values-values.raw-tag values-values.tag-of values-values.is-u32-val values-values.to-u32 values-values.fat-pointer values-values.to-fat-pointer values-values.bool-not values-values.product values-values.mul-checked values-values.mul-checked-i values-values.alike values-values.value-eq values-values.value-cmp memory-allocation.offset-aligned memory-allocation.is-element-tag memory-allocation.vector memory-allocation.filling memory-allocation.stored memory-allocation.alloc memory-change.element-size-bytes memory-change.little-endian memory-change.inside memory-change.changed memory-change.mut-vec pools-pool.end-of pools-pool.start-of pools-pool.bounds pools-pool.entry-of pools-pool.has-room pools-pool.interned pools-pool.part-in-use storage-tasks.blank storage-tasks.default-state storage-tasks.with-state storage-tasks.title-of storage-tasks.new-task storage-storage.slot-of storage-storage.find storage-storage.room storage-storage.len-after machine-machines.current machine-machines.with-current machine-machines.code-of machine-machines.op-at machine-machines.placed machine-titles.title-bytes machine-world.at-end machine-words.test machine-words.operand-found machine-words.popped machine-words.looked-at machine-words.push machine-words.calculated machine-words.pointed machine-words.tagged machine-words.bytes-of machine-words.allocated machine-words.store machine-words.element-changed machine-words.loop-pushed machine-words.loop-popped machine-words.loop-looked-at machine-words.frame-pushed machine-words.bounded machine-words.interned machine-words.found machine-words.first-state machine-words.has-state machine-words.with-room machine-opcodes.push-u32 machine-opcodes.push-byte machine-opcodes.push-calldata machine-opcodes.mul machine-opcodes.muli machine-opcodes.compare machine-opcodes.t-create machine-opcodes.get-field machine-opcodes.t-get-field machine-opcodes.set-field machine-opcodes.t-set-field machine-opcodes.t-delete machine-opcodes.s-len machine-opcodes.«do» machine-opcodes.loop machine-opcodes.loop-index machine-opcodes.enter machine-opcodes.call machine-opcodes.end-call machine-opcodes.jump-if-false machine-opcodes.drops machine-opcodes.dup machine-opcodes.swap machine-opcodes.equal machine-opcodes.eq machine-opcodes.neq machine-opcodes.m-sti machine-opcodes.m-st machine-opcodes.m-muta machine-step.execute machine-step.step machine-run.follow machine-run.run
+unfolding bytecode-operands.big-endian bytecode-operands.operand inlinevec-stacks.if-room inlinevec-stacks.if-some inlinevec-stacks.pop inlinevec-stacks.last inlinevec-stacks.push-two inlinevec-stacks.last-two inlinevec-stacks.pop-two inlinevec-stacks.change-two inlinevec-stacks.push-loop inlinevec-stacks.pop-loop inlinevec-stacks.last-loop inlinevec-stacks.push-frame values-values.make-scalar-tagged values-values.make-vec-tagged values-values.to-vec-val values-values.to-bool-val values-values.is-qnan values-values.is-scalar values-values.is-vec values-values.raw-tag values-values.tag-of values-values.is-u32-val values-values.to-u32 values-values.fat-pointer values-values.to-fat-pointer values-values.bool-not values-values.product values-values.mul-checked values-values.mul-checked-i values-values.alike values-values.value-eq values-values.value-cmp memory-allocation.offset-aligned memory-allocation.is-element-tag memory-allocation.vector memory-allocation.filling memory-allocation.vector-stored memory-allocation.alloc memory-change.element-size-bytes memory-change.inside memory-change.changed memory-change.mut-vec pools-pool.end-of pools-pool.start-of pools-pool.bounds pools-pool.entry-of pools-pool.has-room pools-pool.interned pools-pool.part-in-use storage-tasks.blank storage-tasks.default-state storage-tasks.with-state storage-tasks.title-of storage-tasks.new-task storage-storage.slot-of storage-storage.find storage-storage.room storage-storage.len-after machine-machines.current machine-machines.with-current machine-machines.code-of machine-machines.op-at machine-machines.placed machine-titles.title-bytes machine-world.at-end machine-words.test machine-words.operand-found machine-words.popped machine-words.looked-at machine-words.push machine-words.calculated machine-words.pointed machine-words.tagged machine-words.bytes-of machine-words.allocated machine-words.store machine-words.element-changed machine-words.loop-pushed machine-words.loop-popped machine-words.loop-looked-at machine-words.frame-pushed machine-words.bounds-found machine-words.interned machine-words.found machine-words.first-state machine-words.has-state machine-words.with-room machine-opcodes.push-u32 machine-opcodes.push-byte machine-opcodes.push-calldata machine-opcodes.mul machine-opcodes.muli machine-opcodes.compare machine-opcodes.t-create machine-opcodes.get-field machine-opcodes.t-get-field machine-opcodes.set-field machine-opcodes.t-set-field machine-opcodes.t-delete machine-opcodes.s-len machine-opcodes.«do» machine-opcodes.loop machine-opcodes.loop-index machine-opcodes.enter machine-opcodes.call-task machine-opcodes.end-call machine-opcodes.jump-if-false machine-opcodes.drops machine-opcodes.dup machine-opcodes.swap machine-opcodes.equal machine-opcodes.eq machine-opcodes.neq machine-opcodes.m-sti machine-opcodes.m-st machine-opcodes.m-muta machine-step.execute machine-step.step machine-run.follow machine-run.run
 opcodes = record {
   push-u32 = refl;
   push-u32-place = refl;

@@ -137,16 +137,16 @@ lent save program =
     }) (replicate 256 blank) (replicate 1000 0) (replicate 64 0) (program ++ replicate 16 0) (length program ∷ replicate 1023 0) save
 
 -- and one without a save buffer
-abbrev pub fresh : List ℕ → World
-fresh program = lent [] program
+abbrev pub fresh-world : List ℕ → World
+fresh-world program = lent [] program
 
 -- one whose stack has this height
 abbrev pub raised : ℕ → List ℕ → World
-raised height program = moved (fresh program) 0 height
+raised height program = moved (fresh-world program) 0 height
 
 -- the end of a run of one
-abbrev pub after : List ℕ → End
-after program = run 100 (fresh program)
+abbrev pub run-end : List ℕ → End
+run-end program = run 100 (fresh-world program)
 
 -- image I1 and the program 0b, in a blank table
 abbrev pub I1-made : Made
@@ -159,29 +159,29 @@ I1-world = new-world (new-machine 1 2 1 1) I1-made (replicate 1000 0) (replicate
 -- the table
 pub record Cases : Type 0 where
   -- one value, 99, after five instructions
-  pub c1 : (after C1 .outcome ≡ Done) × ((after C1 .world .machine .height ≡ 1) × ((getD (after C1 .world .stack) 0 0 ≡ to-u32-val 99) × (after C1 .left ≡ 95)))
+  pub c1 : (run-end C1 .outcome ≡ Done) × ((run-end C1 .world .machine .height ≡ 1) × ((getD (run-end C1 .world .stack) 0 0 ≡ to-u32-val 99) × (run-end C1 .left ≡ 95)))
   -- 99 boxed
   pub c2 : to-u32-val 99 ≡ 0x7FFC0000018C0006
   -- numbers at 4, size 6
   pub c3 : to-vec-val 4 6 6 ≡ Value 0xFFFC000008000C06
   -- number 512 on the left equals C3: the two values before EQ, and the one after it
-  pub c4 : (take 2 (run 4 (fresh C4) .world .stack) ≡ to-u32-val 512 ∷ 0xFFFC000008000C06 ∷ []) × ((after C4 .world .machine .height ≡ 1) × (getD (after C4 .world .stack) 0 0 ≡ to-bool-val true))
+  pub c4 : (take 2 (run 4 (fresh-world C4) .world .stack) ≡ to-u32-val 512 ∷ 0xFFFC000008000C06 ∷ []) × ((run-end C4 .world .machine .height ≡ 1) × (getD (run-end C4 .world .stack) 0 0 ≡ to-bool-val true))
   -- M_MUTA on C3: index 0 works, and writes 7 in 4 bytes from 4 on; 1 gives 14
-  pub c5 : (after C5-0 .outcome ≡ Done)
-      × ((getD (after C5-0 .world .stack) 1 0 ≡ 0xFFFC000008000C06)
-      × ((take 10 (after C5-0 .world .memory) ≡ 0x61 ∷ 0 ∷ 0 ∷ 0 ∷ 0x07 ∷ 0 ∷ 0 ∷ 0 ∷ 0 ∷ 0 ∷ []) × (after C5-1 .outcome ≡ Refused (MSliceOutOfBounds 4 6))))
+  pub c5 : (run-end C5-0 .outcome ≡ Done)
+      × ((getD (run-end C5-0 .world .stack) 1 0 ≡ 0xFFFC000008000C06)
+      × ((take 10 (run-end C5-0 .world .memory) ≡ 0x61 ∷ 0 ∷ 0 ∷ 0 ∷ 0x07 ∷ 0 ∷ 0 ∷ 0 ∷ 0 ∷ 0 ∷ []) × (run-end C5-1 .outcome ≡ Refused (MSliceOutOfBounds 4 6))))
   -- index 1,073,741,824 gives 14
-  pub c6 : after C6 .outcome ≡ Refused (MSliceOutOfBounds 0 6)
+  pub c6 : run-end C6 .outcome ≡ Refused (MSliceOutOfBounds 0 6)
   -- 255 states stand, 256 gives 8
-  pub c7 : (after C7-255 .outcome ≡ Done) × ((getD (after C7-255 .world .table) 0 blank .state .len ≡ 255) × (after C7-256 .outcome ≡ Refused MaxStatesError))
+  pub c7 : (run-end C7-255 .outcome ≡ Done) × ((getD (run-end C7-255 .world .table) 0 blank .state .len ≡ 255) × (run-end C7-256 .outcome ≡ Refused MaxStatesError))
   -- 257 makes 1 state
-  pub c8 : (after C8 .outcome ≡ Done) × (getD (after C8 .world .table) 0 blank .state .len ≡ 1)
+  pub c8 : (run-end C8 .outcome ≡ Done) × (getD (run-end C8 .world .table) 0 blank .state .len ≡ 1)
   -- 65,535 times 65,537 stands, 65,536 times 65,536 gives 7
-  pub c9 : (after C9-stands .outcome ≡ Done) × ((getD (after C9-stands .world .stack) 0 0 ≡ to-u32-val 4294967295) × (after C9-7 .outcome ≡ Refused MultiplicationOverflowed))
+  pub c9 : (run-end C9-stands .outcome ≡ Done) × ((getD (run-end C9-stands .world .stack) 0 0 ≡ to-u32-val 4294967295) × (run-end C9-7 .outcome ≡ Refused MultiplicationOverflowed))
   -- code `01 00` gives 2
-  pub c10 : after C10 .outcome ≡ Refused UnexpectedEOB
+  pub c10 : run-end C10 .outcome ≡ Refused UnexpectedEOB
   -- TRUE EQ FALSE gives 6
-  pub c11 : after C11 .outcome ≡ Refused TypeMismatch
+  pub c11 : run-end C11 .outcome ≡ Refused TypeMismatch
   -- image I1 loads: the machine that is created, its tasks, and the same bytes from the host's save and from S_SAVE
   pub c12 : (I1-made .answer ≡ Created (new-machine 1 2 1 1))
       × ((image-of-tasks 1 (living-tasks (I1-made .table)) (I1-made .pool) (I1-made .ends) ≡ Ab) × ((host-save I1-world .save ≡ I1 ++ (9 ∷ [])) × (start 1 I1-world .save ≡ I1 ++ (9 ∷ []))))
@@ -189,27 +189,27 @@ pub record Cases : Type 0 where
 -- single instructions
 pub record Instructions : Type 0 where
   -- at the code's end a run is done, without fuel too; before it, it is paused
-  pub at-the-end : (run 5 (fresh C1) .outcome ≡ Done) × (run 4 (fresh C1) .outcome ≡ Paused)
+  pub at-the-end : (run 5 (fresh-world C1) .outcome ≡ Done) × (run 4 (fresh-world C1) .outcome ≡ Paused)
   -- T_CREATE with 0 states gives 8 before it looks for a title: there is none
-  pub no-title : after No-title .outcome ≡ Refused MaxStatesError
+  pub no-title : run-end No-title .outcome ≡ Refused MaxStatesError
   -- T_GET_FIELD tests the field, 10, before the id, 9
-  pub get-field : (after Field-3 .outcome ≡ Refused (InvalidTaskField 3)) × (after Title .outcome ≡ Refused (TaskNotFound 0))
+  pub get-field : (run-end Field-3 .outcome ≡ Refused (InvalidTaskField 3)) × (run-end Title .outcome ≡ Refused (TaskNotFound 0))
   -- and reads a title as a new text behind the memory in use
-  pub get-title : to-vec-val 1 1 4 ≡ Value (getD (after (A ++ Title) .world .stack) 0 0)
+  pub get-title : to-vec-val 1 1 4 ≡ Value (getD (run-end (A ++ Title) .world .stack) 0 0)
   -- T_SET_FIELD: a state not below the count is 11
-  pub set-state : after (A ++ State-1) .outcome ≡ Refused (InvalidStatus 1)
+  pub set-state : run-end (A ++ State-1) .outcome ≡ Refused (InvalidStatus 1)
   -- a title replaces the old one
-  pub set-title : getD (getD (after (A ++ Retitle) .world .table) 0 blank .title) 0 0 ≡ 0x42
+  pub set-title : getD (getD (run-end (A ++ Retitle) .world .table) 0 blank .title) 0 0 ≡ 0x42
   -- CALL of empty instructions pops the id and does nothing
-  pub call-empty : (after (A ++ Call) .outcome ≡ Done) × ((after (A ++ Call) .world .machine .height ≡ 0) × (after (A ++ Call) .world .machine .frames .count ≡ 1))
+  pub call-empty : (run-end (A ++ Call) .outcome ≡ Done) × ((run-end (A ++ Call) .world .machine .height ≡ 0) × (run-end (A ++ Call) .world .machine .frames .count ≡ 1))
   -- END_CALL in main does nothing: S_LEN comes behind it
-  pub end-call-in-main : (after End-call .world .machine .height ≡ 1) × (after End-call .left ≡ 98)
+  pub end-call-in-main : (run-end End-call .world .machine .height ≡ 1) × (run-end End-call .left ≡ 98)
   -- in a task it returns to the instruction behind CALL
-  pub end-call-in-a-task : (after (Returning ++ Call ++ End-call) .world .machine .frames .count ≡ 1) × (getD (after (Returning ++ Call ++ End-call) .world .stack) 0 0 ≡ to-u32-val 1)
+  pub end-call-in-a-task : (run-end (Returning ++ Call ++ End-call) .world .machine .frames .count ≡ 1) × (getD (run-end (Returning ++ Call ++ End-call) .world .stack) 0 0 ≡ to-u32-val 1)
   -- JUMP_IF_FALSE on another value than FALSE skips its operand, even past the end
-  pub jump-cut : (after Jump-cut .outcome ≡ Done) × (after Jump-cut .left ≡ 98)
+  pub jump-cut : (run-end Jump-cut .outcome ≡ Done) × (run-end Jump-cut .left ≡ 98)
   -- ids are never used twice: S_LEN is 2 after a task was created, deleted and another created
-  pub ids : (after (A ++ Delete ++ A) .world .machine .«next_id» .0 ≡ 2) × (after (A ++ Delete ++ A) .world .machine .count ≡ 2)
+  pub ids : (run-end (A ++ Delete ++ A) .world .machine .«next_id» .0 ≡ 2) × (run-end (A ++ Delete ++ A) .world .machine .count ≡ 2)
   -- S_SAVE writes the image from the save buffer's start; a buffer too short is 24
   pub save : run 100 (lent (replicate 15 9) Save) .world .save ≡ 0x08 ∷ 0 ∷ 0 ∷ 0 ∷ 0x01 ∷ 0 ∷ 0 ∷ 0 ∷ 0 ∷ 0 ∷ 0 ∷ 0 ∷ 0 ∷ 0 ∷ 9 ∷ []
   -- all slots are saved, and not as many as there are tasks: here 0 is deleted and 1 lives

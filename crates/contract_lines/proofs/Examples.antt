@@ -23,7 +23,7 @@ use Rattle.machine.specs.Creation.{create}
 use Rattle.machine.specs.Calls.{Reported, call, start}
 use Rattle.machine.specs.Reads.{host-save, task-read, value-read}
 use Rattle.examples.proofs.Lines.{in-hex, refused-14}
-use Rattle.cases.specs.Cases.{fresh, C1}
+use Rattle.cases.specs.Cases.{fresh-world, C1}
 use Rattle.cases.proofs.Table.{instructions}
 use Rattle.cases.proofs.Calls.{examples}
 use Rattle.text.proofs as text
@@ -40,7 +40,7 @@ use Rattle.contract_lines.proofs.Lines as lines
 
 -- a new machine of C1, started with fuel 9
 abbrev started : Reported
-started = start 9 (fresh C1)
+started = start 9 (fresh-world C1)
 
 -- and everything lent to it after that
 abbrev after : World
@@ -67,7 +67,7 @@ head-line-of-14-says met =
 -- a run of C1 is done with fuel 5
 abbrev pub run-of-C1 : Line runner.run.ended
 run-of-C1 _ table stack memory pool ends save machine fuel r =
-    world (machine .entry) (now (table .entry)) (now (stack .entry)) (now (memory .entry)) (now (pool .entry)) (now (ends .entry)) (now (save .entry)) ≡ fresh C1 → fuel .entry ≡ 5 → r .outcome ≡ Done
+    world (machine .entry) (now (table .entry)) (now (stack .entry)) (now (memory .entry)) (now (pool .entry)) (now (ends .entry)) (now (save .entry)) ≡ fresh-world C1 → fuel .entry ≡ 5 → r .outcome ≡ Done
 
 pub run-of-C1-says : {M : Type 1} → runner.run.Statement.statement M → Answers M runner.run.ended runner.run.Symbol.routine run-of-C1
 run-of-C1-says met =
@@ -76,7 +76,7 @@ run-of-C1-says met =
 -- a new machine is sound
 abbrev pub sound-of-C1 : Line sound.sound.ended
 sound-of-C1 _ table memory pool ends save machine r =
-    now (table .entry) ≡ fresh C1 .table → now (memory .entry) ≡ fresh C1 .memory → now (pool .entry) ≡ fresh C1 .pool → now (ends .entry) ≡ fresh C1 .ends → now (save .entry) ≡ fresh C1 .save → machine .entry ≡ fresh C1 .machine → r ≡ true
+    now (table .entry) ≡ fresh-world C1 .table → now (memory .entry) ≡ fresh-world C1 .memory → now (pool .entry) ≡ fresh-world C1 .pool → now (ends .entry) ≡ fresh-world C1 .ends → now (save .entry) ≡ fresh-world C1 .save → machine .entry ≡ fresh-world C1 .machine → r ≡ true
 
 pub sound-of-C1-says : {M : Type 1} → sound.sound.Statement.statement M → Answers M sound.sound.ended sound.sound.Symbol.routine sound-of-C1
 sound-of-C1-says met =
@@ -94,7 +94,7 @@ create-of-nothing-says met =
 -- C1, started with fuel 9, finishes five instructions
 abbrev pub call-of-C1 : Line calling.call.ended
 call-of-C1 _ table stack memory pool ends save machine verb fuel r =
-    world (machine .entry) (now (table .entry)) (now (stack .entry)) (now (memory .entry)) (now (pool .entry)) (now (ends .entry)) (now (save .entry)) ≡ fresh C1 → verb .entry ≡ Start → fuel .entry ≡ 9 → r .finished ≡ 5
+    world (machine .entry) (now (table .entry)) (now (stack .entry)) (now (memory .entry)) (now (pool .entry)) (now (ends .entry)) (now (save .entry)) ≡ fresh-world C1 → verb .entry ≡ Start → fuel .entry ≡ 9 → r .finished ≡ 5
 
 pub call-of-C1-says : {M : Type 1} → calling.call.Statement.statement M → Answers M calling.call.ended calling.call.Symbol.routine call-of-C1
 call-of-C1-says met =
@@ -103,7 +103,7 @@ call-of-C1-says met =
 -- a save buffer that is too short is 24, and nothing is written
 abbrev pub save-of-C1 : Line saving.save.ended
 save-of-C1 _ table stack memory pool ends save machine r =
-    world (machine .entry) (now (table .entry)) (now (stack .entry)) (now (memory .entry)) (now (pool .entry)) (now (ends .entry)) (now (save .entry)) ≡ world (fresh C1 .machine) (fresh C1 .table) (fresh C1 .stack) (fresh C1 .memory) (fresh C1 .pool) (fresh C1 .ends) (replicate 13 0xff) → (r .result ≡ NotSaved SaveBufferTooShort) × (now (save .exit) ≡ replicate 13 0xff)
+    world (machine .entry) (now (table .entry)) (now (stack .entry)) (now (memory .entry)) (now (pool .entry)) (now (ends .entry)) (now (save .entry)) ≡ world (fresh-world C1 .machine) (fresh-world C1 .table) (fresh-world C1 .stack) (fresh-world C1 .memory) (fresh-world C1 .pool) (fresh-world C1 .ends) (replicate 13 0xff) → (r .result ≡ NotSaved SaveBufferTooShort) × (now (save .exit) ≡ replicate 13 0xff)
 
 pub save-of-C1-says : {M : Type 1} → saving.save.Statement.statement M → Answers M saving.save.ended saving.save.Symbol.routine save-of-C1
 save-of-C1-says met =
@@ -121,7 +121,7 @@ value-of-C1-says met =
 -- no such task is 9 with the id
 abbrev pub task-of-C1 : Line task-reading.read_task.ended
 task-of-C1 _ table stack memory pool ends save machine id r =
-    world (machine .entry) (now (table .entry)) (now (stack .entry)) (now (memory .entry)) (now (pool .entry)) (now (ends .entry)) (now (save .entry)) ≡ fresh C1 → id .entry ≡ record { 0 = 3 } → r .result ≡ NotReadable (TaskNotFound 3)
+    world (machine .entry) (now (table .entry)) (now (stack .entry)) (now (memory .entry)) (now (pool .entry)) (now (ends .entry)) (now (save .entry)) ≡ fresh-world C1 → id .entry ≡ record { 0 = 3 } → r .result ≡ NotReadable (TaskNotFound 3)
 
 pub task-of-C1-says : {M : Type 1} → task-reading.read_task.Statement.statement M → Answers M task-reading.read_task.ended task-reading.read_task.Symbol.routine task-of-C1
 task-of-C1-says met =

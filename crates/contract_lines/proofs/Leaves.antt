@@ -265,14 +265,14 @@ memory-vector-says met = met
 
 abbrev pub memory-alloc : Line memory.allocation.alloc.ended
 memory-alloc _ memory payload used size tag r =
-    memory-allocation.after r (now (memory .exit)) ≡ alloc (now (memory .entry)) (now (payload .entry)) (used .entry) (size .entry) (tag .entry)
+    memory-allocation.after-allocation r (now (memory .exit)) ≡ alloc (now (memory .entry)) (now (payload .entry)) (used .entry) (size .entry) (tag .entry)
 
 pub memory-alloc-says : {M : Type 1} → memory.allocation.alloc.Statement.statement M → Answers M memory.allocation.alloc.ended memory.allocation.alloc.Symbol.routine memory-alloc
 memory-alloc-says met = met
 
 abbrev pub memory-mut-vec : Line memory.change.mut_vec.ended
 memory-mut-vec _ memory pointer index payload tag r =
-    memory-change.after r (now (memory .exit)) ≡ mut-vec (now (memory .entry)) (pointer .entry) (index .entry .0) (payload .entry) (tag .entry)
+    memory-change.after-change r (now (memory .exit)) ≡ mut-vec (now (memory .entry)) (pointer .entry) (index .entry .0) (payload .entry) (tag .entry)
 
 pub memory-mut-vec-says : {M : Type 1} → memory.change.mut_vec.Statement.statement M → Answers M memory.change.mut_vec.ended memory.change.mut_vec.Symbol.routine memory-mut-vec
 memory-mut-vec-says met = met

@@ -3,7 +3,7 @@ use denote.Ref.{now}
 use lib.ListN.{getD}
 use mathlib.Core.Path.{_≡_}
 use Rattle.machine.specs.Machines.{current, code-of}
-use Rattle.mechanism.specs.Advance.{gone-on, advance}
+use Rattle.mechanism.specs.Advance.{progress-on, advance}
 use Rattle.mechanism.specs.Changes.{keep, put, restate, refused}
 use Rattle.mechanism.specs.Create.{op-t-create, op-t-delete}
 use Rattle.mechanism.specs.Registers.{on-stack, on-memory, moved, registers-of, settled}
@@ -114,7 +114,7 @@ stepper-store-says met = met
 
 abbrev pub stepper-advance : Line stepper.advance.advance.ended
 stepper-advance _ stack memory pool ends machine fuel r =
-    gone-on r (now (stack .exit)) (now (memory .exit)) (now (pool .exit)) (now (ends .exit)) ≡ advance (now (stack .entry)) (now (memory .entry)) (now (pool .entry)) (now (ends .entry)) (machine .entry) (fuel .entry)
+    progress-on r (now (stack .exit)) (now (memory .exit)) (now (pool .exit)) (now (ends .exit)) ≡ advance (now (stack .entry)) (now (memory .entry)) (now (pool .entry)) (now (ends .entry)) (machine .entry) (fuel .entry)
 
 pub stepper-advance-says : {M : Type 1} → stepper.advance.advance.Statement.statement M → Answers M stepper.advance.advance.ended stepper.advance.advance.Symbol.routine stepper-advance
 stepper-advance-says met = met

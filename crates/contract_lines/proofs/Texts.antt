@@ -4,7 +4,7 @@ use denote.Ref.{now}
 use mathlib.Core.Path.{_≡_}
 use lib.ListN.{take}
 use Rattle.labels.specs.Check.{admission}
-use Rattle.listing.specs.Listing.{height-of, values-of, line-of-count, line-of-task, line-by, line-count, slot-shown}
+use Rattle.listing.specs.Listing.{height-of, values-read, line-of-count, line-of-task, line-by, line-count, slot-shown}
 use Rattle.report.specs.Reports.{line-of-report, text-of-word}
 use Rattle.text.specs.Lines.{lined, put-line}
 use Rattle.verdict.specs.Verdicts.{line-of-verdict}
@@ -57,7 +57,7 @@ listing-slot-shown-says met = met
 
 abbrev pub listing-line-at : Line listing.lines.line_at.ended
 listing-line-at _ out words memory pool ends head entries living task number r =
-    lined r (now (out .exit)) ≡ put-line (now (out .entry)) (line-by (head .entry) (values-of (now (memory .entry)) (now (pool .entry)) (now (ends .entry)) (entries .entry) (now (words .entry))) (living .entry) (task .entry) (number .entry))
+    lined r (now (out .exit)) ≡ put-line (now (out .entry)) (line-by (head .entry) (values-read (now (memory .entry)) (now (pool .entry)) (now (ends .entry)) (entries .entry) (now (words .entry))) (living .entry) (task .entry) (number .entry))
 
 pub listing-line-at-says : {M : Type 1} → listing.lines.line_at.Statement.statement M → Answers M listing.lines.line_at.ended listing.lines.line_at.Symbol.routine listing-line-at
 listing-line-at-says met = met

@@ -7,7 +7,7 @@ use Rattle.errors.specs.declared.Refusal.the-variants.{InvalidInstructionsIndex
 use Rattle.storage.specs.Table.{living-of}
 use Rattle.storage.specs.Tasks.{blank}
 use Rattle.text.specs.Ascii.{ascii}
-use Rattle.text.specs.Numbers.{digit, digits, decimal, hex, spaced, words, shown, numbers-left, filled}
+use Rattle.text.specs.Numbers.{digit, digits, decimal, hex, spaced, words, filled-in, numbers-left, filled}
 use Rattle.text.specs.declared.LineResult.the-variants.{Line, NoLine}
 use Rattle.text.specs.Lines.{formed, line, said, lined, put-line, hex-count, parted, hex-part}
 use Rattle.memory.specs.declared.unbox.Return.the-variants.{U32, CallData, VecU32, Null, NoReturn}
@@ -17,16 +17,16 @@ use Rattle.listing.specs.Listing.{line-of-refusal, line-of-head, line-of-count,
 
 -- C1, whole
 pub c1 : listing (Done 5) (record { answer = U32 99; part = [] } ∷ []) [] ≡ ascii "done 5\nvalues 1\nu32 99\ntasks 0\n"
-unfolding listing line-of-head line-of-count lines-of-values lines-of-tasks line-of-value said line formed filled shown numbers-left decimal digits digit ascii living-of
+unfolding listing line-of-head line-of-count lines-of-values lines-of-tasks line-of-value said line formed filled filled-in numbers-left decimal digits digit ascii living-of
 c1 = refl
 
 -- its line 2, counted from 0, is the value, and line 3 the count of tasks
 pub c1-value : line-by (Done 5) (record { answer = U32 99; part = [] } ∷ []) 0 blank 2 ≡ ascii "u32 99\n"
-unfolding line-by line-behind line-of-value said line formed filled shown numbers-left decimal digits digit ascii
+unfolding line-by line-behind line-of-value said line formed filled filled-in numbers-left decimal digits digit ascii
 c1-value = refl
 
 pub c1-tasks : line-by (Done 5) (record { answer = U32 99; part = [] } ∷ []) 0 blank 3 ≡ ascii "tasks 0\n"
-unfolding line-by line-behind line-of-count said line formed filled shown numbers-left decimal digits digit ascii
+unfolding line-by line-behind line-of-count said line formed filled filled-in numbers-left decimal digits digit ascii
 c1-tasks = refl
 
 -- with 256 slots it has 260 lines, with none 4
@@ -70,26 +70,26 @@ refused-14 = refl
 
 -- a paused call
 pub paused : line-of-head (Paused 2) ≡ ascii "paused 2\n"
-unfolding line-of-head said line formed filled shown numbers-left decimal digits digit ascii
+unfolding line-of-head said line formed filled filled-in numbers-left decimal digits digit ascii
 paused = refl
 
 -- how many values follow, and how many tasks
 pub values : line-of-count Values 3 ≡ ascii "values 3\n"
-unfolding line-of-count said line formed filled shown numbers-left decimal digits digit ascii
+unfolding line-of-count said line formed filled filled-in numbers-left decimal digits digit ascii
 values = refl
 
 pub tasks : line-of-count Tasks 4 ≡ ascii "tasks 4\n"
-unfolding line-of-count said line formed filled shown numbers-left decimal digits digit ascii
+unfolding line-of-count said line formed filled filled-in numbers-left decimal digits digit ascii
 tasks = refl
 
 -- null
 pub null : line-of-value Null [] ≡ ascii "null\n"
-unfolding line-of-value said line formed filled shown numbers-left ascii
+unfolding line-of-value said line formed filled filled-in numbers-left ascii
 null = refl
 
 -- calldata in lower-case hex
 pub calldata : line-of-value (CallData (record { 0 = 1 })) (0x4a ∷ 0x62 ∷ []) ≡ ascii "calldata 4a62\n"
-unfolding line-of-value line formed filled shown numbers-left hex digit ascii
+unfolding line-of-value line formed filled filled-in numbers-left hex digit ascii
 calldata = refl
 
 -- numbers, one space between
@@ -104,7 +104,7 @@ no-numbers = refl
 
 -- the number alone
 pub bad : line-of-value (NoReturn (InvalidInstructionsIndex 7)) [] ≡ ascii "bad 12\n"
-unfolding line-of-value said line formed filled shown numbers-left decimal digits digit ascii
+unfolding line-of-value said line formed filled filled-in numbers-left decimal digits digit ascii
 bad = refl
 
 -- id, state and title
@@ -116,7 +116,7 @@ pub task : line-of-task (record {
   «title_len» = 2;
   title = 65 ∷ 98 ∷ 0 ∷ [];
 }) ≡ ascii "task 0 1 Ab\n"
-unfolding line-of-task line formed filled shown numbers-left decimal digits digit ascii
+unfolding line-of-task line formed filled filled-in numbers-left decimal digits digit ascii
 task = refl
 
 -- a line goes to the buffer's start, and the bytes past it stay

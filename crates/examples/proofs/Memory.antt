@@ -11,8 +11,9 @@ use Rattle.pools.specs.Pool.{end-of, start-of, bounds, entry-of}
 use Rattle.values.specs.Values.{to-vec-val, to-bool-val, make-vec-tagged, to-calldata-val, make-scalar-tagged, is-scalar, is-vec, raw-tag, to-u32, fat-pointer, to-fat-pointer, vec-type, scalar-type, get-value-type}
 use Rattle.values.specs.declared.FatPointer.{FatPointer}
 use Rattle.values.specs.declared.ValueResult.the-variants.{NoValue, Value}
-use Rattle.memory.specs.Allocation.{vector, alloc, offset-aligned, is-element-tag, filling, stored}
-use Rattle.memory.specs.Change.{mut-vec, element-size-bytes, scaled, little-endian, inside, changed}
+use Rattle.memory.specs.Allocation.{vector, alloc, offset-aligned, is-element-tag, filling, vector-stored}
+use Rattle.slices.specs.Numbers.{little-endian}
+use Rattle.memory.specs.Change.{mut-vec, element-size-bytes, scaled, inside, changed}
 use Rattle.memory.specs.Reads.{get-slice-bytes, is-m-slice-eq, get-slice-as-str, get-slice-as-u32}
 use Rattle.memory.specs.Unbox.{unbox-value, part-of, where-readable, text-at, numbers-at, where-bounded, by-type}
 use Rattle.memory.specs.declared.AllocResult.the-variants.{NotAllocated, Allocated}
@@ -64,7 +65,7 @@ pub record Examples : Type 0 where
   pub numbers-part : part-of memory pool ends (VecU32 (at 0 4)) ≡ 0x41 ∷ 0x62 ∷ 0x41 ∷ 0x62 ∷ []
 
 pub examples : Examples
-unfolding same UTF8-char holds lead from valid end-of start-of bounds entry-of make-scalar-tagged make-vec-tagged to-vec-val to-bool-val is-scalar is-vec raw-tag to-u32 fat-pointer to-fat-pointer vec-type scalar-type get-value-type offset-aligned is-element-tag vector filling stored alloc element-size-bytes scaled little-endian inside changed mut-vec is-m-slice-eq get-slice-as-str get-slice-as-u32 where-readable text-at numbers-at where-bounded by-type unbox-value part-of
+unfolding same UTF8-char holds lead from valid end-of start-of bounds entry-of make-scalar-tagged make-vec-tagged to-vec-val to-bool-val is-scalar is-vec raw-tag to-u32 fat-pointer to-fat-pointer vec-type scalar-type get-value-type offset-aligned is-element-tag vector filling vector-stored alloc element-size-bytes scaled little-endian inside changed mut-vec is-m-slice-eq get-slice-as-str get-slice-as-u32 where-readable text-at numbers-at where-bounded by-type unbox-value part-of
 examples = record {
   aligned = refl;
   no-vector = refl;

@@ -18,9 +18,9 @@ use Rattle.text.specs.declared.LineResult.the-variants.{Line, NoLine}
 use Rattle.text.specs.Lines.{Lined, lined, put-line}
 use Rattle.listing.specs.declared.Head.{Head}
 use Rattle.listing.specs.declared.Counted.the-variants.{Values}
-use Rattle.listing.specs.Listing.{Read, read-of, values-of, line-of-head, line-of-count, line-of-value}
+use Rattle.listing.specs.Listing.{ValueRead, read-of, values-read, line-of-head, line-of-count, line-of-value}
 use Rattle.listing.proofs.LineByLine.{values-length}
-use Rattle.host.specs.Listings.{start-of, put-from, counted, counting, next-line, next, put-values, tell, listing-of, with-lengths, measured, list}
+use Rattle.host.specs.Listings.{line-start, put-from, counted, counting, next-line, next, put-values, tell, listing-of, with-lengths, measured, list}
 
 -- ---- a line from a place on
 
@@ -80,7 +80,7 @@ module _ (start : ℕ) (out text : List ℕ) (inside : start ≤ length out) whe
 
 -- ---- one line more
 
-pub one-more : (keeps : Bool) (out text : List ℕ) {so-far : LineResult} {at start : ℕ} {put answer : LineResult} {after : List ℕ} → so-far ≡ Line at → start ≡ start-of keeps at
+pub one-more : (keeps : Bool) (out text : List ℕ) {so-far : LineResult} {at start : ℕ} {put answer : LineResult} {after : List ℕ} → so-far ≡ Line at → start ≡ line-start keeps at
     → lined put after ≡ put-from start out text → answer ≡ counted at put → lined answer after ≡ next-line keeps so-far out text
 unfolding next-line
 one-more keeps out text {so-far} {at} {start} {put} {answer} {after} is starts puts counts =
@@ -96,28 +96,28 @@ from-length start out text false test = ap (λ (l : Lined). length (l .out)) (fr
 
 next-length : (keeps : Bool) (so-far : LineResult) (out text : List ℕ) → length (next-line keeps so-far out text .out) ≡ length out
 unfolding next-line
-next-length keeps (Line at) out text = from-length (start-of keeps at) out text (leb (start-of keeps at + length text) (length out)) refl
+next-length keeps (Line at) out text = from-length (line-start keeps at) out text (leb (line-start keeps at + length text) (length out)) refl
 next-length keeps (NoLine refusal) out text = refl
 
 -- ---- the values
 
 -- the lines of so many values were put, those of the others make the whole
 pub record Telling (keeps : Bool) (memory pool ends : List ℕ) (entries : ℕ) (words : List ℕ) (whole : Lined) (size : ℕ) (told : LineResult) (out : List ℕ) (position : ℕ) : Type 0 where
-  pub so-far : put-values keeps (lined told out) (values-of memory pool ends entries (drop position words)) ≡ whole
+  pub so-far : put-values keeps (lined told out) (values-read memory pool ends entries (drop position words)) ≡ whole
   pub kept : length out ≡ size
 
 values-cons : (keeps : Bool) (memory pool ends : List ℕ) (entries : ℕ) (l : Lined) (word : ℕ) (more : List ℕ)
-    → put-values keeps l (values-of memory pool ends entries (word ∷ more))
-    ≡ put-values keeps (next keeps l (line-of-value (read-of memory pool ends entries word .answer) (read-of memory pool ends entries word .part))) (values-of memory pool ends entries more)
-unfolding values-of put-values
+    → put-values keeps l (values-read memory pool ends entries (word ∷ more))
+    ≡ put-values keeps (next keeps l (line-of-value (read-of memory pool ends entries word .answer) (read-of memory pool ends entries word .part))) (values-read memory pool ends entries more)
+unfolding values-read put-values
 values-cons keeps memory pool ends entries l word more = refl
 
-values-none : (keeps : Bool) (memory pool ends : List ℕ) (entries : ℕ) (l : Lined) → put-values keeps l (values-of memory pool ends entries []) ≡ l
-unfolding values-of put-values
+values-none : (keeps : Bool) (memory pool ends : List ℕ) (entries : ℕ) (l : Lined) → put-values keeps l (values-read memory pool ends entries []) ≡ l
+unfolding values-read put-values
 values-none keeps memory pool ends entries l = refl
 
 pub begun : (keeps : Bool) (memory pool ends : List ℕ) (entries : ℕ) (words : List ℕ) (so-far : LineResult) (out : List ℕ)
-    → Telling keeps memory pool ends entries words (put-values keeps (lined so-far out) (values-of memory pool ends entries words)) (length out) so-far out 0
+    → Telling keeps memory pool ends entries words (put-values keeps (lined so-far out) (values-read memory pool ends entries words)) (length out) so-far out 0
 begun keeps memory pool ends entries words so-far out = record { so-far = refl; kept = refl }
 
 pub turned : (keeps : Bool) (memory pool ends : List ℕ) (entries : ℕ) (words : List ℕ) {whole : Lined} {size : ℕ} {told : LineResult} {out : List ℕ} {position : ℕ} {answer : LineResult} {after : List ℕ}
@@ -128,9 +128,9 @@ turned keeps memory pool ends entries words {whole} {size} {told} {out} {positio
     let slots : drop position words ≡ getD words position 0 ∷ drop (position + 1) words = drop-cons words position 0 more ∙ ap (λ (k : ℕ). getD words position 0 ∷ drop k words) (sym (add-one position)) in
     record {
       so-far =
-          ap (λ (l : Lined). put-values keeps l (values-of memory pool ends entries (drop (position + 1) words))) put
+          ap (λ (l : Lined). put-values keeps l (values-read memory pool ends entries (drop (position + 1) words))) put
           ∙ sym (values-cons keeps memory pool ends entries (lined told out) (getD words position 0) (drop (position + 1) words))
-          ∙ sym (ap (λ (w : List ℕ). put-values keeps (lined told out) (values-of memory pool ends entries w)) slots)
+          ∙ sym (ap (λ (w : List ℕ). put-values keeps (lined told out) (values-read memory pool ends entries w)) slots)
           ∙ telling .so-far;
       kept =
           ap (λ (l : Lined). length (l .out)) put
@@ -142,7 +142,7 @@ pub ended : (keeps : Bool) (memory pool ends : List ℕ) (entries : ℕ) (words 
     → length words ≤ position → Telling keeps memory pool ends entries words whole size told out position → lined told out ≡ whole
 ended keeps memory pool ends entries words {told = told} {out = out} past telling =
     sym (values-none keeps memory pool ends entries (lined told out))
-    ∙ sym (ap (λ (w : List ℕ). put-values keeps (lined told out) (values-of memory pool ends entries w)) (drop-of-length-le words past))
+    ∙ sym (ap (λ (w : List ℕ). put-values keeps (lined told out) (values-read memory pool ends entries w)) (drop-of-length-le words past))
     ∙ telling .so-far
 
 -- ---- all lines
@@ -151,21 +151,21 @@ pub tells : (keeps : Bool) (memory pool ends : List ℕ) (entries : ℕ) (words 
     {a b c d : LineResult} {one two three four : List ℕ}
     → lined a one ≡ put-line out (line-of-head head)
     → lined b two ≡ next keeps (lined a one) (line-of-count Values (length words))
-    → lined c three ≡ put-values keeps (lined b two) (values-of memory pool ends entries words)
+    → lined c three ≡ put-values keeps (lined b two) (values-read memory pool ends entries words)
     → lined d four ≡ next keeps (lined c three) tasks
-    → lined d four ≡ tell keeps out head (values-of memory pool ends entries words) tasks
+    → lined d four ≡ tell keeps out head (values-read memory pool ends entries words) tasks
 unfolding tell
 tells keeps memory pool ends entries words out head tasks {a} {b} {c} {d} {one} {two} {three} {four} first second third fourth =
     fourth
     ∙ ap (λ (l : Lined). next keeps l tasks)
-    (third ∙ ap (λ (l : Lined). put-values keeps l (values-of memory pool ends entries words))
+    (third ∙ ap (λ (l : Lined). put-values keeps l (values-read memory pool ends entries words))
     (second
     ∙ ap (λ (n : ℕ). next keeps (lined a one) (line-of-count Values n)) (sym (values-length memory pool ends entries words))
-    ∙ ap (λ (l : Lined). next keeps l (line-of-count Values (length (values-of memory pool ends entries words)))) first))
+    ∙ ap (λ (l : Lined). next keeps l (line-of-count Values (length (values-read memory pool ends entries words)))) first))
 
 -- ---- whole or not at all
 
-module _ (listing scratch : List ℕ) (head : Head) (values : List Read) (tasks : List ℕ) {answer : LineResult} {after : List ℕ} (told : lined answer after ≡ tell false scratch head values tasks) where
+module _ (listing scratch : List ℕ) (head : Head) (values : List ValueRead) (tasks : List ℕ) {answer : LineResult} {after : List ℕ} (told : lined answer after ≡ tell false scratch head values tasks) where
   measuring : measured listing (tell true listing head values tasks) answer ≡ list listing scratch head values tasks
   unfolding list
   measuring = ap (λ (l : Lined). measured listing (tell true listing head values tasks) (l .answer)) told

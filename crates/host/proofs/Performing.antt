@@ -17,7 +17,7 @@ use Rattle.machine.specs.Creation.{blank-table, machine-of, made, create}
 use Rattle.machine.specs.Reads.{saved-to, host-save}
 use Rattle.host.specs.declared.hosting.RunSummary.{RunSummary}
 use Rattle.host.specs.Lines.{task-lines}
-use Rattle.host.specs.Hosting.{to-save, performed, RunSummaryIn, performed-in, with-lines, with-save, with-run, with-creation, perform, owned, without-table, own}
+use Rattle.host.specs.Hosting.{to-save, performed, RunSummaryIn, performed-in, with-lines, with-saved-image, with-run, with-creation, perform, owned, without-table, own}
 
 -- creation, start, save and the lines of the tasks
 pub performs : (fuel : ℕ) (table : List Task) (stack memory pool ends save image program lines : List ℕ)
@@ -32,12 +32,12 @@ pub performs : (fuel : ℕ) (table : List Task) (stack memory pool ends save ima
     → after (lined told l₄) t₄ ≡ after (task-lines t₃ lines) t₃
     → r ≡ performed creation report saved told
     → performed-in r t₄ s₃ m₃ p₃ e₃ v₃ i₁ g₁ l₄ ≡ perform fuel table stack memory pool ends save image program lines
-unfolding perform with-creation with-run with-save with-lines
+unfolding perform with-creation with-run with-saved-image with-lines
 performs fuel table stack memory pool ends save image program lines {creation} {t₁} {p₁} {e₁} {i₁} {g₁} {begun} {report} {t₂} {s₂} {m₂} {p₂} {e₂} {v₂} {saving} {saved} {t₃} {s₃} {m₃} {p₃} {e₃} {v₃} {told} {t₄} {l₄} {r} creates begins starts chooses saves tells sums =
     ap (λ (a : RunSummary). performed-in a t₄ s₃ m₃ p₃ e₃ v₃ i₁ g₁ l₄) sums
     ∙ ap (λ (a : After Lined (List Task)). performed-in (performed creation report saved (a .answer .answer)) (a .lent) s₃ m₃ p₃ e₃ v₃ i₁ g₁ (a .answer .out)) tells
-    ∙ ap (with-save creation report i₁ g₁ lines) saves
-    ∙ ap (λ (m : Machine). with-save creation report i₁ g₁ lines (host-save (world m t₂ s₂ m₂ p₂ e₂ v₂))) chooses
+    ∙ ap (with-saved-image creation report i₁ g₁ lines) saves
+    ∙ ap (λ (m : Machine). with-saved-image creation report i₁ g₁ lines (host-save (world m t₂ s₂ m₂ p₂ e₂ v₂))) chooses
     ∙ ap (with-run creation i₁ g₁ lines) starts
     ∙ ap (λ (m : Machine). with-run creation i₁ g₁ lines (start fuel (world m t₁ stack memory p₁ e₁ save))) begins
     ∙ ap (with-creation fuel stack memory save lines) creates

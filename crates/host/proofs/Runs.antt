@@ -8,7 +8,7 @@ use Rattle.host.specs.Hosting.{Owned, owned, own}
 use Rattle.host.specs.declared.answering.ListingLengths.{ListingLengths}
 use Rattle.host.specs.Listings.{Listing, listing-of, list-run}
 use Rattle.host.specs.AnsweringNumbers.{Told, told, answers}
-use Rattle.host.specs.Answering.{new-stack, new-ends, new-pool, new-lines, new-scratch, ran, with-numbers, with-listing, with-run, rafenuma-run}
+use Rattle.host.specs.Answering.{new-stack, new-ends, new-pool, new-lines, new-scratch, ran, with-numbers, with-listing, with-owned, rafenuma-run}
 
 pub runs-it : (fuel : ℕ) (memory image program new-image listing answer : List ℕ)
     {stack ends pool lines scratch : List ℕ} {performed : RunSummary} {stack′ memory′ pool′ ends′ new-image′ image′ program′ lines′ : List ℕ} {listed : ListingLengths} {listing′ : List ℕ} {r : ℕ} {answer′ : List ℕ}
@@ -18,17 +18,17 @@ pub runs-it : (fuel : ℕ) (memory image program new-image listing answer : List
     → listing-of listed listing′ ≡ list-run listing scratch stack′ memory′ pool′ ends′ lines′ performed
     → told r answer′ ≡ answers answer performed listed
     → ran r memory′ image′ program′ new-image′ listing′ answer′ ≡ rafenuma-run fuel memory image program new-image listing answer
-unfolding rafenuma-run with-run
+unfolding rafenuma-run with-owned
 runs-it fuel memory image program new-image listing answer {stack} {ends} {pool} {lines} {scratch} {performed} {stack′} {memory′} {pool′} {ends′} {new-image′} {image′} {program′} {lines′} {listed} {listing′} {r} {answer′} stacks endings pools lining owns scratches lists tells =
     let after : Owned = owned performed stack′ memory′ pool′ ends′ new-image′ image′ program′ lines′ in
     ap (λ (t : Told). with-numbers after (listing-of listed listing′) t) tells
     ∙ ap (λ (l : Listing). with-listing answer after l) lists
     ∙ ap (λ (s : List ℕ). with-listing answer after (list-run listing s stack′ memory′ pool′ ends′ lines′ performed)) scratches
-    ∙ ap (with-run listing answer) owns
-    ∙ ap (λ (s : List ℕ). with-run listing answer (own fuel s memory pool ends new-image image program lines)) stacks
-    ∙ ap (λ (e : List ℕ). with-run listing answer (own fuel new-stack memory pool e new-image image program lines)) endings
-    ∙ ap (λ (p : List ℕ). with-run listing answer (own fuel new-stack memory p new-ends new-image image program lines)) pools
-    ∙ ap (λ (l : List ℕ). with-run listing answer (own fuel new-stack memory new-pool new-ends new-image image program l)) lining
+    ∙ ap (with-owned listing answer) owns
+    ∙ ap (λ (s : List ℕ). with-owned listing answer (own fuel s memory pool ends new-image image program lines)) stacks
+    ∙ ap (λ (e : List ℕ). with-owned listing answer (own fuel new-stack memory pool e new-image image program lines)) endings
+    ∙ ap (λ (p : List ℕ). with-owned listing answer (own fuel new-stack memory p new-ends new-image image program lines)) pools
+    ∙ ap (λ (l : List ℕ). with-owned listing answer (own fuel new-stack memory new-pool new-ends new-image image program l)) lining
 
 -- ---- buffers of zeros
 

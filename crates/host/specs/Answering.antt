@@ -45,9 +45,9 @@ abbrev pub with-listing : List ℕ → Owned → Listing → RunOn
 with-listing answer o l = with-numbers o l (answers answer (o .answer) (l .answer))
 
 -- before it the run and its save
-unfoldable pub with-run : List ℕ → List ℕ → Owned → RunOn
-with-run listing answer o = with-listing answer o (list-run listing new-scratch (o .stack) (o .memory) (o .pool) (o .ends) (o .lines) (o .answer))
+unfoldable pub with-owned : List ℕ → List ℕ → Owned → RunOn
+with-owned listing answer o = with-listing answer o (list-run listing new-scratch (o .stack) (o .memory) (o .pool) (o .ends) (o .lines) (o .answer))
 
 unfoldable pub rafenuma-run : ℕ → List ℕ → List ℕ → List ℕ → List ℕ → List ℕ → List ℕ → RunOn
 rafenuma-run fuel memory image program new-image listing answer =
-    with-run listing answer (own fuel new-stack memory new-pool new-ends new-image image program new-lines)
+    with-owned listing answer (own fuel new-stack memory new-pool new-ends new-image image program new-lines)

@@ -29,13 +29,13 @@ abbrev pub unsavable : Machine → Machine
 unsavable machine = with-ids machine 257 (machine .count)
 
 -- the machine that is saved: one that no save takes, if the run was refused
-unfoldable pub saving : Outcome → Machine → Machine
-saving Done machine = machine
-saving Paused machine = machine
-saving (Refused refusal) machine = unsavable machine
+unfoldable pub machine-to-save : Outcome → Machine → Machine
+machine-to-save Done machine = machine
+machine-to-save Paused machine = machine
+machine-to-save (Refused refusal) machine = unsavable machine
 
 abbrev pub to-save : Report → Machine
-to-save report = saving (report .outcome) (report .machine)
+to-save report = machine-to-save (report .outcome) (report .machine)
 
 -- how a run ended: a refused creation, or what the run reports
 unfoldable pub run-head : ℕ → Outcome → Head
@@ -85,13 +85,13 @@ with-lines creation report image program s l =
     performed-in (performed creation report (s .report) (l .answer)) (s .table) (s .stack) (s .memory) (s .pool) (s .ends) (s .save) image program (l .out)
 
 -- before them the save
-unfoldable pub with-save : CreateResult → Report → List ℕ → List ℕ → List ℕ → SavedTo → RunSummaryIn
-with-save creation report image program lines s = with-lines creation report image program s (task-lines (s .table) lines)
+unfoldable pub with-saved-image : CreateResult → Report → List ℕ → List ℕ → List ℕ → SavedTo → RunSummaryIn
+with-saved-image creation report image program lines s = with-lines creation report image program s (task-lines (s .table) lines)
 
 -- before it the run
 unfoldable pub with-run : CreateResult → List ℕ → List ℕ → List ℕ → Reported → RunSummaryIn
 with-run creation image program lines r =
-    with-save creation (r .report) image program lines
+    with-saved-image creation (r .report) image program lines
     (host-save (world (to-save (r .report)) (r .table) (r .stack) (r .memory) (r .pool) (r .ends) (r .save)))
 
 -- before it the creation

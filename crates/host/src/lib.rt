@@ -12,7 +12,7 @@ ghost use mathlib.Core.Path.{_≡_};
 ghost use Rattle.labels.specs.Check.{admission};
 ghost use Rattle.admission.specs.Answer.{answered};
 ghost use Rattle.image.specs.Image.{read-image};
-ghost use Rattle.image.specs.Reading.{tested};
+ghost use Rattle.image.specs.Reading.{image-result};
 ghost use Rattle.host.specs.Numbers.{admitted, packed-admission, packed-image};
 ghost use Rattle.host.specs.Answering.{ran, rafenuma-run};
 use crate::reasons::number_and_detail;
@@ -51,7 +51,7 @@ pub extern "C" fn rafenuma_admit(program: &[u8], kinds: &mut [u8; 1000]) -> u64
 // Whether an image is sound.
 #[no_mangle]
 pub extern "C" fn rafenuma_test_image(image: &[u8]) -> u64
-    ensures { λ r. ⌜ r ≡ packed-image (tested (read-image (now (image .entry)))) ⌝ }
+    ensures { λ r. ⌜ r ≡ packed-image (image-result (read-image (now (image .entry)))) ⌝ }
 {
     match test_image(image) {
         ImageResult::NotSound(refusal) => number_beside(refusal),

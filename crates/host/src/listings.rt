@@ -2,9 +2,9 @@
 ghost use mathlib.Core.Path.{_≡_};
 ghost use Rattle.memory.specs.Unbox.{part-of};
 ghost use Rattle.text.specs.Lines.{lined};
-ghost use Rattle.listing.specs.Listing.{read-of, values-of, line-of-count, line-of-value};
+ghost use Rattle.listing.specs.Listing.{read-of, values-read, line-of-count, line-of-value};
 ghost use Rattle.listing.specs.declared.Counted.the-variants.{Values};
-ghost use Rattle.host.specs.Listings.{start-of, counted, put-from, next, put-values, tell, listing-of, list, list-run};
+ghost use Rattle.host.specs.Listings.{line-start, counted, put-from, next, put-values, tell, listing-of, list, list-run};
 use crate::answering::ListingLengths;
 use crate::hosting::RunSummary;
 use errors::Refusal;
@@ -14,8 +14,8 @@ use memory::unbox::Return;
 use text::LineResult;
 
 // Where a line goes: behind the lines so far where they are kept, else at the buffer's start.
-fn start_of(keeps: bool, at: usize) -> usize
-    ensures { λ r. ⌜ r ≡ start-of keeps at ⌝ }
+fn line_start(keeps: bool, at: usize) -> usize
+    ensures { λ r. ⌜ r ≡ line-start keeps at ⌝ }
 {
     if keeps {
         return at;
@@ -85,7 +85,7 @@ fn put_count(out: &mut [u8], so_far: LineResult, keeps: bool, count: usize) -> L
 {
     match so_far {
         LineResult::NoLine(refusal) => LineResult::NoLine(refusal),
-        LineResult::Line(at) => counted(at, count_from(out, start_of(keeps, at), count)),
+        LineResult::Line(at) => counted(at, count_from(out, line_start(keeps, at), count)),
     }
 }
 
@@ -108,7 +108,7 @@ fn put_value<'a>(
             let kind = memory::unbox::unbox_value(memory, ends, entries, word);
             counted(
                 at,
-                value_from(out, memory, pool, ends, start_of(keeps, at), kind),
+                value_from(out, memory, pool, ends, line_start(keeps, at), kind),
             )
         }
     }
@@ -120,7 +120,7 @@ fn put_text(out: &mut [u8], text: &[u8], so_far: LineResult, keeps: bool) -> Lin
 {
     match so_far {
         LineResult::NoLine(refusal) => LineResult::NoLine(refusal),
-        LineResult::Line(at) => counted(at, text_from(out, text, start_of(keeps, at))),
+        LineResult::Line(at) => counted(at, text_from(out, text, line_start(keeps, at))),
     }
 }
 
@@ -135,7 +135,7 @@ fn put_values<'a>(
     keeps: bool,
     entries: usize,
 ) -> LineResult
-    ensures { λ r. ⌜ lined r (now (out .exit)) ≡ put-values keeps (lined «so_far» (now (out .entry))) (values-of (now (memory .entry)) (now (pool .entry)) (now (ends .entry)) entries (now (words .entry))) ⌝ }
+    ensures { λ r. ⌜ lined r (now (out .exit)) ≡ put-values keeps (lined «so_far» (now (out .entry))) (values-read (now (memory .entry)) (now (pool .entry)) (now (ends .entry)) entries (now (words .entry))) ⌝ }
 {
     let mut told = so_far;
     let mut position = 0;
@@ -167,7 +167,7 @@ fn tell<'a>(
     keeps: bool,
     entries: usize,
 ) -> LineResult
-    ensures { λ r. ⌜ lined r (now (out .exit)) ≡ tell keeps (now (out .entry)) head (values-of (now (memory .entry)) (now (pool .entry)) (now (ends .entry)) entries (now (words .entry))) (now (tasks .entry)) ⌝ }
+    ensures { λ r. ⌜ lined r (now (out .exit)) ≡ tell keeps (now (out .entry)) head (values-read (now (memory .entry)) (now (pool .entry)) (now (ends .entry)) entries (now (words .entry))) (now (tasks .entry)) ⌝ }
 {
     let first = listing::head_line::head_line(out, head);
     let second = put_count(out, first, keeps, words.len());
@@ -187,7 +187,7 @@ fn whole<'a>(
     head: Head,
     entries: usize,
 ) -> ListingLengths
-    ensures { λ r. ⌜ listing-of r (now (listing .exit)) ≡ list (now (listing .entry)) (now (scratch .entry)) head (values-of (now (memory .entry)) (now (pool .entry)) (now (ends .entry)) entries (now (words .entry))) (now (tasks .entry)) ⌝ }
+    ensures { λ r. ⌜ listing-of r (now (listing .exit)) ≡ list (now (listing .entry)) (now (scratch .entry)) head (values-read (now (memory .entry)) (now (pool .entry)) (now (ends .entry)) entries (now (words .entry))) (now (tasks .entry)) ⌝ }
 {
     match tell(
         scratch,

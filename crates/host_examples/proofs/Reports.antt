@@ -6,7 +6,7 @@ use Rattle.labels.specs.Check.{admitted, refused}
 use Rattle.labels.specs.declared.Kind.the-variants.{Calldata, Number}
 use Rattle.text.specs.Ascii.{ascii}
 use Rattle.text.specs.Lines.{formed, line, said}
-use Rattle.text.specs.Numbers.{digit, digits, decimal, hex, spaced, words, shown, numbers-left, filled}
+use Rattle.text.specs.Numbers.{digit, digits, decimal, hex, spaced, words, filled-in, numbers-left, filled}
 use Rattle.listing.specs.Listing.{line-of-refusal, line-of-head}
 use Rattle.report.specs.Reports.{line-of-report, text-of-word}
 use Rattle.report.specs.declared.Report.{Report}
@@ -35,7 +35,7 @@ pub record Examples : Type 0 where
   pub refused-line : line-of-verdict (refused (NotAdmitted 16)) ≡ ascii "refused 27 16\n"
 
 pub examples : Examples
-unfolding ascii formed line said digit digits decimal hex spaced words shown numbers-left filled line-of-refusal line-of-head line-of-report text-of-word line-of-kinds line-of-verdict
+unfolding ascii formed line said digit digits decimal hex spaced words filled-in numbers-left filled line-of-refusal line-of-head line-of-report text-of-word line-of-kinds line-of-verdict
 examples = record {
   machine-line = refl;
   loop-line = refl;

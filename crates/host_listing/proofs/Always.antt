@@ -30,13 +30,13 @@ use Rattle.laws.proofs.Refused.{creation-not-created}
 use Rattle.listing.specs.declared.Head.{Head}
 use Rattle.listing.specs.declared.Head.the-variants as head
 use Rattle.listing.specs.declared.Counted.the-variants.{Values, Tasks}
-use Rattle.listing.specs.Listing.{Read, values-of, height-of, line-of-count, lines-of-tasks, listing}
+use Rattle.listing.specs.Listing.{ValueRead, values-read, height-of, line-of-count, lines-of-tasks, listing}
 use Rattle.listing.proofs.LineByLine.{values-length}
 use Rattle.listing.proofs.Short.{numbers-told, head-short, count-short, Small, task-short, tasks-short, living-most}
 use Rattle.host.specs.Lines.{task-lines}
-use Rattle.host.specs.Hosting.{to-save, performed, RunSummaryIn, with-lines, with-save, with-run, with-creation, perform, without-table, own}
+use Rattle.host.specs.Hosting.{to-save, performed, RunSummaryIn, with-lines, with-saved-image, with-run, with-creation, perform, without-table, own}
 use Rattle.host.specs.Listings.{Listing, listing-of, with-lengths, list, list-run}
-use Rattle.host.specs.Answering.{new-stack, new-ends, new-pool, new-lines, new-scratch, with-listing, with-run as list-after, rafenuma-run}
+use Rattle.host.specs.Answering.{new-stack, new-ends, new-pool, new-lines, new-scratch, with-listing, with-owned as list-after, rafenuma-run}
 use Rattle.host_listing.proofs.Tasks.{text-of}
 use Rattle.host_listing.proofs.Whole.{Short, text, text-length, Fits, whole-listing, no-listing, tasks-listed}
 use Rattle.host_listing.proofs.Refusals.{stays-stopped}
@@ -86,7 +86,7 @@ record Left (p : RunSummaryIn) (lines : List ℕ) : Type 0 where
 
 -- the save and the lines of the tasks leave what the run left
 after-run : (creation : CreateResult) (image program lines : List ℕ) (r : Reported) → Bounded (r .table) (r .ends) (r .report .machine) → Left (with-run creation image program lines r) lines
-unfolding with-run with-save with-lines performed
+unfolding with-run with-saved-image with-lines performed
 after-run creation image program lines r bounded = record {
   machine = r .report .machine;
   bounded =
@@ -129,8 +129,8 @@ pub record Typed (p : RunSummaryIn) : Type 0 where
   pub numbers : (i : ℕ) → getD (numbers-told (p .answer .head)) i 0 < 18446744073709551616
 
 -- the values that are listed
-abbrev pub values-left : RunSummaryIn → List Read
-values-left p = values-of (take (p .answer .memory) (drop 0 (p .memory))) (p .pool) (p .ends) (p .answer .entries) (take (p .answer .height) (p .stack))
+abbrev pub values-left : RunSummaryIn → List ValueRead
+values-left p = values-read (take (p .answer .memory) (drop 0 (p .memory))) (p .pool) (p .ends) (p .answer .entries) (take (p .answer .height) (p .stack))
 
 -- the listing of document 01
 abbrev pub whole : RunSummaryIn → List ℕ

@@ -26,7 +26,7 @@ use Rattle.machine.specs.Creation.{blank-table, Made, create-behind, create-fit
 use Rattle.machine.specs.Reads.{saved-to, not-saved, host-save}
 use Rattle.laws.proofs.Refused.{start-in-phase}
 use Rattle.host.specs.Lines.{task-lines}
-use Rattle.host.specs.Hosting.{unsavable, saving, with-lines, with-save, with-run, with-creation, perform, own}
+use Rattle.host.specs.Hosting.{unsavable, machine-to-save, with-lines, with-saved-image, with-run, with-creation, perform, own}
 
 -- ---- the image and the program
 
@@ -51,11 +51,11 @@ created-program table pool ends image program (Fit next-id count s-len) = behind
 created-program table pool ends image program (Unfit refusal) = refl
 
 performed-image : (fuel : ℕ) (stack memory save lines : List ℕ) (m : Made) → with-creation fuel stack memory save lines m .image ≡ m .image
-unfolding with-creation with-run with-save with-lines
+unfolding with-creation with-run with-saved-image with-lines
 performed-image fuel stack memory save lines m = refl
 
 performed-program : (fuel : ℕ) (stack memory save lines : List ℕ) (m : Made) → with-creation fuel stack memory save lines m .program ≡ m .program
-unfolding with-creation with-run with-save with-lines
+unfolding with-creation with-run with-saved-image with-lines
 performed-program fuel stack memory save lines m = refl
 
 module _ (fuel : ℕ) (stack memory pool ends save image program lines : List ℕ) where
@@ -103,11 +103,11 @@ not-taken machine table stack memory pool ends save = rw (unsound machine table 
 -- what a refused run leaves is what is left: the save buffer is as the run left it
 pub refused-run : (creation : CreateResult) (image program lines : List ℕ) (r : Reported) {refusal : Refusal} → r .report .outcome ≡ Refused refusal
     → with-run creation image program lines r
-    ≡ with-save creation (r .report) image program lines (saved-to (not-saved (unsavable (r .report .machine))) (r .table) (r .stack) (r .memory) (r .pool) (r .ends) (r .save))
-unfolding with-run saving
+    ≡ with-saved-image creation (r .report) image program lines (saved-to (not-saved (unsavable (r .report .machine))) (r .table) (r .stack) (r .memory) (r .pool) (r .ends) (r .save))
+unfolding with-run machine-to-save
 refused-run creation image program lines r is =
-    ap (λ (o : Outcome). with-save creation (r .report) image program lines (host-save (world (saving o (r .report .machine)) (r .table) (r .stack) (r .memory) (r .pool) (r .ends) (r .save)))) is
-    ∙ ap (with-save creation (r .report) image program lines) (not-taken (r .report .machine) (r .table) (r .stack) (r .memory) (r .pool) (r .ends) (r .save))
+    ap (λ (o : Outcome). with-saved-image creation (r .report) image program lines (host-save (world (machine-to-save o (r .report .machine)) (r .table) (r .stack) (r .memory) (r .pool) (r .ends) (r .save)))) is
+    ∙ ap (with-saved-image creation (r .report) image program lines) (not-taken (r .report .machine) (r .table) (r .stack) (r .memory) (r .pool) (r .ends) (r .save))
 
 -- ---- a refused creation
 
@@ -116,7 +116,7 @@ pub refused-creation : (fuel : ℕ) (stack memory save lines : List ℕ) (m : Ma
     → with-creation fuel stack memory save lines m
     ≡ with-lines (NotCreated refusal) (not-allowed stopped) (m .image) (m .program)
     (saved-to (not-saved (unsavable stopped)) (m .table) stack memory (m .pool) (m .ends) save) (task-lines (m .table) lines)
-unfolding with-creation with-save machine-of
+unfolding with-creation with-saved-image machine-of
 refused-creation fuel stack memory save lines m {refusal} is =
     ap (λ (a : CreateResult). with-run a (m .image) (m .program) lines (start fuel (world (machine-of a) (m .table) stack memory (m .pool) (m .ends) save))) is
     ∙ ap (with-run (NotCreated refusal) (m .image) (m .program) lines) (stays-stopped fuel (m .table) stack memory (m .pool) (m .ends) save)

@@ -21,7 +21,7 @@ use Rattle.memory.specs.declared.ReadResult.the-variants.{Readable, NotReadable
 use Rattle.memory.specs.Unbox.{where-readable, text-at, unbox-text, numbers-at, unbox-numbers, where-bounded, unbox-calldata, by-type, unbox-value, part-of}
 use Rattle.memory.specs.declared.unbox.Return.{Return}
 use Rattle.memory.specs.declared.unbox.Return.the-variants.{U32, Boolean, String, CallData, VecU32, Null, NoReturn}
-use Rattle.listing.specs.Listing.{Read, values-of, line-of-value, lines-of-values}
+use Rattle.listing.specs.Listing.{ValueRead, values-read, line-of-value, lines-of-values}
 use Rattle.listing.proofs.Longest.{number-fits, longest-calldata, longest}
 use Rattle.laws.proofs.Either.{either}
 use Rattle.host_listing.proofs.Whole.{Short}
@@ -131,13 +131,13 @@ module _ (memory pool ends : List ℕ) (entries : ℕ) (byte : Bytes memory) (sh
   -- ---- all of them
 
   -- each line has room
-  pub values-short : (words : List ℕ) → Short 196608 (values-of memory pool ends entries words)
-  unfolding Short values-of
+  pub values-short : (words : List ℕ) → Short 196608 (values-read memory pool ends entries words)
+  unfolding Short values-read
   values-short [] = omega arith
   values-short (word ∷ more) = (value-roomy word, values-short more)
 
 -- the lines of so many
-pub lines-short : (values : List Read) → Short 196608 values → length (lines-of-values values) ≤ 196608 * length values
+pub lines-short : (values : List ValueRead) → Short 196608 values → length (lines-of-values values) ≤ 196608 * length values
 unfolding Short lines-of-values
 lines-short [] short = omega arith
 lines-short (read ∷ more) short =

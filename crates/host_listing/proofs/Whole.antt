@@ -14,7 +14,7 @@ use Rattle.text.specs.declared.LineResult.the-variants.{Line}
 use Rattle.text.specs.Lines.{Lined, lined, put-line}
 use Rattle.listing.specs.declared.Head.{Head}
 use Rattle.listing.specs.declared.Counted.the-variants.{Values}
-use Rattle.listing.specs.Listing.{Read, values-of, line-of-head, line-of-count, line-of-value, lines-of-values, listing}
+use Rattle.listing.specs.Listing.{ValueRead, values-read, line-of-head, line-of-count, line-of-value, lines-of-values, listing}
 use Rattle.storage.specs.declared.Task.{Task}
 use Rattle.host.specs.Lines.{task-lines}
 use Rattle.host.specs.declared.hosting.RunSummary.{RunSummary}
@@ -63,11 +63,11 @@ measures-one at out text fits small =
 -- ---- the values
 
 -- each line has room in a buffer of this size
-unfoldable pub Short : ℕ → List Read → Type 0
+unfoldable pub Short : ℕ → List ValueRead → Type 0
 Short size [] = 0 ≤ size
 Short size (read ∷ more) = (length (line-of-value (read .answer) (read .part)) ≤ size) × Short size more
 
-keeps-values : (out before : List ℕ) (values : List Read) → length before + length (lines-of-values values) ≤ length out → length out ≤ most
+keeps-values : (out before : List ℕ) (values : List ValueRead) → length before + length (lines-of-values values) ≤ length out → length out ≤ most
     → put-values true (lined (Line (length before)) (sets out 0 before)) values ≡ lined (Line (length (before ++ lines-of-values values))) (sets out 0 (before ++ lines-of-values values))
 unfolding put-values lines-of-values
 keeps-values out before [] fits small = ap (λ (l : List ℕ). lined (Line (length l)) (sets out 0 l)) (sym (append-nil before))
@@ -97,7 +97,7 @@ measured-one size at l text m fits small =
 at-total : (size : ℕ) (l : Lined) {m n : ℕ} → m ≡ n → Measured size m l → Measured size n l
 at-total size l e m = record { is = m .is ∙ ap Line e; kept = m .kept }
 
-measured-values : (size at : ℕ) (l : Lined) (values : List Read) → Measured size at l → Short size values → at + length (lines-of-values values) ≤ most
+measured-values : (size at : ℕ) (l : Lined) (values : List ValueRead) → Measured size at l → Short size values → at + length (lines-of-values values) ≤ most
     → Measured size (at + length (lines-of-values values)) (put-values false l values)
 unfolding put-values lines-of-values Short
 measured-values size at l [] m short small = at-total size l (omega arith) m
@@ -121,7 +121,7 @@ is-not-held lent l needed test = rw test
 
 -- ---- all lines
 
-module _ (head : Head) (values : List Read) (tasks : List ℕ) where
+module _ (head : Head) (values : List ValueRead) (tasks : List ℕ) where
   -- the listing of document 01: how the run ended, how many values, the values, the lines of the tasks
   abbrev pub text : List ℕ
   text = line-of-head head ++ (line-of-count Values (length values) ++ (lines-of-values values ++ tasks))
@@ -196,7 +196,7 @@ module _ (head : Head) (values : List Read) (tasks : List ℕ) where
 -- ---- the listing of a run
 
 -- the lines of a run, with those of its tasks, are the listing of document 01
-pub is-the-listing : (head : Head) (values : List Read) (table : List Task) → text head values (text-of table) ≡ listing head values table
+pub is-the-listing : (head : Head) (values : List ValueRead) (table : List Task) → text head values (text-of table) ≡ listing head values table
 unfolding listing
 is-the-listing head values table = refl
 
@@ -204,9 +204,9 @@ is-the-listing head values table = refl
 pub tasks-listed : (lent scratch stack memory pool ends lines before : List ℕ) (performed : RunSummary) (table : List Task)
     → lined (performed .lines) lines ≡ task-lines table before → length (text-of table) ≤ length before
     → list-run lent scratch stack memory pool ends lines performed
-    ≡ list lent scratch (performed .head) (values-of (take (performed .memory) (drop 0 memory)) pool ends (performed .entries) (take (performed .height) stack)) (text-of table)
+    ≡ list lent scratch (performed .head) (values-read (take (performed .memory) (drop 0 memory)) pool ends (performed .entries) (take (performed .height) stack)) (text-of table)
 unfolding with-tasks
 tasks-listed lent scratch stack memory pool ends lines before performed table told fits =
     ap (λ (l : Lined). with-tasks lent scratch stack memory pool ends (l .out) performed (l .answer)) (told ∙ all-tasks table before fits)
-    ∙ ap (list lent scratch (performed .head) (values-of (take (performed .memory) (drop 0 memory)) pool ends (performed .entries) (take (performed .height) stack)))
+    ∙ ap (list lent scratch (performed .head) (values-read (take (performed .memory) (drop 0 memory)) pool ends (performed .entries) (take (performed .height) stack)))
     (read-back before (text-of table) fits)

@@ -4,7 +4,7 @@ use mathlib.Core.List.{List, [], _∷_, _++_}
 use mathlib.Core.Path.{_≡_, refl, ap, sym, _∙_}
 use native.Mathlib.Omega.{arith}
 use lib.ListN.{length, getD, take, drop}
-use Rattle.image.specs.Numbers.{little-endian, number-at, Bytes, none, byte}
+use Rattle.slices.specs.Numbers.{little-endian, number-at, Bytes, none, byte}
 
 -- two numbers of two bytes are one of four
 pub four-at : (bytes : List ℕ) (place : ℕ) → number-at 4 bytes place ≡ number-at 2 bytes place + number-at 2 bytes (place + 2) * 65536

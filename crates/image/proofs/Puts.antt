@@ -9,8 +9,8 @@ use lib.ListN.{length, take, drop, length-append, length-take, length-drop}
 use lib.Seq.{sets, length-sets}
 use borrow.Author.Tests.{leb-true, leb-false}
 use Rattle.errors.specs.declared.Refusal.the-variants.{BytesToStringConversionError}
-use Rattle.image.specs.Image.{ImageTask, framed, body}
-use Rattle.image.specs.Numbers.{little-endian}
+use Rattle.image.specs.Image.{ImageTask, record-of, body}
+use Rattle.slices.specs.Numbers.{little-endian}
 use Rattle.image.specs.Walking.{on}
 use Rattle.image.specs.Slots.{saved-task}
 use Rattle.image.specs.Writing.{Put, put, puts, size-of}
@@ -64,13 +64,13 @@ unfolding body little-endian
 body-size task = omega (arith, length-append (task .title) (task .instructions))
 
 -- a record's length
-pub record-size : (task : ImageTask) → length (framed 2 (body task)) ≡ 14 + (length (task .title) + length (task .instructions))
-unfolding framed little-endian
+pub record-size : (task : ImageTask) → length (record-of 2 (body task)) ≡ 14 + (length (task .title) + length (task .instructions))
+unfolding record-of little-endian
 record-size task = omega (arith, body-size task)
 
 -- a record, opened
-pub framed-open : (bytes rest : List ℕ) (kind size : ℕ) → length bytes ≡ size → framed kind bytes ++ rest ≡ little-endian 4 size ++ (little-endian 2 kind ++ (bytes ++ rest))
-unfolding framed
+pub framed-open : (bytes rest : List ℕ) (kind size : ℕ) → length bytes ≡ size → record-of kind bytes ++ rest ≡ little-endian 4 size ++ (little-endian 2 kind ++ (bytes ++ rest))
+unfolding record-of
 framed-open bytes rest kind size e = rw e (simp append-assoc)
 
 pub body-open : (task : ImageTask) (rest : List ℕ) → body task ++ rest ≡ little-endian 4 (task .id) ++ (task .count ∷ task .state ∷ (little-endian 2 (length (task .title)) ++ (task .title ++ (task .instructions ++ rest))))
@@ -78,8 +78,8 @@ unfolding body
 body-open task rest = simp append-assoc
 
 -- the first 14 bytes, the title and the instructions are the record
-pieces : (task : ImageTask) → little-endian 4 (8 + length (task .title) + length (task .instructions)) ++ little-endian 2 2 ++ little-endian 4 (task .id) ++ task .count ∷ task .state ∷ little-endian 2 (length (task .title)) ++ task .title ++ task .instructions ≡ framed 2 (body task)
-unfolding framed body
+pieces : (task : ImageTask) → little-endian 4 (8 + length (task .title) + length (task .instructions)) ++ little-endian 2 2 ++ little-endian 4 (task .id) ++ task .count ∷ task .state ∷ little-endian 2 (length (task .title)) ++ task .title ++ task .instructions ≡ record-of 2 (body task)
+unfolding record-of body
 pieces task =
     let n : length (body task) ≡ 8 + length (task .title) + length (task .instructions) = omega (arith, body-size task) in
     rw n (simp append-assoc)
@@ -89,7 +89,7 @@ pub record-put : (save : List ℕ) (at : ℕ) (slot : Task) (instructions : List
     → title ≡ take (slot .«title_len») (slot .title)
     → first ≡ little-endian 4 (8 + length title + length instructions) ++ little-endian 2 2 ++ little-endian 4 (slot .id .0) ++ slot .state .len ∷ slot .state .state ∷ little-endian 2 (length title)
     → put behind one ≡ puts save at first → put behind-title two ≡ puts one behind title → put last three ≡ puts two behind-title instructions
-    → put last three ≡ puts save at (framed 2 (body (saved-task slot instructions)))
+    → put last three ≡ puts save at (record-of 2 (body (saved-task slot instructions)))
 unfolding saved-task
 record-put save at slot instructions {first} {title} t f a b c =
     let x = then save at first title a b in
@@ -115,7 +115,7 @@ module _ (slot : Task) (instructions : List ℕ) {title : List ℕ} {test : Bool
   pub size-is : test ≡ true → Size (14 + length title + length instructions) ≡ size-of (saved-task slot instructions)
   unfolding size-of saved-task
   size-is held =
-      let n : 14 + length (take (slot .«title_len») (slot .title)) + length instructions ≡ length (framed 2 (body (saved-task slot instructions))) = omega (arith, record-size (saved-task slot instructions)) in
+      let n : 14 + length (take (slot .«title_len») (slot .title)) + length instructions ≡ length (record-of 2 (body (saved-task slot instructions))) = omega (arith, record-size (saved-task slot instructions)) in
       rw (← t, ← v, held, t) (ap Size n)
 
 -- a part of a title's bytes is no longer than they are

@@ -9,7 +9,7 @@ use lib.ListN.{length, drop}
 use borrow.Author.Tests.{eqb-true, eqb-false}
 use Rattle.image.proofs.Rules.{Rules, good-rules, Head, headed-head}
 use Rattle.image.proofs.Walks.{read-next, read-some}
-use Rattle.image.specs.Image.{ImageTask, Image, Read, sound, bad-at, body-length, next-id-in, task-count, id-in, task-at, headed, good, joined, read-from, counted, read-image}
+use Rattle.image.specs.Image.{ImageTask, Image, Parsed, sound, bad-at, body-length, next-id-in, task-count, id-in, task-at, headed, good, task-before, read-from, with-count, read-image}
 
 -- what was found is not a place
 pub not-bad : {A B : Type 0} {place : ℕ} {found : A} → bad-at place ≡ sound found → B
@@ -19,12 +19,12 @@ pub read-none : (next-id low place : ℕ) (bytes : List ℕ) → read-from 0 nex
 unfolding read-from
 read-none next-id low place bytes = refl
 
-pub joined-sound : (task : ImageTask) (tasks : List ImageTask) → joined task (sound tasks) ≡ sound (task ∷ tasks)
-unfolding joined
+pub joined-sound : (task : ImageTask) (tasks : List ImageTask) → task-before task (sound tasks) ≡ sound (task ∷ tasks)
+unfolding task-before
 joined-sound task tasks = refl
 
-pub joined-bad : (task : ImageTask) (place : ℕ) → joined task (bad-at place) ≡ bad-at place
-unfolding joined
+pub joined-bad : (task : ImageTask) (place : ℕ) → task-before task (bad-at place) ≡ bad-at place
+unfolding task-before
 joined-bad task place = refl
 
 -- how reading goes on from a record, where it finds tasks
@@ -42,20 +42,20 @@ pub data Goes (bound next-id low place : ℕ) (bytes : List ℕ) (tasks : List I
 pub goes : (bound next-id low place : ℕ) (bytes : List ℕ) (tasks : List ImageTask) → read-from (suc bound) next-id low place bytes ≡ sound tasks → Goes bound next-id low place bytes tasks
 goes bound next-id low place bytes tasks e = by-end (eqb (length bytes) 0) refl (sym (read-next bound next-id low place bytes) ∙ e)
   where
-    rest : Read (List ImageTask)
+    rest : Parsed (List ImageTask)
     rest = read-from bound next-id (id-in bytes + 1) (place + (6 + body-length bytes)) (drop (6 + body-length bytes) bytes)
 
-    by-found : (r : Read (List ImageTask)) → rest ≡ r → good next-id low bytes ≡ true → joined (task-at bytes) r ≡ sound tasks → Step bound next-id low place bytes tasks
+    by-found : (r : Parsed (List ImageTask)) → rest ≡ r → good next-id low bytes ≡ true → task-before (task-at bytes) r ≡ sound tasks → Step bound next-id low place bytes tasks
     by-found (bad-at p) q g j = not-bad (sym (joined-bad (task-at bytes) p) ∙ j)
     by-found (sound us) q g j =
         let n : sound (task-at bytes ∷ us) ≡ sound tasks = sym (joined-sound (task-at bytes) us) ∙ j in
         record { rules = good-rules next-id low bytes g; rest = us; all = cc; later = q }
 
-    by-good : (c : Bool) → good next-id low bytes ≡ c → cond c (joined (task-at bytes) rest) (bad-at place) ≡ sound tasks → Step bound next-id low place bytes tasks
+    by-good : (c : Bool) → good next-id low bytes ≡ c → cond c (task-before (task-at bytes) rest) (bad-at place) ≡ sound tasks → Step bound next-id low place bytes tasks
     by-good true g j = by-found rest refl g j
     by-good false g j = not-bad j
 
-    by-end : (c : Bool) → eqb (length bytes) 0 ≡ c → cond c (sound []) (cond (good next-id low bytes) (joined (task-at bytes) rest) (bad-at place)) ≡ sound tasks → Goes bound next-id low place bytes tasks
+    by-end : (c : Bool) → eqb (length bytes) 0 ≡ c → cond c (sound []) (cond (good next-id low bytes) (task-before (task-at bytes) rest) (bad-at place)) ≡ sound tasks → Goes bound next-id low place bytes tasks
     by-end true q j = at-end (eqb-true (length bytes) 0 q) j
     by-end false q j =
         let some : length bytes ≡ 0 → ⊥ = eqb-false (length bytes) 0 q in
@@ -70,10 +70,10 @@ pub record Loaded (bytes : List ℕ) (image : Image) : Type 0 where
 
 -- the header and the records of what was read
 pub loaded : (bytes : List ℕ) (image : Image) → 0 < length bytes → read-image bytes ≡ sound image → Loaded bytes image
-unfolding counted
+unfolding with-count
 loaded bytes image some e = by-head (headed bytes) refl (sym (read-some bytes some) ∙ e)
   where
-    rest : Read (List ImageTask)
+    rest : Parsed (List ImageTask)
     rest = read-from (length bytes) (next-id-in bytes) 0 14 (drop 14 bytes)
 
     by-count : (tasks : List ImageTask) (c : Bool) → eqb (length tasks) (task-count bytes) ≡ c → rest ≡ sound tasks → headed bytes ≡ true → cond c (sound (record { next-id = next-id-in bytes; tasks = tasks })) (bad-at 0) ≡ sound image → Loaded bytes image
@@ -82,10 +82,10 @@ loaded bytes image some e = by-head (headed bytes) refl (sym (read-some bytes so
         let n : record { next-id = next-id-in bytes; tasks = tasks } ≡ image = cc in
         subst (λ (i : Image). Loaded bytes i) n (record { head = headed-head bytes g; next-id-is = refl; count-is = eqb-true _ _ c; read = q })
 
-    by-found : (r : Read (List ImageTask)) → rest ≡ r → headed bytes ≡ true → counted (next-id-in bytes) (task-count bytes) r ≡ sound image → Loaded bytes image
+    by-found : (r : Parsed (List ImageTask)) → rest ≡ r → headed bytes ≡ true → with-count (next-id-in bytes) (task-count bytes) r ≡ sound image → Loaded bytes image
     by-found (bad-at p) q g j = not-bad j
     by-found (sound tasks) q g j = by-count tasks (eqb (length tasks) (task-count bytes)) refl q g j
 
-    by-head : (c : Bool) → headed bytes ≡ c → cond c (counted (next-id-in bytes) (task-count bytes) rest) (bad-at 0) ≡ sound image → Loaded bytes image
+    by-head : (c : Bool) → headed bytes ≡ c → cond c (with-count (next-id-in bytes) (task-count bytes) rest) (bad-at 0) ≡ sound image → Loaded bytes image
     by-head true g j = by-found rest refl g j
     by-head false g j = not-bad j

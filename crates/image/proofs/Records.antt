@@ -6,7 +6,7 @@ use native.Mathlib.Omega.{arith}
 use lib.ListN.{length, getD, take, drop, length-drop}
 use lib.Seq.{take-all, take-append-seam, take-take}
 use Rattle.image.specs.Image.{ImageTask, task-at}
-use Rattle.image.specs.Numbers.{number-at}
+use Rattle.slices.specs.Numbers.{number-at}
 use Rattle.image.specs.Walking.{on, read-record}
 use Rattle.image.specs.Slots.{loaded-task, saved-task}
 use Rattle.pools.specs.declared.InstructionsRef.{InstructionsRef}

@@ -7,7 +7,7 @@ use native.Mathlib.Omega.{arith}
 use lib.Dec.{ltb, leb, eqb}
 use lib.ListN.{length, getD, take, drop}
 use borrow.Author.Tests.{ltb-true, leb-true, eqb-true, lt-ltb, le-leb, eq-eqb}
-use Rattle.image.specs.Image.{body-length, kind, next-id-in, id-in, title-length, good, headed}
+use Rattle.image.specs.Image.{body-length, kind, next-id-in, id-in, title-length-in, good, headed}
 use Rattle.utf8.specs.Utf8.{valid}
 
 -- the rules of a kind 2 record
@@ -18,9 +18,9 @@ pub record Rules (next-id low : ℕ) (bytes : List ℕ) : Type 0 where
   pub rising : low ≤ id-in bytes
   pub below : id-in bytes < next-id
   pub states : getD bytes 11 0 < getD bytes 10 0
-  pub short : title-length bytes ≤ 128
-  pub inside : 8 + title-length bytes ≤ body-length bytes
-  pub text : valid (take (title-length bytes) (drop 14 bytes)) ≡ true
+  pub short : title-length-in bytes ≤ 128
+  pub inside : 8 + title-length-in bytes ≤ body-length bytes
+  pub text : valid (take (title-length-in bytes) (drop 14 bytes)) ≡ true
 
 -- two tests that hold
 both : {a b : Bool} → a ≡ true → b ≡ true → (a && b) ≡ true
@@ -41,8 +41,8 @@ good-rules next-id low bytes g =
     let g₄ = and-eq-true-iff (leb low (id-in bytes)) _ .0 (g₃ .1) in
     let g₅ = and-eq-true-iff (ltb (id-in bytes) next-id) _ .0 (g₄ .1) in
     let g₆ = and-eq-true-iff (ltb (getD bytes 11 0) (getD bytes 10 0)) _ .0 (g₅ .1) in
-    let g₇ = and-eq-true-iff (leb (title-length bytes) 128) _ .0 (g₆ .1) in
-    let g₈ = and-eq-true-iff (leb (8 + title-length bytes) (body-length bytes)) _ .0 (g₇ .1) in
+    let g₇ = and-eq-true-iff (leb (title-length-in bytes) 128) _ .0 (g₆ .1) in
+    let g₈ = and-eq-true-iff (leb (8 + title-length-in bytes) (body-length bytes)) _ .0 (g₇ .1) in
     record {
       uncut = leb-true _ _ (g₁ .0);
       kind-2 = eqb-true _ _ (g₂ .0);

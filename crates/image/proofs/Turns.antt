@@ -5,7 +5,7 @@ use mathlib.Core.List.{List}
 use mathlib.Core.Path.{_≡_, refl, ap, sym, _∙_}
 use native.Mathlib.Omega.{arith}
 use Rattle.errors.specs.declared.Refusal.{Refusal}
-use Rattle.image.specs.Image.{framed, body}
+use Rattle.image.specs.Image.{record-of, body}
 use Rattle.image.specs.Walking.{on}
 use Rattle.image.specs.Slots.{saved-task, task-in}
 use Rattle.image.specs.Writing.{put, puts, measure, added, measure-slot, save-slot}
@@ -43,6 +43,6 @@ module _ (pool ends : List ℕ) (slot : Task) (at : ℕ) (save : List ℕ) where
   unsaved dead = rw dead
 
   -- a living one
-  pub slot-saved : {entry after : List ℕ} {last : ℕ} → slot .living ≡ true → entry ≡ entry-of pool ends (slot .«instructions_ref» .0) → put last after ≡ puts save at (framed 2 (body (saved-task slot entry))) → put last after ≡ save-slot pool ends slot at save
+  pub slot-saved : {entry after : List ℕ} {last : ℕ} → slot .living ≡ true → entry ≡ entry-of pool ends (slot .«instructions_ref» .0) → put last after ≡ puts save at (record-of 2 (body (saved-task slot entry))) → put last after ≡ save-slot pool ends slot at save
   unfolding save-slot task-in
-  slot-saved living entry written = written ∙ sym (picked _ _ (slot .living) living ∙ ap (λ (e : List ℕ). puts save at (framed 2 (body (saved-task slot e)))) (sym entry))
+  slot-saved living entry written = written ∙ sym (picked _ _ (slot .living) living ∙ ap (λ (e : List ℕ). puts save at (record-of 2 (body (saved-task slot e)))) (sym entry))

@@ -1,4 +1,3 @@
-pub mod Numbers
 pub mod Image
 pub mod Slots
 pub mod Table

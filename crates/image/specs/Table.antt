@@ -19,7 +19,7 @@ use Rattle.storage.specs.Tasks.{blank}
 use Rattle.utf8.specs.Utf8.{valid}
 use Rattle.image.specs.declared.SaveResult.{SaveResult}
 use Rattle.image.specs.declared.SaveResult.the-variants.{Saved, NotSaved}
-use Rattle.image.specs.Image.{ImageTask, Image, Read, sound, bad-at, written, read-image}
+use Rattle.image.specs.Image.{ImageTask, Image, Parsed, sound, bad-at, written, read-image}
 use Rattle.image.specs.Slots.{loaded-task, title-in, task-in}
 
 -- ---- saving
@@ -124,7 +124,7 @@ abbrev pub cleared : Loading → Loading
 cleared l = record { table = replicate (length (l .table)) blank; pool = l .pool; ends = l .ends; bytes = l .bytes; entries = l .entries }
 
 -- the tasks of a sound image; creation refuses any other with 25 before it loads
-unfoldable pub load-read : Read Image → Loading → Loading
+unfoldable pub load-read : Parsed Image → Loading → Loading
 load-read (sound image) l = load-tasks (image .tasks) l
 load-read (bad-at place) l = l
 

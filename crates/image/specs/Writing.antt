@@ -10,7 +10,7 @@ use Rattle.pools.specs.declared.BoundsResult.the-variants.{Bounds, NoBounds}
 use Rattle.pools.specs.Pool.{bounds}
 use Rattle.storage.specs.declared.Task.{Task}
 use Rattle.utf8.specs.Utf8.{valid}
-use Rattle.image.specs.Image.{ImageTask, framed, body}
+use Rattle.image.specs.Image.{ImageTask, record-of, body}
 use Rattle.image.specs.Slots.{task-in}
 use Rattle.image.specs.Walking.{on}
 use Rattle.image.specs.declared.SizeResult.{SizeResult}
@@ -41,7 +41,7 @@ puts save place bytes = put (on (length save) place (length bytes)) (sets save p
 
 -- the size of a task's record, where its title is UTF-8
 unfoldable pub size-of : ImageTask → SizeResult
-size-of task = cond (valid (task .title)) (Size (length (framed 2 (body task)))) (NoSize BytesToStringConversionError)
+size-of task = cond (valid (task .title)) (Size (length (record-of 2 (body task)))) (NoSize BytesToStringConversionError)
 
 -- the same, where there is an entry
 unfoldable pub sized : ImageTask → BoundsResult → SizeResult
@@ -63,4 +63,4 @@ measure-slot pool ends entries limit slot size = cond (slot .living) (added limi
 
 -- a living slot's record from a place on
 unfoldable pub save-slot : List ℕ → List ℕ → Task → ℕ → List ℕ → Put
-save-slot pool ends slot place save = cond (slot .living) (puts save place (framed 2 (body (task-in pool ends slot)))) (put place save)
+save-slot pool ends slot place save = cond (slot .living) (puts save place (record-of 2 (body (task-in pool ends slot)))) (put place save)

@@ -2,7 +2,7 @@
 ghost use mathlib.Core.Path.{_≡_};
 ghost use Prim.Native.Nat.{_<_};
 ghost use lib.ListN.{getD};
-ghost use Rattle.image.specs.Numbers.{number-at};
+ghost use Rattle.slices.specs.Numbers.{number-at};
 
 // A byte as a number.
 fn wide(byte: u8) -> usize

@@ -3,7 +3,7 @@ ghost use mathlib.Core.Path.{_≡_};
 ghost use Prim.Native.Nat.{_≤_, _<_};
 ghost use lib.ListN.{length, drop};
 ghost use Rattle.image.specs.Image.{headed, read-from, read-image};
-ghost use Rattle.image.specs.Reading.{tested};
+ghost use Rattle.image.specs.Reading.{image-result};
 ghost use Rattle.image.specs.Walking.{front, walked, read-record};
 use crate::Front;
 use crate::ImageResult;
@@ -111,7 +111,7 @@ fn walk(image: &[u8], next_id: TaskId) -> Walked
 
 // Tests an image: what it holds, or the place of the first record that is cut or breaks a rule.
 pub fn test_image(image: &[u8]) -> ImageResult
-    ensures { λ r. ⌜ r ≡ tested (read-image (now (image .entry))) ⌝ }
+    ensures { λ r. ⌜ r ≡ image-result (read-image (now (image .entry))) ⌝ }
 {
     if image.len() == 0 {
         return ImageResult::Sound {

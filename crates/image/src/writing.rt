@@ -2,8 +2,8 @@
 ghost use mathlib.Core.Path.{_≡_};
 ghost use mathlib.Core.List.{_∷_, _++_};
 ghost use Prim.Native.Nat.{_%_};
-ghost use Rattle.image.specs.Numbers.{little-endian};
-ghost use Rattle.image.specs.Image.{framed, body, header};
+ghost use Rattle.slices.specs.Numbers.{little-endian};
+ghost use Rattle.image.specs.Image.{record-of, body, header};
 ghost use Rattle.image.specs.Slots.{saved-task};
 ghost use Rattle.image.specs.Writing.{put, puts};
 use slices::places::on;
@@ -73,7 +73,7 @@ fn heading(next: TaskId, count: usize) -> [u8; 14]
 
 // Writes a task's record from a place on, and answers the place behind it.
 pub(crate) fn write_record(save: &mut [u8], instructions: &[u8], task: Task, at: usize) -> usize
-    ensures { λ r. ⌜ put r (now (save .exit)) ≡ puts (now (save .entry)) at (framed 2 (body (saved-task task (now (instructions .entry))))) ⌝ }
+    ensures { λ r. ⌜ put r (now (save .exit)) ≡ puts (now (save .entry)) at (record-of 2 (body (saved-task task (now (instructions .entry))))) ⌝ }
 {
     let held = task.title;
     let title = slices::part(&held, 0, task.title_len);

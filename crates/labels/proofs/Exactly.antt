@@ -13,8 +13,8 @@ use Rattle.errors.specs.declared.Refusal.the-variants.{EmptyInstructions, Progr
 use Rattle.labels.specs.declared.Kind.{Kind}
 use Rattle.labels.specs.declared.Element.{Element}
 use Rattle.labels.specs.declared.Element.the-variants.{NoRule, Kinds, Do, Loop, LoopIndex, JumpIfFalse}
-use Rattle.labels.specs.Elements.{after, element}
-use Rattle.labels.specs.Labels.{Label, label, kinds-of, loops-of, empty, next-label, Start, zeroth, follow, Labelling, Labelled}
+use Rattle.labels.specs.Elements.{element-end, element}
+use Rattle.labels.specs.Labels.{Label, label, kinds-of, open-loops, empty, next-label, Start, zeroth, follow, Labelling, Labelled}
 use Rattle.labels.specs.Check.{label-at, has-label, right-jump, is-some, first-without-rule, first-wrong-jump, admitted, refused, else-at, ending, swept, admission}
 use Rattle.labels.specs.Faults.{here, Reached}
 use Rattle.labels.proofs.Comparison.{same-label-refl, same-label-equal}
@@ -57,14 +57,14 @@ module _ (code : List ℕ) where
     swept-reached : {at : ℕ} → Start code at → Reached code at (swept-label at)
     swept-reached {at} s = let w = start-reached s in subst (λ z. Reached code at z) (sym (found (w .1))) (w .1)
 
-    steps : (at : ℕ) → Start code at → at < length code → next-label code at (swept-label at) ≡ some (swept-label (after code at))
+    steps : (at : ℕ) → Start code at → at < length code → next-label code at (swept-label at) ≡ some (swept-label (element-end code at))
     steps at s inside =
         let w = swept-reached s in
         let e = is-answer (next-label code at (swept-label at)) (has-rule w inside) in
         e .1 ∙ ap some (sym (found (snoc code w (e .1))))
 
     module _ (pass₂ : first-wrong-jump code ≡ none) where
-      lands : (at target : ℕ) → Start code at → at < length code → element code at ≡ JumpIfFalse target → Start code target × (swept-label target ≡ swept-label (after code at))
+      lands : (at target : ℕ) → Start code at → at < length code → element code at ≡ JumpIfFalse target → Start code target × (swept-label target ≡ swept-label (element-end code at))
       unfolding first-wrong-jump
       lands at target s inside jump =
           let w = swept-reached s in
@@ -72,7 +72,7 @@ module _ (code : List ℕ) where
           let r = right-target target _ (subst (λ e. right-jump code e (next-label code at (swept-label at)) ≡ true) jump passed) in
           (way-start code (r .2) zeroth, found (r .2) ∙ sym (found (snoc code w (r .1))))
 
-      labelled : loops-of (swept-label (length code)) ≡ [] → Labelling code swept-label
+      labelled : open-loops (swept-label (length code)) ≡ [] → Labelling code swept-label
       labelled closed = record { zeroth-empty = found here; rules = steps; jumps = lands; closed = closed }
 
   -- admitted, so labelled
@@ -90,7 +90,7 @@ module _ (code : List ℕ) where
       by none e₁ none e₂ (some (label others [])) e₃ x =
           let l : swept-label (length code) ≡ label others [] = ap (λ o. Option·getD o empty) e₃ in
           let j : others ≡ kinds = cc in
-          (labelled e₁ e₂ (ap loops-of l), ap kinds-of l ∙ j)
+          (labelled e₁ e₂ (ap open-loops l), ap kinds-of l ∙ j)
 
   -- labelled, so admitted; and every labelling has the sweep's labels
   module _ (labels : ℕ → Label) (lab : Labelling code labels) where
@@ -101,8 +101,8 @@ module _ (code : List ℕ) where
     way-same : {at : ℕ} {now : Label} → Reached code at now → labels at ≡ now
     way-same w = reached-once code (start-way (way-start code w zeroth)) w
 
-    rule-there : (at : ℕ) (now : Label) → Reached code at now → at < length code → next-label code at now ≡ some (labels (after code at))
-    rule-there at now w inside = subst (λ z. next-label code at z ≡ some (labels (after code at))) (way-same w) (lab .rules at (way-start code w zeroth) inside)
+    rule-there : (at : ℕ) (now : Label) → Reached code at now → at < length code → next-label code at now ≡ some (labels (element-end code at))
+    rule-there at now w inside = subst (λ z. next-label code at z ≡ some (labels (element-end code at))) (way-same w) (lab .rules at (way-start code w zeroth) inside)
 
     jump-right : (at : ℕ) (now : Label) → Reached code at now → at < length code → right-jump code (element code at) (next-label code at now) ≡ true
     jump-right at now w inside = by (element code at) refl
@@ -115,8 +115,8 @@ module _ (code : List ℕ) where
         by LoopIndex x = refl
         by (JumpIfFalse target) x =
             let j = lab .jumps at target (way-start code w zeroth) inside x in
-            let l : label-at code target ≡ some (labels (after code at)) = reached-label code (subst (λ z. Reached code target z) (j .1) (start-way (j .0))) in
-            rw (l, rule-there at now w inside) (same-label-refl (labels (after code at)))
+            let l : label-at code target ≡ some (labels (element-end code at)) = reached-label code (subst (λ z. Reached code target z) (j .1) (start-way (j .0))) in
+            rw (l, rule-there at now w inside) (same-label-refl (labels (element-end code at)))
 
     no-fault₁ : first-without-rule code ≡ none
     unfolding first-without-rule
@@ -130,7 +130,7 @@ module _ (code : List ℕ) where
     reach : (fuel at : ℕ) → Start code at → at ≤ length code → length code ≤ fuel + at → Start code (length code)
     reach zero at s le b = subst (Start code) (let e : at ≡ length code = omega arith in e) s
     reach (suc fuel) at s le b =
-        by (ltb at (length code)) refl λ inside. reach fuel (after code at) (follow s inside) (fits code at (labels at) (lab .rules at s inside)) (omega (arith, further code at))
+        by (ltb at (length code)) refl λ inside. reach fuel (element-end code at) (follow s inside) (fits code at (labels at) (lab .rules at s inside)) (omega (arith, further code at))
       where
         by : (t : Bool) → ltb at (length code) ≡ t → (at < length code → Start code (length code)) → Start code (length code)
         by true e k = k (ltb-true _ _ e)
@@ -143,7 +143,7 @@ module _ (code : List ℕ) where
     unfolding swept
     labelled-swept = rw (no-fault₁, no-fault₂, reached-label code (start-way last)) (by (labels (length code)) (lab .closed))
       where
-        by : (l : Label) → loops-of l ≡ [] → ending (length code) (some l) ≡ admitted (kinds-of l)
+        by : (l : Label) → open-loops l ≡ [] → ending (length code) (some l) ≡ admitted (kinds-of l)
         by (label kinds []) e = refl
         by (label kinds (loop ∷ loops)) e = absurd (let z : _≡_ {A = ℕ} 0 1 = cc in omega arith)
 

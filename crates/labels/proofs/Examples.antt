@@ -9,7 +9,7 @@ use Rattle.slices.specs.Same.{same}
 use Rattle.bytecode.specs.Opcodes.{operand-size}
 use Rattle.bytecode.specs.Operands.{big-endian, operand, data-size, behind}
 use Rattle.labels.specs.Check.{admission, admitted, refused, label-from, label-at, first-failing, first-without-rule, first-wrong-jump, swept}
-use Rattle.labels.specs.Elements.{after, joined, tag-kind, field-kind, with-kind, field-element, jump-element, moving-element, plain-element, whole-element, element}
+use Rattle.labels.specs.Elements.{element-end, joined, tag-kind, field-kind, with-kind, field-element, jump-element, moving-element, plain-element, whole-element, element}
 use Rattle.labels.specs.Labels.{exchanged, kinds-after, bounded, label, loops-after, rule, next-label}
 use Rattle.labels.specs.declared.Element.the-variants.{LoopIndex}
 use Rattle.labels.specs.declared.Exchange.the-variants.{Creates}
@@ -30,7 +30,7 @@ pub record Examples : Type 0 where
   -- an empty program is 1
   pub empty-program : admission [] ≡ refused EmptyInstructions
   -- a field and what takes it are one element of three bytes
-  pub field-taken : after Get-state 0 ≡ 3
+  pub field-taken : element-end Get-state 0 ≡ 3
   -- T_CREATE takes S N C
   pub task-created : exchanged Creates (Calldata ∷ Number ∷ Text ∷ []) ≡ some []
   -- LOOP_INDEX adds N
@@ -39,7 +39,7 @@ pub record Examples : Type 0 where
   pub too-many : bounded (replicate 1001 Number) [] ≡ none
 
 pub examples : Examples
-unfolding same operand-size big-endian operand data-size behind label-from label-at first-failing first-without-rule first-wrong-jump swept admission joined after tag-kind field-kind with-kind field-element jump-element moving-element plain-element whole-element element exchanged kinds-after loops-after bounded rule next-label
+unfolding same operand-size big-endian operand data-size behind label-from label-at first-failing first-without-rule first-wrong-jump swept admission joined element-end tag-kind field-kind with-kind field-element jump-element moving-element plain-element whole-element element exchanged kinds-after loops-after bounded rule next-label
 examples = record {
   two-kinds = refl;
   empty-program = refl;

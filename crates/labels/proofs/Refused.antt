@@ -13,8 +13,8 @@ use Rattle.errors.specs.declared.Refusal.{Refusal}
 use Rattle.errors.specs.declared.Refusal.the-variants.{EmptyInstructions, ProgramTooLong, NotAdmitted}
 use Rattle.labels.specs.declared.Element.{Element}
 use Rattle.labels.specs.declared.Element.the-variants.{NoRule, Kinds, Do, Loop, LoopIndex, JumpIfFalse}
-use Rattle.labels.specs.Elements.{after, element}
-use Rattle.labels.specs.Labels.{Label, label, kinds-of, loops-of, empty, onward, next-label}
+use Rattle.labels.specs.Elements.{element-end, element}
+use Rattle.labels.specs.Labels.{Label, label, kinds-of, open-loops, empty, and-then, next-label}
 use Rattle.labels.specs.Check.{label-at, right-jump, is-some, first-failing, first-without-rule, first-wrong-jump, admitted, refused, else-at, ending, swept, admission}
 use Rattle.labels.specs.Faults.{Way, here, on, Reached, WrongJump, Ended, Fault, without-rule, wrong-jump, open-loop}
 use Rattle.labels.proofs.Comparison.{same-label-refl}
@@ -44,11 +44,11 @@ module _ (code : List ℕ) where
   unfolding first-failing
   first-is test zero at now place e = absurd (let z : _≡_ {A = ℕ} 0 1 = cc in omega arith)
   first-is test (suc fuel) at now place e =
-      by (ltb at (length code)) refl (test at (next-label code at now)) refl (next-label code at now) refl (λ j f. first-is test fuel (after code at) j place f) e
+      by (ltb at (length code)) refl (test at (next-label code at now)) refl (next-label code at now) refl (λ j f. first-is test fuel (element-end code at) j place f) e
     where
       by : (b : Bool) → ltb at (length code) ≡ b → (t : Bool) → test at (next-label code at now) ≡ t → (o : Option Label) → next-label code at now ≡ o
-          → ((j : Label) → first-failing test fuel code (after code at) j ≡ some place → First test (after code at) j place)
-          → cond b (cond t (onward o λ j. first-failing test fuel code (after code at) j) (some at)) none ≡ some place → First test at now place
+          → ((j : Label) → first-failing test fuel code (element-end code at) j ≡ some place → First test (element-end code at) j place)
+          → cond b (cond t (and-then o λ j. first-failing test fuel code (element-end code at) j) (some at)) none ≡ some place → First test at now place
       by false be t te o oe ih x = absurd (let z : _≡_ {A = ℕ} 0 1 = cc in omega arith)
       by true be true te none oe ih x = absurd (let z : _≡_ {A = ℕ} 0 1 = cc in omega arith)
       by true be false te o oe ih x =
@@ -59,12 +59,12 @@ module _ (code : List ℕ) where
           let f = ih j x in
           record { then = f .then; way = on oe (f .way); inside = f .inside; fails = f .fails; earlier = sooner f }
         where
-          sooner : First test (after code at) j place → (p : ℕ) (l : Label) → Way code at now p l → p < place → test p (next-label code p l) ≡ true
+          sooner : First test (element-end code at) j place → (p : ℕ) (l : Label) → Way code at now p l → p < place → test p (next-label code p l) ≡ true
           sooner f p l here lt = te
           sooner f p l (on {next = k} e w) lt =
               let same : some k ≡ some j = sym e ∙ oe in
               let kj : k ≡ j = cc in
-              f .earlier p l (subst (λ z. Way code (after code at) z p l) kj w) lt
+              f .earlier p l (subst (λ z. Way code (element-end code at) z p l) kj w) lt
 
   no-answer : {A : Type 0} (o : Option A) → is-some o ≡ false → o ≡ none
   no-answer none e = refl
@@ -114,7 +114,7 @@ module _ (code : List ℕ) where
   between {p = p} {l = l} (on {at = at} {next = k} e w) (on {next = j} e₁ v) lt =
       let same : some j ≡ some k = sym e₁ ∙ e in
       let jk : j ≡ k = cc in
-      between w (subst (λ z. Way code (after code at) z p l) jk v) lt
+      between w (subst (λ z. Way code (element-end code at) z p l) jk v) lt
 
   -- a place that fails a test is the first, if those before it pass
   first-found : (test : ℕ → Option Label → Bool) (fuel : ℕ) {at place : ℕ} {now then : Label} → Way code at now place then → place < length code → length code ≤ fuel + at
@@ -135,7 +135,7 @@ module _ (code : List ℕ) where
       → (fuel at : ℕ) (now : Label) → Reached code at now → at ≤ length code → length code ≤ fuel + at → Ended code
   reach h zero at now w le b = record { last = now; reached = subst (λ z. Reached code z now) (let e : at ≡ length code = omega arith in e) w }
   reach h (suc fuel) at now w le b =
-      by (ltb at (length code)) refl λ next e. reach h fuel (after code at) next (snoc code w e) (fits code at now e) (omega (arith, further code at))
+      by (ltb at (length code)) refl λ next e. reach h fuel (element-end code at) next (snoc code w e) (fits code at now e) (omega (arith, further code at))
     where
       by : (t : Bool) → ltb at (length code) ≡ t → ((next : Label) → next-label code at now ≡ some next → Ended code) → Ended code
       by false e go = record { last = now; reached = subst (λ z. Reached code z now) (let x : at ≡ length code = omega (arith, ltb-false at (length code) e) in x) w }
@@ -157,7 +157,7 @@ module _ (code : List ℕ) where
         wrong-jump all-ruled (fails-wrong (f .way) (f .inside) (a .1) (f .fails))
         (λ p lt j. true≢false (sym (f .earlier p (j .now) (j .reached) lt) ∙ wrong-fails j))
 
-    last-open : first-wrong-jump code ≡ none → (loops-of (all-ruled .last) ≡ [] → ⊥) → Fault code (length code)
+    last-open : first-wrong-jump code ≡ none → (open-loops (all-ruled .last) ≡ [] → ⊥) → Fault code (length code)
     unfolding first-wrong-jump
     last-open pass₂ some-open =
         open-loop all-ruled (λ at j. true≢false (sym (none-fails code (λ p next. right-jump code (element code p) next) (length code) pass₂ (j .reached) (j .inside) (omega arith)) ∙ wrong-fails j)) some-open
@@ -175,7 +175,7 @@ module _ (code : List ℕ) where
       last : (pass₁ : first-without-rule code ≡ none) → first-wrong-jump code ≡ none → (l : Label) → all-ruled pass₁ .last ≡ l → ending (length code) (some l) ≡ refused (NotAdmitted at) → Fault code at
       last pass₁ pass₂ (label kinds []) le x = absurd (no-verdict x)
       last pass₁ pass₂ (label kinds (loop ∷ loops)) le x =
-          subst (Fault code) (refusal-place x) (last-open pass₁ pass₂ (λ n. absurd (let c : loop ∷ loops ≡ [] = sym (ap loops-of le) ∙ n in let z : _≡_ {A = ℕ} 0 1 = cc in omega arith)))
+          subst (Fault code) (refusal-place x) (last-open pass₁ pass₂ (λ n. absurd (let c : loop ∷ loops ≡ [] = sym (ap open-loops le) ∙ n in let z : _≡_ {A = ℕ} 0 1 = cc in omega arith)))
 
       by : (o₁ : Option ℕ) → first-without-rule code ≡ o₁ → (o₂ : Option ℕ) → first-wrong-jump code ≡ o₂
           → else-at o₁ (else-at o₂ (ending (length code) (label-at code (length code)))) ≡ refused (NotAdmitted at) → Fault code at
@@ -216,12 +216,12 @@ module _ (code : List ℕ) where
       )
       (by (ended .last) some-open)
     where
-      by : (l : Label) → (loops-of l ≡ [] → ⊥) → ending (length code) (some l) ≡ refused (NotAdmitted (length code))
+      by : (l : Label) → (open-loops l ≡ [] → ⊥) → ending (length code) (some l) ≡ refused (NotAdmitted (length code))
       by (label kinds []) n = absurd (n refl)
       by (label kinds (loop ∷ loops)) n = refl
 
 -- admitted with the kinds at the end, where every element has a rule, no jump is wrong and no loop is open
-pub passed : (code : List ℕ) → 1 ≤ length code → length code ≤ 65535 → (ended : Ended code) → ((at : ℕ) → WrongJump code at → ⊥) → loops-of (ended .last) ≡ []
+pub passed : (code : List ℕ) → 1 ≤ length code → length code ≤ 65535 → (ended : Ended code) → ((at : ℕ) → WrongJump code at → ⊥) → open-loops (ended .last) ≡ []
     → admission code ≡ admitted (kinds-of (ended .last))
 unfolding swept first-wrong-jump
 passed code more short ended right closed =
@@ -233,7 +233,7 @@ passed code more short ended right closed =
     )
     (by (ended .last) closed)
   where
-    by : (l : Label) → loops-of l ≡ [] → ending (length code) (some l) ≡ admitted (kinds-of l)
+    by : (l : Label) → open-loops l ≡ [] → ending (length code) (some l) ≡ admitted (kinds-of l)
     by (label kinds []) e = refl
     by (label kinds (loop ∷ loops)) e = absurd (let z : _≡_ {A = ℕ} 0 1 = cc in omega arith)
 

@@ -11,8 +11,8 @@ use Rattle.slices.specs.Same.{same}
 use Rattle.labels.specs.declared.Kind.{Kind}
 use Rattle.labels.specs.declared.Element.{Element}
 use Rattle.labels.specs.declared.Element.the-variants.{NoRule, Kinds, Do, Loop, LoopIndex, JumpIfFalse}
-use Rattle.labels.specs.Elements.{after, element}
-use Rattle.labels.specs.Labels.{letters, Open, opened, Label, label, empty, onward, next-label}
+use Rattle.labels.specs.Elements.{element-end, element}
+use Rattle.labels.specs.Labels.{letters, Open, opened, Label, label, empty, and-then, next-label}
 
 -- two lists of open loops are the same: the same places, and the same kinds
 abbrev pub same-loops : List Open → List Open → Bool
@@ -28,7 +28,7 @@ same-label (label kinds loops) (label others more) = same (letters kinds) (lette
 unfoldable pub label-from : ℕ → List ℕ → ℕ → Label → ℕ → Option Label
 label-from zero code at now place = cond (eqb at place) (some now) none
 label-from (suc fuel) code at now place =
-    cond (eqb at place) (some now) (onward (next-label code at now) λ next. label-from fuel code (after code at) next place)
+    cond (eqb at place) (some now) (and-then (next-label code at now) λ next. label-from fuel code (element-end code at) next place)
 
 unfoldable pub label-at : List ℕ → ℕ → Option Label
 label-at code place = label-from (length code) code 0 empty place
@@ -56,7 +56,7 @@ unfoldable pub first-failing : (ℕ → Option Label → Bool) → ℕ → List 
 first-failing test zero code at now = none
 first-failing test (suc fuel) code at now =
     cond (ltb at (length code))
-    (cond (test at (next-label code at now)) (onward (next-label code at now) λ next. first-failing test fuel code (after code at) next) (some at))
+    (cond (test at (next-label code at now)) (and-then (next-label code at now) λ next. first-failing test fuel code (element-end code at) next) (some at))
     none
 
 -- the first element without a rule

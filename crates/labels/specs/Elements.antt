@@ -22,8 +22,8 @@ unfoldable pub joined : List ℕ → ℕ → Bool
 joined code at = eqb (getD code at 0) PUSH-TASK-FIELD && (eqb (getD code (at + 2) 0) T-GET-FIELD || eqb (getD code (at + 2) 0) T-SET-FIELD)
 
 -- the place behind the element
-unfoldable pub after : List ℕ → ℕ → ℕ
-after code at = cond (joined code at) (at + 3) (behind code at)
+unfoldable pub element-end : List ℕ → ℕ → ℕ
+element-end code at = cond (joined code at) (at + 3) (behind code at)
 
 -- a vector's tag: 4 means S, 6 means V
 unfoldable pub tag-kind : ℕ → KindResult
@@ -94,4 +94,4 @@ whole-element code at op =
 
 -- the element at a place; no rule for one cut by the code's end
 unfoldable pub element : List ℕ → ℕ → Element
-element code at = cond (leb (after code at) (length code)) (whole-element code at (getD code at 0)) NoRule
+element code at = cond (leb (element-end code at) (length code)) (whole-element code at (getD code at 0)) NoRule

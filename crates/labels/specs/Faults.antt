@@ -5,13 +5,13 @@ use mathlib.Core.List.{List, []}
 use mathlib.Core.Option.{none, some}
 use lib.ListN.{length}
 use Rattle.labels.specs.declared.Element.the-variants.{JumpIfFalse}
-use Rattle.labels.specs.Elements.{after, element}
-use Rattle.labels.specs.Labels.{Label, loops-of, empty, next-label}
+use Rattle.labels.specs.Elements.{element-end, element}
+use Rattle.labels.specs.Labels.{Label, open-loops, empty, next-label}
 
 -- the rules lead from a start and its label to another
 pub data Way (code : List ℕ) : ℕ → Label → ℕ → Label → Type 0 where
   here : {at : ℕ} {now : Label} → Way code at now at now
-  on : {at place : ℕ} {now next then : Label} → next-label code at now ≡ some next → Way code (after code at) next place then → Way code at now place then
+  on : {at place : ℕ} {now next then : Label} → next-label code at now ≡ some next → Way code (element-end code at) next place then → Way code at now place then
 
 -- the rules lead from byte 0 with the empty label to a place with this label
 abbrev pub Reached : List ℕ → ℕ → Label → Type 0
@@ -44,4 +44,4 @@ pub record Ended (code : List ℕ) : Type 0 where
 pub data Fault (code : List ℕ) : ℕ → Type 0 where
   without-rule : {at : ℕ} → WithoutRule code at → Fault code at
   wrong-jump : {at : ℕ} → Ended code → WrongJump code at → ((earlier : ℕ) → earlier < at → WrongJump code earlier → ⊥) → Fault code at
-  open-loop : (ended : Ended code) → ((at : ℕ) → WrongJump code at → ⊥) → (loops-of (ended .last) ≡ [] → ⊥) → Fault code (length code)
+  open-loop : (ended : Ended code) → ((at : ℕ) → WrongJump code at → ⊥) → (open-loops (ended .last) ≡ [] → ⊥) → Fault code (length code)

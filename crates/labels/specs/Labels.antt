@@ -13,7 +13,7 @@ use Rattle.labels.specs.declared.Exchange.{Exchange}
 use Rattle.labels.specs.declared.Exchange.the-variants.{Unchanged, Adds, Takes, Turns, Joins, Creates, Gets, Sets, Dup, Swap, Drop, Compares, Changes}
 use Rattle.labels.specs.declared.Element.{Element}
 use Rattle.labels.specs.declared.Element.the-variants.{NoRule, Kinds, Do, Loop, LoopIndex, JumpIfFalse}
-use Rattle.labels.specs.Elements.{after, element}
+use Rattle.labels.specs.Elements.{element-end, element}
 
 -- the letter that document 01 gives a kind
 abbrev pub letter : Kind → ℕ
@@ -40,16 +40,16 @@ pub data Label : Type 0 where
 abbrev pub kinds-of : Label → List Kind
 kinds-of (label kinds loops) = kinds
 
-abbrev pub loops-of : Label → List Open
-loops-of (label kinds loops) = loops
+abbrev pub open-loops : Label → List Open
+open-loops (label kinds loops) = loops
 
 abbrev pub empty : Label
 empty = label [] []
 
 -- an answer goes on to the next question, if there is one
-abbrev pub onward : {A B : Type 0} → Option A → (A → Option B) → Option B
-onward none next = none
-onward (some answer) next = next answer
+abbrev pub and-then : {A B : Type 0} → Option A → (A → Option B) → Option B
+and-then none next = none
+and-then (some answer) next = next answer
 
 -- these kinds are taken, the topmost first
 abbrev pub takes : List Kind → List Kind → Option (List Kind)
@@ -63,8 +63,8 @@ gives kind none = none
 gives kind (some kinds) = some (kind ∷ kinds)
 
 -- a free place for the field
-abbrev pub with-room : List Kind → Option (List Kind) → Option (List Kind)
-with-room kinds result = cond (ltb (length kinds) 1000) result none
+abbrev pub with-free-place : List Kind → Option (List Kind) → Option (List Kind)
+with-free-place kinds result = cond (ltb (length kinds) 1000) result none
 
 -- two alike, not B, to B
 abbrev pub compares : List Kind → Option (List Kind)
@@ -77,14 +77,14 @@ abbrev pub keeps-vector : List Kind → Option (List Kind)
 keeps-vector [] = none
 keeps-vector (kind ∷ kinds) = cond (same-kind kind Text || same-kind kind Numbers) (some (kind ∷ kinds)) none
 
-abbrev pub dup : List Kind → Option (List Kind)
-dup [] = none
-dup (a ∷ kinds) = some (a ∷ a ∷ kinds)
+abbrev pub dup-kinds : List Kind → Option (List Kind)
+dup-kinds [] = none
+dup-kinds (a ∷ kinds) = some (a ∷ a ∷ kinds)
 
-abbrev pub swap : List Kind → Option (List Kind)
-swap [] = none
-swap (b ∷ []) = none
-swap (b ∷ a ∷ kinds) = some (a ∷ b ∷ kinds)
+abbrev pub swap-kinds : List Kind → Option (List Kind)
+swap-kinds [] = none
+swap-kinds (b ∷ []) = none
+swap-kinds (b ∷ a ∷ kinds) = some (a ∷ b ∷ kinds)
 
 abbrev pub drop-top : List Kind → Option (List Kind)
 drop-top [] = none
@@ -98,13 +98,13 @@ exchanged (Takes kind) kinds = takes (kind ∷ []) kinds
 exchanged (Turns kind other) kinds = gives other (takes (kind ∷ []) kinds)
 exchanged (Joins kind) kinds = gives kind (takes (Number ∷ Number ∷ []) kinds)
 exchanged Creates kinds = takes (Calldata ∷ Number ∷ Text ∷ []) kinds
-exchanged (Gets kind) kinds = with-room kinds (gives kind (takes (Number ∷ []) kinds))
-exchanged (Sets kind) kinds = with-room kinds (takes (Number ∷ kind ∷ []) kinds)
-exchanged Dup kinds = dup kinds
-exchanged Swap kinds = swap kinds
+exchanged (Gets kind) kinds = with-free-place kinds (gives kind (takes (Number ∷ []) kinds))
+exchanged (Sets kind) kinds = with-free-place kinds (takes (Number ∷ kind ∷ []) kinds)
+exchanged Dup kinds = dup-kinds kinds
+exchanged Swap kinds = swap-kinds kinds
 exchanged Drop kinds = drop-top kinds
 exchanged Compares kinds = compares kinds
-exchanged Changes kinds = onward (takes (Number ∷ Number ∷ []) kinds) keeps-vector
+exchanged Changes kinds = and-then (takes (Number ∷ Number ∷ []) kinds) keeps-vector
 
 -- the kinds after an element
 unfoldable pub kinds-after : Element → List Kind → Option (List Kind)
@@ -140,24 +140,24 @@ bounded kinds loops = cond (leb (length kinds) 1000 && leb (length loops) 2) (so
 
 -- the rule of an element: the label that it gives the next
 unfoldable pub rule : Element → ℕ → Label → Option Label
-rule element next (label kinds loops) = onward (kinds-after element kinds) λ left. onward (loops-after element next left loops) (bounded left)
+rule element next (label kinds loops) = and-then (kinds-after element kinds) λ left. and-then (loops-after element next left loops) (bounded left)
 
 -- the label that the element at a place gives the next
 unfoldable pub next-label : List ℕ → ℕ → Label → Option Label
-next-label code at now = rule (element code at) (after code at) now
+next-label code at now = rule (element code at) (element-end code at) now
 
 -- elements follow each other from byte 0; the last start is the code's length
 pub data Start (code : List ℕ) : ℕ → Type 0 where
   zeroth : Start code 0
-  follow : {at : ℕ} → Start code at → at < length code → Start code (after code at)
+  follow : {at : ℕ} → Start code at → at < length code → Start code (element-end code at)
 
 -- labels for all places, of which those at starts count
 pub record Labelling (code : List ℕ) (labels : ℕ → Label) : Type 0 where
   pub zeroth-empty : labels 0 ≡ empty
-  pub rules : (at : ℕ) → Start code at → at < length code → next-label code at (labels at) ≡ some (labels (after code at))
+  pub rules : (at : ℕ) → Start code at → at < length code → next-label code at (labels at) ≡ some (labels (element-end code at))
   pub jumps : (at target : ℕ) → Start code at → at < length code → element code at ≡ JumpIfFalse target
-      → Start code target × (labels target ≡ labels (after code at))
-  pub closed : loops-of (labels (length code)) ≡ []
+      → Start code target × (labels target ≡ labels (element-end code at))
+  pub closed : open-loops (labels (length code)) ≡ []
 
 -- a program of 1 to 65,535 bytes that has a labelling, with these kinds at the length
 pub record Labelled (code : List ℕ) (kinds : List Kind) : Type 0 where

@@ -13,7 +13,7 @@ use Rattle.machine.specs.declared.Outcome.{Outcome}
 use Rattle.machine.specs.declared.Outcome.the-variants.{Done, Paused, Refused}
 use Rattle.machine.specs.World.{World, world}
 use Rattle.machine.specs.Run.{End, end-at, run}
-use Rattle.machine.specs.Calls.{may-continue, allowed, phased, ended, report, Reported, at-end, is-sound, call-with, call, start, go-on}
+use Rattle.machine.specs.Calls.{may-continue, allowed, phased, ended, report, Reported, reported-end, is-sound, call-with, call, start, go-on}
 use Rattle.machine.specs.World.{with-machine}
 use Rattle.machine.specs.declared.Verb.{Verb}
 use Rattle.machine.specs.declared.Verb.the-variants.{Start, Continue}
@@ -51,7 +51,7 @@ ended-phase machine before Paused = refl
 ended-phase machine before (Refused refusal) = refl
 
 -- a run after a pause, and the whole run
-continued : (a b : ℕ) (v : World) → Together (at-end a (end-at v 0 Paused)) (at-end b (end-as phase.Paused (run b v))) (at-end (a + b) (run b v))
+continued : (a b : ℕ) (v : World) → Together (reported-end a (end-at v 0 Paused)) (reported-end b (end-as phase.Paused (run b v))) (reported-end (a + b) (run b v))
 unfolding report
 continued a b v =
     let e = run b v in
@@ -65,12 +65,12 @@ continued a b v =
 -- ---- the calls
 
 -- a continue on a paused machine that is sound
-go-on-is : (b : ℕ) (v : World) → is-sound (rephased phase.Paused v) ≡ true → go-on b (rephased phase.Paused v) ≡ at-end b (run b (rephased phase.Paused v))
+go-on-is : (b : ℕ) (v : World) → is-sound (rephased phase.Paused v) ≡ true → go-on b (rephased phase.Paused v) ≡ reported-end b (run b (rephased phase.Paused v))
 unfolding call call-with allowed may-continue
 go-on-is b v test = ap (λ (t : Bool). call-with b (rephased phase.Paused v) (allowed (phased (v .machine) phase.Paused) t Continue)) test
 
 -- what a paused run leaves is that machine
-left-paused : (a : ℕ) (v : World) → world-after (at-end a (end-at v 0 Paused)) ≡ rephased phase.Paused v
+left-paused : (a : ℕ) (v : World) → world-after (reported-end a (end-at v 0 Paused)) ≡ rephased phase.Paused v
 unfolding report ended
 left-paused a v = refl
 
@@ -89,7 +89,7 @@ module _ (verb : Verb) (w : World) where
   was-allowed n false e paused =
       absurd (let z : _≡_ {A = ℕ} 2 1 = ap (λ (r : Reported). outcome-number (r .report .outcome)) (sym (call-not-allowed verb n w e)) ∙ ap outcome-number paused in omega arith)
 
-  run-outcome : (n : ℕ) → at-end n (run n begins) .report .outcome ≡ run n begins .outcome
+  run-outcome : (n : ℕ) → reported-end n (run n begins) .report .outcome ≡ run n begins .outcome
   unfolding report
   run-outcome n = refl
 
@@ -106,8 +106,8 @@ module _ (verb : Verb) (w : World) where
         paused-end a begins (run a begins) (finished a begins)
         (sym (run-outcome a) ∙ ap (λ (r : Reported). r .report .outcome) (sym (call-allowed verb a w allowance)) ∙ paused)
 
-    first-is : call verb a w ≡ at-end a (end-at there 0 Paused)
-    first-is = call-allowed verb a w allowance ∙ ap (at-end a) run-pauses
+    first-is : call verb a w ≡ reported-end a (end-at there 0 Paused)
+    first-is = call-allowed verb a w allowance ∙ ap (reported-end a) run-pauses
 
     left-is : world-after (call verb a w) ≡ rephased phase.Paused there
     left-is = ap world-after first-is ∙ left-paused a there
@@ -122,18 +122,18 @@ module _ (verb : Verb) (w : World) where
     still-sound : is-sound (rephased phase.Paused there) ≡ true
     still-sound = subst (λ (v : World). is-sound v ≡ true) left-is (left-passing .tested)
 
-    second-is : go-on b (world-after (call verb a w)) ≡ at-end b (end-as phase.Paused (run b there))
-    second-is = ap (go-on b) left-is ∙ go-on-is b there still-sound ∙ ap (at-end b) (run-phase phase.Paused b there)
+    second-is : go-on b (world-after (call verb a w)) ≡ reported-end b (end-as phase.Paused (run b there))
+    second-is = ap (go-on b) left-is ∙ go-on-is b there still-sound ∙ ap (reported-end b) (run-phase phase.Paused b there)
 
-    whole-is : call verb (a + b) w ≡ at-end (a + b) (run b there)
-    whole-is = call-allowed verb (a + b) w allowance ∙ ap (at-end (a + b)) (fuel a b begins there run-pauses)
+    whole-is : call verb (a + b) w ≡ reported-end (a + b) (run b there)
+    whole-is = call-allowed verb (a + b) w allowance ∙ ap (reported-end (a + b)) (fuel a b begins there run-pauses)
 
     -- a call with fuel a that pauses, and a continue with fuel b after it, are one call with fuel a + b; 1,024 ends are what the type says
     pub fuel-of-calls : Together (call verb a w) (go-on b (world-after (call verb a w))) (call verb (a + b) w)
     fuel-of-calls =
         subst (λ (r : Reported). Together r (go-on b (world-after (call verb a w))) (call verb (a + b) w)) (sym first-is)
-        (subst (λ (r : Reported). Together (at-end a (end-at there 0 Paused)) r (call verb (a + b) w)) (sym second-is)
-        (subst (λ (r : Reported). Together (at-end a (end-at there 0 Paused)) (at-end b (end-as phase.Paused (run b there))) r) (sym whole-is) (continued a b there)))
+        (subst (λ (r : Reported). Together (reported-end a (end-at there 0 Paused)) r (call verb (a + b) w)) (sym second-is)
+        (subst (λ (r : Reported). Together (reported-end a (end-at there 0 Paused)) (reported-end b (end-as phase.Paused (run b there))) r) (sym whole-is) (continued a b there)))
 
 -- a start that pauses, then a continue
 pub start-then-go-on : (a b : ℕ) (w : World) → length (w .ends) ≡ 1024 → start a w .report .outcome ≡ Paused → Together (start a w) (go-on b (world-after (start a w))) (start (a + b) w)

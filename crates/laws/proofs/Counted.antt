@@ -35,7 +35,7 @@ unfolding run run-finished
 run-counted zero w = either (λ (e : End). 0 + e .left ≡ 0) (at-end w) _ _ (λ _. refl) (λ _. refl)
 run-counted (suc fuel) w = turn fuel w (run-counted fuel) (at-end w)
 
-reported-is : (fuel : ℕ) (w : World) → length (run-finished fuel w) ≡ calls.at-end fuel (run fuel w) .report .finished
+reported-is : (fuel : ℕ) (w : World) → length (run-finished fuel w) ≡ calls.reported-end fuel (run fuel w) .report .finished
 unfolding report
 reported-is fuel w = let n = run-counted fuel w in omega (arith, n)
 

@@ -14,8 +14,8 @@ use Rattle.errors.specs.declared.Refusal.the-variants.{WrongPhaseOrUnsound, Emp
 use Rattle.pools.specs.Pool.{has-room, interned}
 use Rattle.storage.specs.declared.Task.{Task}
 use Rattle.storage.specs.declared.TaskId.{TaskId}
-use Rattle.image.specs.Image.{ImageTask, Image, Read, sound, bad-at, read-image}
-use Rattle.image.specs.Reading.{s-len, instruction-bytes, tested}
+use Rattle.image.specs.Image.{ImageTask, Image, Parsed, sound, bad-at, read-image}
+use Rattle.image.specs.Reading.{s-len-of, instruction-bytes, image-result}
 use Rattle.image.specs.Table.{Loading, load-table}
 use Rattle.table_image.specs.Creation.{image-tests, creation-tests}
 use Rattle.table_image.specs.declared.creation.CreationResult.{CreationResult}
@@ -49,12 +49,12 @@ module _ (table : List Task) (pool ends image program : List ℕ) where
     fit : (next-id : TaskId) (count len : ℕ) → Creatable table pool image program → Tests (Fit next-id count len)
     unfit : (refusal : Refusal) → NotCreatable table pool image program refusal → Tests (Unfit refusal)
 
-  image-part : length table ≡ 256 → 1 ≤ length program → length program ≤ 65535 → (r : Read Image) → read-image image ≡ r → Tests (image-tests (length pool) (length program) (tested r))
-  unfolding image-tests tested
+  image-part : length table ≡ 256 → 1 ≤ length program → length program ≤ 65535 → (r : Parsed Image) → read-image image ≡ r → Tests (image-tests (length pool) (length program) (image-result r))
+  unfolding image-tests image-result
   image-part slots some short (sound found) e = by (leb (pool-bytes program found) (min 65536 (length pool))) refl
     where
       by : (test : Bool) → leb (pool-bytes program found) (min 65536 (length pool)) ≡ test
-          → Tests (cond (has-room (length pool) (length program) (length (found .tasks)) (instruction-bytes (found .tasks))) (Fit (record { 0 = found .next-id }) (length (found .tasks)) (s-len (found .tasks))) (Unfit PoolFull))
+          → Tests (cond (has-room (length pool) (length program) (length (found .tasks)) (instruction-bytes (found .tasks))) (Fit (record { 0 = found .next-id }) (length (found .tasks)) (s-len-of (found .tasks))) (Unfit PoolFull))
       by true is = rw (roomy image found (length pool) (length program) e, is) (fit _ _ _ (record { slots = slots; some = omega (arith, some); short = omega (arith, short); found = found; is-sound = e; room = (let held = leb-true (pool-bytes program found) (min 65536 (length pool)) is in omega (arith, held)) }))
       by false is = rw (roomy image found (length pool) (length program) e, is) (unfit _ (no-room found slots some short e (leb-false _ _ is)))
   image-part slots some short (bad-at place) e = unfit _ (bad-image place slots some (omega (arith, short)) e)
@@ -64,7 +64,7 @@ module _ (table : List Task) (pool ends image program : List ℕ) where
   tests = by (eqb (length table) 256) refl (eqb (length program) 0) refl (ltb 65535 (length program)) refl
     where
       by : (a : Bool) → eqb (length table) 256 ≡ a → (b : Bool) → eqb (length program) 0 ≡ b → (c : Bool) → ltb 65535 (length program) ≡ c
-          → Tests (cond a (cond b (Unfit EmptyInstructions) (cond c (Unfit ProgramTooLong) (image-tests (length pool) (length program) (tested (read-image image))))) (Unfit WrongPhaseOrUnsound))
+          → Tests (cond a (cond b (Unfit EmptyInstructions) (cond c (Unfit ProgramTooLong) (image-tests (length pool) (length program) (image-result (read-image image))))) (Unfit WrongPhaseOrUnsound))
       by true slots false some false short = image-part (eqb-true _ _ slots) (let z = eqb-false (length program) 0 some in omega (arith, z)) (ltb-false _ _ short) (read-image image) refl
       by true slots false some true long = unfit _ (long-program (eqb-true _ _ slots) (ltb-true _ _ long))
       by true slots true empty c is = let all : length table ≡ 256 = eqb-true _ _ slots in unfit _ (no-program (omega (arith, all)) (eqb-true _ _ empty))
@@ -82,8 +82,8 @@ module _ (table : List Task) (pool ends image program : List ℕ) where
 
   -- what passes them is created: the program is entry 0, and behind it come the image's tasks
   tests-fit : (c : Creatable table pool image program)
-      → creation-tests (length table) (length pool) (length program) image ≡ Fit (record { 0 = c .found .next-id }) (length (c .found .tasks)) (s-len (c .found .tasks))
-  unfolding creation-tests image-tests tested
+      → creation-tests (length table) (length pool) (length program) image ≡ Fit (record { 0 = c .found .next-id }) (length (c .found .tasks)) (s-len-of (c .found .tasks))
+  unfolding creation-tests image-tests image-result
   tests-fit c =
       rw (eq-eqb (length table) 256 (c .slots), ne-eqb (length program) 0 (λ (z : length program ≡ 0). omega (arith, c .some)), le-ltb 65535 (length program) (c .short), c .is-sound)
       (rw (roomy image (c .found) (length pool) (length program) (c .is-sound), le-leb (pool-bytes program (c .found)) (min 65536 (length pool)) (c .room)))
@@ -91,7 +91,7 @@ module _ (table : List Task) (pool ends image program : List ℕ) where
   abbrev pub with-first : Loading
   with-first = program-first table (sets pool 0 program) (set ends 0 (0 + length program)) (0 + length program)
 
-  pub created-as : (c : Creatable table pool image program) → create table pool ends image program ≡ loaded (c .found .next-id) (s-len (c .found .tasks)) image program (load-table image with-first)
+  pub created-as : (c : Creatable table pool image program) → create table pool ends image program ≡ loaded (c .found .next-id) (s-len-of (c .found .tasks)) image program (load-table image with-first)
   unfolding create create-fit create-behind interned
   created-as c = rw (tests-fit c, first-room c)
 
@@ -137,7 +137,7 @@ module _ (table : List Task) (pool ends image program : List ℕ) where
   )
 
   refusals-tested : (refusal : Refusal) → NotCreatable table pool image program refusal → creation-tests (length table) (length pool) (length program) image ≡ Unfit refusal
-  unfolding creation-tests image-tests tested
+  unfolding creation-tests image-tests image-result
   refusals-tested _ (other-slots other) = rw (ne-eqb (length table) 256 other)
   refusals-tested _ (no-program slots empty) = rw (eq-eqb (length table) 256 slots, eq-eqb (length program) 0 empty)
   refusals-tested _ (long-program slots long) = rw (eq-eqb (length table) 256 slots, ne-eqb (length program) 0 (λ (z : length program ≡ 0). omega (arith, long)), lt-ltb 65535 (length program) long)

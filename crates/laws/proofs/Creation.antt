@@ -14,7 +14,7 @@ use Rattle.storage.specs.Tasks.{blank}
 use Rattle.storage.proofs.Laws.{living-cleared}
 use Rattle.storage.proofs.Soundness.{Counts, counts-sound, sound-cleared}
 use Rattle.image.specs.Image.{Image, sound, task-count, read-image}
-use Rattle.image.specs.Reading.{s-len}
+use Rattle.image.specs.Reading.{s-len-of}
 use Rattle.image.specs.Table.{Loading}
 use Rattle.table_image.specs.Loops.{load-records}
 use Rattle.table_image.specs.Tables.{in-use, loading}
@@ -133,7 +133,7 @@ pub record Begins (bytes : List ℕ) (machine : Machine) : Type 0 where
   pub read : read-image bytes ≡ sound image
   pub tasks : Orderly (image .next-id) 0 (image .tasks)
   pub next-id : machine .«next_id» .0 ≡ image .next-id
-  pub count : machine .count ≡ s-len (image .tasks)
+  pub count : machine .count ≡ s-len-of (image .tasks)
 
 begins-with : (table : List Task) (lent size : ℕ) (bytes : List ℕ) (next-id count len : ℕ) → Fits (length table) lent size bytes next-id count len → (machine : Machine)
     → machine .«next_id» .0 ≡ next-id → machine .count ≡ len → Begins bytes machine

@@ -7,8 +7,8 @@ use native.Mathlib.Omega.{arith}
 use lib.Dec.{eqb}
 use lib.ListN.{length, getD}
 use Rattle.bytecode.specs.Opcodes.{T-CREATE}
-use Rattle.image.specs.Image.{ImageTask, Image, Read, read-image}
-use Rattle.image.specs.Reading.{s-len}
+use Rattle.image.specs.Image.{ImageTask, Image, Parsed, read-image}
+use Rattle.image.specs.Reading.{s-len-of}
 use Rattle.machine.specs.World.{World, op}
 use Rattle.machine.specs.Words.{next}
 use Rattle.machine.specs.Step.{step}
@@ -121,8 +121,8 @@ loaded-rising : {high low : ℕ} {tasks : List ImageTask} → low ≤ high → O
 loaded-rising fits none = ends fits
 loaded-rising fits (more rising below states rest) = goes rising (loaded-rising (omega (arith, below)) rest)
 
-loaded-count : (tasks : List ImageTask) → s-len tasks ≡ past-greatest (ids-of tasks)
-unfolding s-len past-greatest
+loaded-count : (tasks : List ImageTask) → s-len-of tasks ≡ past-greatest (ids-of tasks)
+unfolding s-len-of past-greatest
 loaded-count [] = refl
 loaded-count (task ∷ tasks) = let n = loaded-count tasks in omega (arith, n)
 
@@ -154,7 +154,7 @@ module _ (bytes : List ℕ) (first w : World) (b : Begins bytes (first .machine)
 
   read-held : Held (loaded-ids (read-image bytes) ++ given) w
   unfolding loaded-ids
-  read-held = subst (λ (r : Read Image). Held (loaded-ids r ++ given) w) (sym (b .read)) both-held
+  read-held = subst (λ (r : Parsed Image). Held (loaded-ids r ++ given) w) (sym (b .read)) both-held
 
 -- document 01: no two tasks, loaded or created, have one id, and S_LEN pushes the greatest id held since creation plus 1, deleted ones included; 0 if none
 pub ids-always : (program image : List ℕ) (first : World) → FreshWorld program image first → (calls : List HostCall) → Held (held-ids image calls first) (history calls first)

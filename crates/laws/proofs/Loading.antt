@@ -16,7 +16,7 @@ use Rattle.storage.specs.Tasks.{blank, new-task}
 use Rattle.storage.proofs.Laws.{lives-blank, living-more, length-title}
 use Rattle.storage.proofs.Soundness.{Living, living-sound, sound-set}
 use Rattle.image.specs.Image.{ImageTask, sound, id-in, body-length, task-at, read-from}
-use Rattle.image.specs.Reading.{s-len}
+use Rattle.image.specs.Reading.{s-len-of}
 use Rattle.image.specs.Slots.{loaded-task}
 use Rattle.image.specs.Table.{Loading, bytes-after, entries-after, next-reference, load-slot, load-tasks}
 use Rattle.image.proofs.Readings.{not-bad, Goes, at-end, goes-on, goes, read-none}
@@ -50,8 +50,8 @@ orderly (suc bound) next-id low place bytes tasks e =
         subst (Orderly next-id low) (s .all) (one-task next-id low bytes (s .rest) (s .rules .rising) (s .rules .below) (s .rules .states) (later (s .rest) (s .later)))
 
 -- S_LEN is at most the next id
-pub s-len-below : {next-id low : ℕ} {tasks : List ImageTask} → Orderly next-id low tasks → s-len tasks ≤ next-id
-unfolding s-len
+pub s-len-below : {next-id low : ℕ} {tasks : List ImageTask} → Orderly next-id low tasks → s-len-of tasks ≤ next-id
+unfolding s-len-of
 s-len-below none = omega arith
 s-len-below (more rising below states rest) = omega (arith, below, s-len-below rest)
 
@@ -147,9 +147,9 @@ pub record Loaded (l after : Loading) (count tasks : ℕ) : Type 0 where
   pub loads : Loads after count
   pub living : living-of (after .table) ≡ living-of (l .table) + tasks
 
-pub load-all : {next-id low : ℕ} {tasks : List ImageTask} → Orderly next-id low tasks → (l : Loading) (count : ℕ) → s-len tasks ≤ count → next-id ≤ 256 → Loads l count → Empty (l .table) low
+pub load-all : {next-id low : ℕ} {tasks : List ImageTask} → Orderly next-id low tasks → (l : Loading) (count : ℕ) → s-len-of tasks ≤ count → next-id ≤ 256 → Loads l count → Empty (l .table) low
     → Loaded l (load-tasks tasks l) count (length tasks)
-unfolding load-tasks s-len
+unfolding load-tasks s-len-of
 load-all none l count most few s empty = record { loads = s; living = omega arith }
 load-all {low = low} (more {task = task} {tasks = tasks} rising below states rest) l count most few s empty =
     let d = load-all rest (one-loaded l count task s) count (omega arith) few (load-one l count task s (omega arith) states) (still-empty l count task s low rising empty) in

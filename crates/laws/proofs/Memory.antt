@@ -16,11 +16,12 @@ use Rattle.values.specs.declared.ValueResult.{ValueResult}
 use Rattle.values.specs.declared.ValueResult.the-variants.{Value, NoValue}
 use Rattle.values.proofs.Laws.{pointer-back}
 use Rattle.memory.specs.Allocation as allocation
-use Rattle.memory.specs.Allocation.{is-element-tag, vector, offset-aligned, filling, stored, alloc}
+use Rattle.memory.specs.Allocation.{is-element-tag, vector, offset-aligned, filling, vector-stored, alloc}
 use Rattle.memory.specs.declared.AllocResult.the-variants.{Allocated, NotAllocated}
 use Rattle.memory.proofs.Placed.{aligned-above}
 use Rattle.memory.specs.Change as change
-use Rattle.memory.specs.Change.{element-size-bytes, little-endian, changed, mut-vec, inside}
+use Rattle.slices.specs.Numbers.{little-endian}
+use Rattle.memory.specs.Change.{element-size-bytes, changed, mut-vec, inside}
 use Rattle.memory.specs.declared.ChangeResult.{ChangeResult}
 use Rattle.memory.specs.declared.ChangeResult.the-variants.{Changed, NotChanged}
 use Rattle.memory.specs.declared.SizeResult.{SizeResult}
@@ -69,9 +70,9 @@ vector-boxes used size tag =
     (λ _. not-boxes _)
 
 -- a value in the memory that is then in use, of which there is no less than before
-data Allocates (lent used : ℕ) : allocation.After → Type 0 where
-  allocated : (value more : ℕ) (memory : List ℕ) → used ≤ more → more ≤ lent → Inside more value → length memory ≡ lent → Allocates lent used (allocation.after (Allocated value more) memory)
-  not-allocated : (refusal : Refusal) (memory : List ℕ) → Allocates lent used (allocation.after (NotAllocated refusal) memory)
+data Allocates (lent used : ℕ) : allocation.AfterAllocation → Type 0 where
+  allocated : (value more : ℕ) (memory : List ℕ) → used ≤ more → more ≤ lent → Inside more value → length memory ≡ lent → Allocates lent used (allocation.after-allocation (Allocated value more) memory)
+  not-allocated : (refusal : Refusal) (memory : List ℕ) → Allocates lent used (allocation.after-allocation (NotAllocated refusal) memory)
 
 -- a vector ends where its box says
 box-inside : (offset size tag : ℕ) → offset < 2 ^ 25 → size < 2 ^ 16 → Inside (offset + size) (make-vec-tagged offset size tag)
@@ -80,8 +81,8 @@ box-inside offset size tag small short vec =
     subst (λ (p : FatPointer). p .offset + p .size ≤ offset + size) (sym e) (omega arith)
 
 stored-keeps : (memory payload : List ℕ) (used size offset : ℕ) (result : ValueResult) → used ≤ offset → size < 2 ^ 16 → Boxes offset size result
-    → Allocates (length memory) used (stored memory payload used size offset result)
-unfolding stored
+    → Allocates (length memory) used (vector-stored memory payload used size offset result)
+unfolding vector-stored
 stored-keeps memory payload used size offset _ above short (boxes tag small) =
     either (Allocates (length memory) used) (leb (offset + size) (length memory)) _ _
     (λ fits. allocated _ _ _ (omega arith) (leb-true _ _ fits) (box-inside offset size tag small short) (length-sets memory used (replicate (offset - used) 0 ++ filling size payload))) (λ _. not-allocated _ _)
@@ -95,7 +96,7 @@ alloc-keeps memory payload used size tag short = stored-keeps memory payload use
 wider : (used more value : ℕ) → used ≤ more → Inside used value → Inside more value
 wider used more value less inside vec = let i = inside vec in omega (arith, i)
 
-placed-keeps : {asked : Type 0} (lent : ℕ) (stack : List ℕ) (registers : Registers) (next height : ℕ) (a : allocation.After) → Registered asked lent registers stack → height ≤ registers .height → height < 1000
+placed-keeps : {asked : Type 0} (lent : ℕ) (stack : List ℕ) (registers : Registers) (next height : ℕ) (a : allocation.AfterAllocation) → Registered asked lent registers stack → height ≤ registers .height → height < 1000
     → Allocates lent (registers .memory) a → Keeps asked lent (placed stack registers next height (a .memory) (a .answer))
 unfolding placed
 placed-keeps lent stack registers next height _ r low room (allocated value more memory no-less fits new long) =
@@ -135,8 +136,8 @@ module _ {asked : Type 0} (registers : Registers) (stack memory : List ℕ) (nex
   unfolding changed
   changed-long m pointer index payload (NoSize refusal) = refl
   changed-long m pointer index payload (Size width) =
-      either (λ (a : change.After). length (a .memory) ≡ length m) (leb (pointer .size / width) index) _ _ (λ _. refl)
-      (λ _. either (λ (a : change.After). length (a .memory) ≡ length m) (inside m pointer) _ _ (λ _. length-sets m (pointer .offset + index * width) (little-endian width payload)) (λ _. refl))
+      either (λ (a : change.AfterChange). length (a .memory) ≡ length m) (leb (pointer .size / width) index) _ _ (λ _. refl)
+      (λ _. either (λ (a : change.AfterChange). length (a .memory) ≡ length m) (inside m pointer) _ _ (λ _. length-sets m (pointer .offset + index * width) (little-endian width payload)) (λ _. refl))
 
   in-use-long : (pointer : FatPointer) (index : ElementIndex) (payload tag : ℕ) → length (mut-in-use memory (registers .memory) pointer index payload tag .memory) ≡ length memory
   unfolding mut-in-use mut-vec

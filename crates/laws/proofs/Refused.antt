@@ -27,7 +27,7 @@ use Rattle.machine.specs.declared.CreateResult.the-variants.{NotCreated}
 use Rattle.machine.specs.declared.Outcome.the-variants.{Refused}
 use Rattle.machine.specs.World.{World, with-machine}
 use Rattle.machine.specs.Run.{run}
-use Rattle.machine.specs.Calls.{may-start, may-continue, allowed, report, not-allowed, Reported, reports, at-end, is-sound, call-with, call, start, go-on}
+use Rattle.machine.specs.Calls.{may-start, may-continue, allowed, report, not-allowed, Reported, reports, reported-end, is-sound, call-with, call, start, go-on}
 use Rattle.machine.specs.Reads.{readable, value-at, read-to, value-read, task-read, host-saved, SavedTo, saved-to, host-save-as, host-save}
 use Rattle.machine.specs.Creation.{Made, made, create-behind, create-fit, create}
 use Rattle.machine.specs.History.{world-after, world-saved, HostCall, reads-value, reads-task, left-by}
@@ -42,7 +42,7 @@ use Rattle.laws.proofs.RefusedInside.{run-other}
 -- ---- start and continue: 26
 
 -- a call that is allowed runs
-pub call-allowed : (verb : Verb) (fuel : ℕ) (w : World) → allowance verb w .allowed ≡ true → call verb fuel w ≡ at-end fuel (run fuel (with-machine w (allowance verb w .machine)))
+pub call-allowed : (verb : Verb) (fuel : ℕ) (w : World) → allowance verb w .allowed ≡ true → call verb fuel w ≡ reported-end fuel (run fuel (with-machine w (allowance verb w .machine)))
 unfolding call call-with
 call-allowed verb fuel w e = simp e
 
@@ -115,7 +115,7 @@ save-not-saved w refusal =
 -- ---- each
 
 -- an instruction is never refused with 26, so a start or a continue that answers 26 was not allowed
-run-outcome : (fuel : ℕ) (w : World) → at-end fuel (run fuel w) .report .outcome ≡ run fuel w .outcome
+run-outcome : (fuel : ℕ) (w : World) → reported-end fuel (run fuel w) .report .outcome ≡ run fuel w .outcome
 unfolding report
 run-outcome fuel w = refl
 

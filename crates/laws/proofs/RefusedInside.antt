@@ -31,7 +31,7 @@ use Rattle.values.specs.declared.PointerResult.{PointerResult}
 use Rattle.values.specs.declared.TagResult.{TagResult}
 use Rattle.values.specs.declared.ValueResult.{ValueResult}
 use Rattle.values.specs.declared.ValueResult.the-variants.{Value, NoValue}
-use Rattle.memory.specs.Allocation.{is-element-tag, offset-aligned, vector, stored, alloc}
+use Rattle.memory.specs.Allocation.{is-element-tag, offset-aligned, vector, vector-stored, alloc}
 use Rattle.memory.specs.Allocation as allocation
 use Rattle.memory.specs.Change as change
 use Rattle.memory.specs.Change.{element-size-bytes, changed, mut-vec, inside}
@@ -55,8 +55,8 @@ use Rattle.image.specs.Image.{written}
 use Rattle.image.specs.Slots.{title-in}
 use Rattle.image.specs.Table.{living-tasks, refusal-by, task-refusal, or-else, first-refusal, image-of-tasks, SavedTable, saved-over, saved-unless, save-tasks, save-table}
 use Rattle.machine.specs.World.{World, code, place, height, memory-in-use, op, at-end}
-use Rattle.machine.specs.Words.{StepResult, next, refused, test, operand-found, operand, popped, pop, looked-at, last, push, calculated, pointed, pointer, tagged, tag, bytes-of, allocated, store, element-changed, loop-pushed, push-loop, loop-popped, pop-loop, loop-looked-at, last-loop, frame-pushed, push-frame, frame-popped, pop-frame, bounded, bounds, interned, intern, task-of, found, find, first-state, has-state, with-room, room, saved}
-use Rattle.machine.specs.Opcodes.{push-u32, push-calldata, push-byte, id-of, t-create, get-field, t-get-field, set-field, t-set-field, t-delete, saving, s-save, s-len, «do», loop, loop-index, enter, call, end-call, drops, dup, swap, equal, eq, neq, compare, jump-if-false, m-sti, m-st, m-muta, muli, mul}
+use Rattle.machine.specs.Words.{StepResult, next, refused, test, operand-found, operand, popped, pop, looked-at, last, push, calculated, pointed, pointer, tagged, tag, bytes-of, allocated, store, element-changed, loop-pushed, push-loop, loop-popped, pop-loop, loop-looked-at, last-loop, frame-pushed, push-frame, frame-popped, pop-frame, bounds-found, bounds, interned, intern, task-of, found, find, first-state, has-state, with-room, room, saved}
+use Rattle.machine.specs.Opcodes.{push-u32, push-calldata, push-byte, id-of, t-create, get-field, t-get-field, set-field, t-set-field, t-delete, saving, s-save, s-len, «do», loop, loop-index, enter, call-task, end-call, drops, dup, swap, equal, eq, neq, compare, jump-if-false, m-sti, m-st, m-muta, muli, mul}
 use Rattle.machine.specs.Step.{execute, step}
 use Rattle.laws.specs.Sound.{Passes}
 use Rattle.laws.proofs.Either.{either}
@@ -181,10 +181,10 @@ unfolding bytes-of
 bytes-fine w vector onward fine = test-fine (inside (memory-in-use w) vector) _ _ refl (fine _)
 
 stored-fine : (w : World) (to height size offset : ℕ) (payload : List ℕ) (result : ValueResult) → Calculates result
-    → Fine (allocated w to height (stored (w .memory) payload (w .machine .memory) size offset result .memory) (stored (w .memory) payload (w .machine .memory) size offset result .answer))
-unfolding stored allocated
+    → Fine (allocated w to height (vector-stored (w .memory) payload (w .machine .memory) size offset result .memory) (vector-stored (w .memory) payload (w .machine .memory) size offset result .answer))
+unfolding vector-stored allocated
 stored-fine w to height size offset payload _ (gives v) =
-    either (λ (a : allocation.After). Fine (allocated w to height (a .memory) (a .answer))) (leb (offset + size) (length (w .memory))) _ _ (λ _. goes _) (λ _. stops _ refl)
+    either (λ (a : allocation.AfterAllocation). Fine (allocated w to height (a .memory) (a .answer))) (leb (offset + size) (length (w .memory))) _ _ (λ _. goes _) (λ _. stops _ refl)
 stored-fine w to height size offset payload _ (no-value refusal other) = stops refusal other
 
 store-fine : (w : World) (to height size tag : ℕ) (payload : List ℕ) → Fine (store w to height size tag payload)
@@ -198,8 +198,8 @@ changed-fine : (memory : List ℕ) (pointer : FatPointer) (index payload : ℕ) 
 unfolding changed element-changed
 changed-fine memory pointer index payload onward (NoSize refusal) other fine = stops refusal (other refusal refl)
 changed-fine memory pointer index payload onward (Size width) other fine =
-    either (λ (a : change.After). Fine (element-changed (a .answer) onward)) (leb (pointer .size / width) index) _ _ (λ _. stops _ refl)
-    (λ _. either (λ (a : change.After). Fine (element-changed (a .answer) onward)) (inside memory pointer) _ _ (λ _. fine) (λ _. stops _ refl))
+    either (λ (a : change.AfterChange). Fine (element-changed (a .answer) onward)) (leb (pointer .size / width) index) _ _ (λ _. stops _ refl)
+    (λ _. either (λ (a : change.AfterChange). Fine (element-changed (a .answer) onward)) (inside memory pointer) _ _ (λ _. fine) (λ _. stops _ refl))
 
 size-other : (tag : ℕ) (refusal : Refusal) → element-size-bytes tag ≡ NoSize refusal → Other refusal
 unfolding element-size-bytes
@@ -231,8 +231,8 @@ unfolding frame-popped stacks.pop-frame
 pop-frame-fine frames onward few fine = some-fine (λ (r : PopFrameResult). Fine (frame-popped r onward)) 2 (frames .count) _ _ few (λ refusal other. stops refusal other) (fine _)
 
 bounds-fine : (w : World) (entry : InstructionsRef) (onward : ℕ → ℕ → StepResult) → ((start end : ℕ) → Fine (onward start end)) → Fine (bounds w entry onward)
-unfolding bounded pools.bounds
-bounds-fine w entry onward fine = either (λ (r : BoundsResult). Fine (bounded r onward)) (ltb (entry .0) (min (w .machine .entries) 1024)) _ _ (λ _. fine _ _) (λ _. stops _ refl)
+unfolding bounds-found pools.bounds
+bounds-fine w entry onward fine = either (λ (r : BoundsResult). Fine (bounds-found r onward)) (ltb (entry .0) (min (w .machine .entries) 1024)) _ _ (λ _. fine _ _) (λ _. stops _ refl)
 
 intern-fine : (w : World) (calldata : List ℕ) (onward : InstructionsRef → World → StepResult) → ((entry : InstructionsRef) (after : World) → Fine (onward entry after)) → Fine (intern w calldata onward)
 unfolding interned pools.interned
@@ -384,8 +384,8 @@ module _ (w : World) (high : w .machine .height ≤ 1000) (few : w .machine .loo
   unfolding enter
   enter-fine v entry = bounds-fine v entry _ (λ start end. either Fine (leb end start) _ _ (λ _. goes _) (λ _. push-frame-fine (v .machine .frames) _ _ (λ frames. goes _)))
 
-  call-fine : Fine (call w)
-  unfolding call
+  call-fine : Fine (call-task w)
+  unfolding call-task
   call-fine = pop-fine w _ _ high (λ id below low. either Fine (task-of w (id-of id) .living) _ _ (λ _. enter-fine _ _) (λ _. goes _))
 
   end-call-fine : Fine (end-call w)

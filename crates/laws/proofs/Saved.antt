@@ -12,7 +12,7 @@ use Rattle.bytecode.specs.Opcodes.{S-SAVE}
 use Rattle.pools.specs.Pool.{end-of, start-of, entry-of, interned}
 use Rattle.pools.proofs.Laws.{still-sound}
 use Rattle.storage.specs.declared.Task.{Task}
-use Rattle.image.specs.Numbers.{Bytes}
+use Rattle.slices.specs.Numbers.{Bytes}
 use Rattle.image.specs.Image.{Image}
 use Rattle.image.specs.Table.{load-table, saved-over, save-table}
 use Rattle.image.specs.declared.SaveResult.the-variants.{Saved, NotSaved}
@@ -32,7 +32,7 @@ use Rattle.machine.specs.Run.{end-at, follow, run}
 use Rattle.machine.specs.Words.{StepResult, next, refused, saved}
 use Rattle.machine.specs.Opcodes.{onward, saving, s-save}
 use Rattle.machine.specs.Calls.{fresh, allowing, allowed, may-start, ended, report, Reported, is-sound, call-with, call, start}
-use Rattle.machine.specs.Calls.{at-end as reported-end}
+use Rattle.machine.specs.Calls.{reported-end as reported-end}
 use Rattle.machine.specs.Creation.{main-frame, Made}
 use Rattle.machine.specs.Reads.{saved-to, host-saved, host-save-as, host-save}
 use Rattle.machine.specs.History.{FreshWorld, is-created}

@@ -6,13 +6,13 @@ use mathlib.Core.Path.{_≡_}
 use lib.Dec.{eqb}
 use lib.ListN.{length, getD}
 use Rattle.bytecode.specs.Opcodes.{T-CREATE}
-use Rattle.image.specs.Image.{ImageTask, Image, Read, sound, bad-at, read-image}
+use Rattle.image.specs.Image.{ImageTask, Image, Parsed, sound, bad-at, read-image}
 use Rattle.machine.specs.World.{World, op}
 use Rattle.machine.specs.History.{HostCall}
 use Rattle.laws.specs.Counted.{history-finished}
 
 -- the ids of an image's tasks; an image that is not sound has none
-unfoldable pub loaded-ids : Read Image → List ℕ
+unfoldable pub loaded-ids : Parsed Image → List ℕ
 loaded-ids (sound image) = map (λ (task : ImageTask). task .id) (image .tasks)
 loaded-ids (bad-at place) = []
 

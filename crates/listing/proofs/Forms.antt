@@ -10,7 +10,7 @@ use Rattle.errors.specs.declared.Refusal.{Refusal}
 use Rattle.errors.specs.declared.Details.{Details}
 use Rattle.errors.specs.declared.Details.the-variants.{Nothing, One, Two}
 use Rattle.text.specs.Ascii.{ascii}
-use Rattle.text.specs.Numbers.{spaced, words, shown, numbers-left, filled}
+use Rattle.text.specs.Numbers.{spaced, words, filled-in, numbers-left, filled}
 use Rattle.text.specs.Lines.{formed, line, said, lined, put-line}
 use Rattle.text.specs.declared.Form.the-variants.{Plain, Spaced}
 use Rattle.text.specs.declared.LineResult.the-variants.{Line}
@@ -27,21 +27,21 @@ refused-by refusal details shape number-is details-is told =
 
 module _ (refusal : Refusal) {number : ℕ} {given : Details} (number-is : number ≡ number-of refusal) (details-is : listed given ≡ details-of refusal) where
   pub refused-plain : given ≡ Nothing → said (ascii "refused #") (number ∷ []) ≡ line-of-refusal (number-of refusal) (details-of refusal)
-  unfolding said line formed filled shown numbers-left ascii line-of-refusal spaced
+  unfolding said line formed filled filled-in numbers-left ascii line-of-refusal spaced
   refused-plain = refused-by refusal Nothing refl number-is details-is
 
   pub refused-one : {detail : ℕ} → given ≡ One detail
       → line (ascii "refused # #") (number ∷ detail ∷ []) Plain [] ≡ line-of-refusal (number-of refusal) (details-of refusal)
-  unfolding line formed filled shown numbers-left ascii line-of-refusal spaced
+  unfolding line formed filled filled-in numbers-left ascii line-of-refusal spaced
   refused-one {detail} = refused-by refusal (One detail) refl number-is details-is
 
   pub refused-two : {detail second : ℕ} → given ≡ Two detail second
       → line (ascii "refused # # #") (number ∷ detail ∷ second ∷ []) Plain [] ≡ line-of-refusal (number-of refusal) (details-of refusal)
-  unfolding line formed filled shown numbers-left ascii line-of-refusal spaced
+  unfolding line formed filled filled-in numbers-left ascii line-of-refusal spaced
   refused-two {detail} {second} = refused-by refusal (Two detail second) refl number-is details-is
 
 pub no-numbers : (part : List ℕ) → length part < 4 → said (ascii "vec ") [] ≡ line-of-numbers (words part)
-unfolding said line formed filled shown numbers-left ascii line-of-numbers words
+unfolding said line formed filled filled-in numbers-left ascii line-of-numbers words
 no-numbers [] few = refl
 no-numbers (a ∷ []) few = refl
 no-numbers (a ∷ b ∷ []) few = refl
@@ -49,7 +49,7 @@ no-numbers (a ∷ b ∷ c ∷ []) few = refl
 no-numbers (a ∷ b ∷ c ∷ d ∷ more) few = absurd (omega arith)
 
 pub some-numbers : (part : List ℕ) → 4 ≤ length part → line (ascii "vec") [] Spaced part ≡ line-of-numbers (words part)
-unfolding line formed filled shown numbers-left ascii line-of-numbers words spaced
+unfolding line formed filled filled-in numbers-left ascii line-of-numbers words spaced
 some-numbers [] many = absurd (omega arith)
 some-numbers (a ∷ []) many = absurd (omega arith)
 some-numbers (a ∷ b ∷ []) many = absurd (omega arith)

@@ -11,7 +11,7 @@ use Rattle.errors.specs.Refusals.{number-of, details-of}
 use Rattle.errors.specs.declared.Refusal.{Refusal}
 use Rattle.errors.specs.declared.Refusal.the-variants as refusal
 use Rattle.text.specs.Ascii.{ascii}
-use Rattle.text.specs.Numbers.{digit, decimal, hex, spaced, words, shown, numbers-left, filled}
+use Rattle.text.specs.Numbers.{digit, decimal, hex, spaced, words, filled-in, numbers-left, filled}
 use Rattle.text.specs.Lines.{formed, line, said}
 use Rattle.text.proofs.Decimals.{decimal-one, decimal-more}
 use Rattle.text.proofs.Hexes.{hex-length}
@@ -96,19 +96,19 @@ number-fits Null = Unit
 number-fits (NoReturn r) = Unit
 
 bool-short : (truth : Bool) → length (line-of-bool truth) ≤ 196608
-unfolding line-of-bool said line formed filled shown numbers-left ascii
+unfolding line-of-bool said line formed filled filled-in numbers-left ascii
 bool-short true = omega arith
 bool-short false = omega arith
 
 -- the line of calldata fits into 196,608 bytes, whatever its bytes are
 pub longest-calldata : (entry : InstructionsRef) (part : List ℕ) → length part ≤ 65536 → length (line-of-value (CallData entry) part) ≤ 196608
-unfolding line-of-value line formed filled shown numbers-left ascii
+unfolding line-of-value line formed filled filled-in numbers-left ascii
 longest-calldata entry part few = omega (arith, length-append (hex part) (10 ∷ []), hex-length part)
 
 -- the line of a value fits into 196,608 bytes
 pub longest : (kind : Return) (part : List ℕ) → number-fits kind → length part ≤ 65536 → ((i : ℕ) → getD part i 0 < 256)
     → length (line-of-value kind part) ≤ 196608
-unfolding number-fits line-of-value said line formed filled shown numbers-left ascii
+unfolding number-fits line-of-value said line formed filled filled-in numbers-left ascii
 longest (U32 n) part fits few byte = omega (arith, one-number n, ten-digits n fits)
 longest (Boolean truth) part fits few byte = bool-short truth
 longest (String pointer) part fits few byte = omega (arith, length-append part (10 ∷ []))

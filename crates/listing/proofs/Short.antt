@@ -11,7 +11,7 @@ use Rattle.storage.specs.declared.Task.{Task}
 use Rattle.storage.specs.Table.{lives, living-of}
 use Rattle.storage.specs.Tasks.{blank}
 use Rattle.text.specs.Ascii.{ascii}
-use Rattle.text.specs.Numbers.{decimal, spaced, shown, numbers-left, filled}
+use Rattle.text.specs.Numbers.{decimal, spaced, filled-in, numbers-left, filled}
 use Rattle.text.specs.Lines.{formed, line, said}
 use Rattle.text.specs.declared.Form.the-variants.{Plain}
 use Rattle.listing.specs.declared.Head.{Head}
@@ -48,7 +48,7 @@ numbers-told (Saved length) = length ∷ []
 
 -- the first line has at most 53 bytes
 pub head-short : (head : Head) → ((i : ℕ) → getD (numbers-told head) i 0 < 18446744073709551616) → length (line-of-head head) ≤ 53
-unfolding numbers-told line-of-head line-of-refusal said line formed filled shown numbers-left ascii spaced
+unfolding numbers-told line-of-head line-of-refusal said line formed filled filled-in numbers-left ascii spaced
 head-short (Done n) small = omega (arith, one-number n, twenty-digits n (small 0))
 head-short (Paused n) small = omega (arith, one-number n, twenty-digits n (small 0))
 head-short (Refused r) small =
@@ -59,7 +59,7 @@ head-short (Saved n) small = omega (arith, one-number n, twenty-digits n (small 
 
 -- a count of 64 bits has at most 28
 pub count-short : (counted : Counted) (n : ℕ) → n < 18446744073709551616 → length (line-of-count counted n) ≤ 28
-unfolding line-of-count said line formed filled shown numbers-left ascii
+unfolding line-of-count said line formed filled filled-in numbers-left ascii
 count-short Values n small = omega (arith, one-number n, twenty-digits n small)
 count-short Tasks n small = omega (arith, one-number n, twenty-digits n small)
 
@@ -72,7 +72,7 @@ pub record Small (task : Task) : Type 0 where
   pub title : task .«title_len» ≤ 128
 
 living-line : (task : Task) → Small task → length (line (ascii "task # # ") (task .id .0 ∷ task .state .state ∷ []) Plain (take (task .«title_len») (task .title))) ≤ 142
-unfolding line formed filled shown numbers-left ascii
+unfolding line formed filled filled-in numbers-left ascii
 living-line task told =
     let id : length (decimal (task .id .0)) ≤ 3 = three-digits (task .id .0) (omega (arith, told .id)) in
     let state : length (decimal (task .state .state)) ≤ 3 = three-digits (task .state .state) (omega (arith, told .state)) in

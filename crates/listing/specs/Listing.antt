@@ -63,21 +63,21 @@ line-of-task task =
     []
 
 -- what a read of a value answers, and the part beside it
-pub record Read : Type 0 where
+pub record ValueRead : Type 0 where
   pub answer : Return
   pub part : List ℕ
 
 -- what a word of the stack is read as
-abbrev pub read-of : List ℕ → List ℕ → List ℕ → ℕ → ℕ → Read
+abbrev pub read-of : List ℕ → List ℕ → List ℕ → ℕ → ℕ → ValueRead
 read-of memory pool ends entries word = record {
   answer = unbox-value memory ends entries word;
   part = part-of memory pool ends (unbox-value memory ends entries word);
 }
 
 -- what each word is read as
-unfoldable pub values-of : List ℕ → List ℕ → List ℕ → ℕ → List ℕ → List Read
-values-of memory pool ends entries [] = []
-values-of memory pool ends entries (word ∷ more) = read-of memory pool ends entries word ∷ values-of memory pool ends entries more
+unfoldable pub values-read : List ℕ → List ℕ → List ℕ → ℕ → List ℕ → List ValueRead
+values-read memory pool ends entries [] = []
+values-read memory pool ends entries (word ∷ more) = read-of memory pool ends entries word ∷ values-read memory pool ends entries more
 
 -- how high the stack is that is listed: that of a run that is done
 unfoldable pub height-of : Head → ℕ → ℕ
@@ -87,7 +87,7 @@ height-of (Refused refusal) height = 0
 height-of (Saved length) height = 0
 
 -- the lines of values, bottom first
-unfoldable pub lines-of-values : List Read → List ℕ
+unfoldable pub lines-of-values : List ValueRead → List ℕ
 lines-of-values [] = []
 lines-of-values (read ∷ more) = line-of-value (read .answer) (read .part) ++ lines-of-values more
 
@@ -97,21 +97,21 @@ lines-of-tasks [] = []
 lines-of-tasks (task ∷ more) = line-of-task task ++ lines-of-tasks more
 
 -- the listing after a call: its values, and the table of tasks
-unfoldable pub listing : Head → List Read → List Task → List ℕ
+unfoldable pub listing : Head → List ValueRead → List Task → List ℕ
 listing head values table =
     line-of-head head ++ (line-of-count Values (length values) ++ (lines-of-values values ++ (line-of-count Tasks (living-of table) ++ lines-of-tasks table)))
 
 -- ---- the same, line by line
 
 -- a line behind the count of values: a value each, then how many tasks follow, then a task
-unfoldable pub line-behind : List Read → ℕ → Task → ℕ → List ℕ
+unfoldable pub line-behind : List ValueRead → ℕ → Task → ℕ → List ℕ
 line-behind (read ∷ more) living task zero = line-of-value (read .answer) (read .part)
 line-behind (read ∷ more) living task (suc number) = line-behind more living task number
 line-behind [] living task zero = line-of-count Tasks living
 line-behind [] living task (suc number) = line-of-task task
 
 -- a line by its number, counted from 0, with the count of living tasks and the task in the line's slot
-unfoldable pub line-by : Head → List Read → ℕ → Task → ℕ → List ℕ
+unfoldable pub line-by : Head → List ValueRead → ℕ → Task → ℕ → List ℕ
 line-by head values living task zero = line-of-head head
 line-by head values living task (suc zero) = line-of-count Values (length values)
 line-by head values living task (suc (suc number)) = line-behind values living task number
@@ -125,7 +125,7 @@ unfoldable pub slot-shown : ℕ → ℕ → ℕ
 slot-shown values number = number - (values + 3)
 
 -- a line of the listing, by its number
-unfoldable pub line-at : Head → List Read → List Task → ℕ → List ℕ
+unfoldable pub line-at : Head → List ValueRead → List Task → ℕ → List ℕ
 line-at head values table number = line-by head values (living-of table) (getD table (slot-shown (length values) number) blank) number
 
 -- the first so many lines, one after the other

@@ -3,7 +3,7 @@ ghost use mathlib.Core.Path.{_≡_};
 ghost use Prim.Native.Nat.{_%_, _^_};
 ghost use lib.ListN.{take};
 ghost use Rattle.text.specs.Lines.{lined, put-line};
-ghost use Rattle.listing.specs.Listing.{height-of, values-of, line-by, line-count, slot-shown};
+ghost use Rattle.listing.specs.Listing.{height-of, values-read, line-by, line-count, slot-shown};
 use crate::Counted;
 use crate::Head;
 use crate::count_line;
@@ -68,7 +68,7 @@ pub fn line_at<'a>(
     task: Task,
     number: usize,
 ) -> LineResult
-    ensures { λ r. ⌜ lined r (now (out .exit)) ≡ put-line (now (out .entry)) (line-by head (values-of (now (memory .entry)) (now (pool .entry)) (now (ends .entry)) entries (now (words .entry))) living task number) ⌝ }
+    ensures { λ r. ⌜ lined r (now (out .exit)) ≡ put-line (now (out .entry)) (line-by head (values-read (now (memory .entry)) (now (pool .entry)) (now (ends .entry)) entries (now (words .entry))) living task number) ⌝ }
 {
     if number == 0 {
         return head_line(out, head);

@@ -112,8 +112,8 @@ abbrev pub reports : Report → World → Reported
 reports report w = reported report (w .table) (w .stack) (w .memory) (w .pool) (w .ends) (w .save)
 
 -- the end of a run, reported
-abbrev pub at-end : ℕ → End → Reported
-at-end fuel end =
+abbrev pub reported-end : ℕ → End → Reported
+reported-end fuel end =
     reports (report fuel (record { machine = end .world .machine; left = end .left; outcome = end .outcome })) (end .world)
 
 abbrev pub is-sound : World → Bool
@@ -121,7 +121,7 @@ is-sound w = sound-world (w .table) (w .memory) (w .pool) (w .ends) (w .save) (w
 
 -- a run where it is allowed, else 26
 unfoldable pub call-with : ℕ → World → Permission → Reported
-call-with fuel w a = cond (a .allowed) (at-end fuel (run fuel (with-machine w (a .machine)))) (reports (not-allowed (w .machine)) w)
+call-with fuel w a = cond (a .allowed) (reported-end fuel (run fuel (with-machine w (a .machine)))) (reports (not-allowed (w .machine)) w)
 
 unfoldable pub call : Verb → ℕ → World → Reported
 call verb fuel w = call-with fuel w (allowed (w .machine) (is-sound w) verb)

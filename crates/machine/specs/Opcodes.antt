@@ -19,7 +19,7 @@ use Rattle.storage.specs.declared.TaskId.{TaskId}
 use Rattle.image.specs.Table.{SavedTable, save-table}
 use Rattle.machine.specs.Machines.{current}
 use Rattle.machine.specs.Titles.{title-length, title-bytes, retitled, retargeted}
-use Rattle.machine.specs.World.{World, code, place, height, memory-in-use, moved, with-stack, with-memory, looping, framed, with-task, counting, with-save}
+use Rattle.machine.specs.World.{World, code, place, height, memory-in-use, moved, with-stack, with-memory, looping, framed, with-task, numbering, with-save}
 use Rattle.machine.specs.Words.{StepResult, next, test, operand, has-data, pop, last, push, calculated, pointer, tag, bytes-of, store, element-changed, next-round, push-loop, pop-loop, last-loop, push-frame, pop-frame, bounds, intern, task-of, find, first-state, has-state, room, saved}
 
 -- the world behind an opcode without operands, with another height
@@ -94,7 +94,7 @@ abbrev pub next-id : World → TaskId
 next-id w = w .machine .«next_id»
 
 abbrev pub with-next-task : World → Task → World
-with-next-task w task = counting (with-task w (next-id w) task) (next-id w .0 + 1) (len-after (w .machine .count) (next-id w .0))
+with-next-task w task = numbering (with-task w (next-id w) task) (next-id w .0 + 1) (len-after (w .machine .count) (next-id w .0))
 
 -- T_CREATE: 3 (reference), 3 (count), 8, 3 (title), 5, 14, 20, 21; the count is taken modulo 256
 unfoldable pub t-create : World → StepResult
@@ -202,8 +202,8 @@ enter w entry =
     next (framed w frames))
 
 -- CALL: 3; a missing task does nothing; 12; empty instructions do nothing; 4
-unfoldable pub call : World → StepResult
-call w =
+unfoldable pub call-task : World → StepResult
+call-task w =
     pop w (height w) λ id below.
     cond (task-of w (id-of id) .living)
     (enter (onward w below) (task-of w (id-of id) .«instructions_ref»))
@@ -298,7 +298,7 @@ m-st w =
     store w (place w + 2) below (to-u32 size) (tag % 256) [])
 
 -- the memory in use with an element of a vector changed
-abbrev pub changing : World → ℕ → FatPointer → ℕ → ℕ → change.After
+abbrev pub changing : World → ℕ → FatPointer → ℕ → ℕ → change.AfterChange
 changing w value vector index payload = change.mut-vec (memory-in-use w) vector (to-u32 index) (to-u32 payload) (raw-tag value)
 
 -- M_MUTA: 3, 3, 3, 5, 5, 14, 14; the value is on top, the index below it, and the vector stays

@@ -49,14 +49,14 @@ value-at stack memory ends machine sound position =
     (NoReturn WrongPhaseOrUnsound)
 
 -- an answer, and the stack, memory and ends after it
-pub record Beside : Type 0 where
+pub record ValueOn : Type 0 where
   pub answer : Return
   pub stack : List ℕ
   pub memory : List ℕ
   pub ends : List ℕ
 
-abbrev pub beside : Return → List ℕ → List ℕ → List ℕ → Beside
-beside answer stack memory ends = record { answer = answer; stack = stack; memory = memory; ends = ends }
+abbrev pub value-on : Return → List ℕ → List ℕ → List ℕ → ValueOn
+value-on answer stack memory ends = record { answer = answer; stack = stack; memory = memory; ends = ends }
 
 -- an answer, and the machine with everything lent to it
 pub record Read (A : Type 0) : Type 0 where
@@ -89,12 +89,12 @@ task-result ends machine sound id task = cond sound (if-found ends machine task 
 abbrev pub task-as : TaskResult → Task → TaskRead
 task-as result task = record { result = result; task = task }
 
-abbrev pub task-at : List ℕ → Machine → Bool → TaskId → Task → TaskRead
-task-at ends machine sound id task = task-as (task-result ends machine sound id task) task
+abbrev pub task-answer : List ℕ → Machine → Bool → TaskId → Task → TaskRead
+task-answer ends machine sound id task = task-as (task-result ends machine sound id task) task
 
 -- the task of an id, as its slot holds it
 unfoldable pub task-read : TaskId → World → Read TaskRead
-task-read id w = read-to (task-at (w .ends) (w .machine) (is-sound w) id (getD (w .table) (slot-of id) blank)) w
+task-read id w = read-to (task-answer (w .ends) (w .machine) (is-sound w) id (getD (w .table) (slot-of id) blank)) w
 
 -- ---- the save by the host: 26, then as S_SAVE
 

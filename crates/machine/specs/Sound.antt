@@ -41,15 +41,15 @@ sound-world table memory pool ends save machine =
     sound-record (length memory) (length pool) ends (length save) machine (sound-table table (machine .«next_id» .0) (machine .count))
 
 -- an answer, and memory, the pool, its ends and the save buffer after it
-pub record Beside : Type 0 where
+pub record RecordTested : Type 0 where
   pub answer : Bool
   pub memory : List ℕ
   pub pool : List ℕ
   pub ends : List ℕ
   pub save : List ℕ
 
-abbrev pub beside : Bool → List ℕ → List ℕ → List ℕ → List ℕ → Beside
-beside answer memory pool ends save = record { answer = answer; memory = memory; pool = pool; ends = ends; save = save }
+abbrev pub record-tested : Bool → List ℕ → List ℕ → List ℕ → List ℕ → RecordTested
+record-tested answer memory pool ends save = record { answer = answer; memory = memory; pool = pool; ends = ends; save = save }
 
 -- the same, with the table
 pub record Tested : Type 0 where

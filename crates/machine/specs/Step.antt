@@ -6,7 +6,7 @@ use Rattle.errors.specs.declared.Refusal.the-variants.{UnexpectedEOB}
 use Rattle.bytecode.specs.Opcodes.{PUSH-U32, PUSH-STATE, PUSH-CALLDATA, PUSH-TASK-FIELD, PUSH-MAX-STATES, T-CREATE, T-GET-FIELD, T-SET-FIELD, T-DELETE, S-SAVE, S-LEN, DO, LOOP, LOOP-INDEX, CALL, END-CALL, DROP, DUP, SWAP, EQ, NEQ, LT, GT, JUMP-IF-FALSE, M-STI, M-ST, M-MUTA, MULI, MUL}
 use Rattle.machine.specs.World.{World, op, at-end, height}
 use Rattle.machine.specs.Words.{StepResult, next, refused}
-use Rattle.machine.specs.Opcodes.{push-u32, push-calldata, push-byte, t-create, t-get-field, t-set-field, t-delete, s-save, s-len, «do», loop, loop-index, call, end-call, drops, dup, swap, eq, neq, compare, jump-if-false, m-sti, m-st, m-muta, muli, mul, onward}
+use Rattle.machine.specs.Opcodes.{push-u32, push-calldata, push-byte, t-create, t-get-field, t-set-field, t-delete, s-save, s-len, «do», loop, loop-index, call-task, end-call, drops, dup, swap, eq, neq, compare, jump-if-false, m-sti, m-st, m-muta, muli, mul, onward}
 
 -- what an opcode does; bytes without an opcode, and S_LOAD, do nothing
 unfoldable pub execute : ℕ → World → StepResult
@@ -23,7 +23,7 @@ execute op w =
     (cond (eqb op DO) («do» w)
     (cond (eqb op LOOP) (loop w)
     (cond (eqb op LOOP-INDEX) (loop-index w)
-    (cond (eqb op CALL) (call w)
+    (cond (eqb op CALL) (call-task w)
     (cond (eqb op END-CALL) (end-call w)
     (cond (eqb op DROP) (drops w)
     (cond (eqb op DUP) (dup w)

@@ -206,13 +206,13 @@ pop-frame frames onward = frame-popped (stacks.pop-frame frames) onward
 
 -- ---- the pool: 12, 22
 
-unfoldable pub bounded : BoundsResult → (ℕ → ℕ → StepResult) → StepResult
-bounded (Bounds start end) onward = onward start end
-bounded (NoBounds refusal) onward = refused refusal
+unfoldable pub bounds-found : BoundsResult → (ℕ → ℕ → StepResult) → StepResult
+bounds-found (Bounds start end) onward = onward start end
+bounds-found (NoBounds refusal) onward = refused refusal
 
 -- where an entry starts and ends
 abbrev pub bounds : World → InstructionsRef → (ℕ → ℕ → StepResult) → StepResult
-bounds w entry onward = bounded (pools.bounds (w .ends) (w .machine .entries) entry) onward
+bounds w entry onward = bounds-found (pools.bounds (w .ends) (w .machine .entries) entry) onward
 
 unfoldable pub interned : World → pools.Pooled → InternResult → (InstructionsRef → World → StepResult) → StepResult
 interned w after (Interned entry bytes) onward = onward entry (pooling w (after .pool) (after .ends) bytes (entry .0 + 1))

@@ -85,8 +85,8 @@ abbrev pub with-task : World → TaskId → Task → World
 with-task w id task = world (w .machine) (set (w .table) (slot-of id) task) (w .stack) (w .memory) (w .pool) (w .ends) (w .save)
 
 -- another next id, and S_LEN count
-abbrev pub counting : World → ℕ → ℕ → World
-counting w next-id count = with-machine w (with-ids (w .machine) next-id count)
+abbrev pub numbering : World → ℕ → ℕ → World
+numbering w next-id count = with-machine w (with-ids (w .machine) next-id count)
 
 -- a saved image of a length
 abbrev pub with-save : World → List ℕ → ℕ → World

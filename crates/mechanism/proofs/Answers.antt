@@ -20,9 +20,9 @@ use Rattle.machine.specs.declared.Machine.{Machine}
 use Rattle.machine.specs.declared.RunEnd.{RunEnd}
 use Rattle.machine.specs.World.{world}
 use Rattle.machine.specs.Run.{ran-to, run}
-use Rattle.machine.specs.Sound.{Tested, tested, Beside, beside, sound-record, sound-world}
-use Rattle.machine.specs.Calls.{reported, allowed, report, not-allowed, at-end, call-with, call}
-use Rattle.machine.specs.Reads.{read-to, value-at, value-read, task-at, task-read, saved-to, host-saved, not-saved, host-save-as, host-save}
+use Rattle.machine.specs.Sound.{Tested, tested, RecordTested, record-tested, sound-record, sound-world}
+use Rattle.machine.specs.Calls.{reported, allowed, report, not-allowed, reported-end, call-with, call}
+use Rattle.machine.specs.Reads.{read-to, value-at, value-read, task-answer, task-read, saved-to, host-saved, not-saved, host-save-as, host-save}
 use Rattle.machine.specs.Reads as reads
 use Rattle.machine.specs.Creation.{made, create}
 use Rattle.mechanism.specs.Creating.{prepared, prepare, created-with, loaded-from, create-as, create-by-parts}
@@ -41,11 +41,11 @@ use Rattle.machine.specs.declared.SaveReport.{SaveReport}
 -- the table's slots, then the record beside it
 pub tests : (table : List Task) (memory pool ends save : List ℕ) (machine : Machine) {good answer : Bool} {table′ : List Task} {memory′ pool′ ends′ save′ : List ℕ}
     → after good table′ ≡ after (sound-table table (machine .«next_id» .0) (machine .count)) table
-    → beside answer memory′ pool′ ends′ save′ ≡ beside (sound-record (length memory) (length pool) ends (length save) machine good) memory pool ends save
+    → record-tested answer memory′ pool′ ends′ save′ ≡ record-tested (sound-record (length memory) (length pool) ends (length save) machine good) memory pool ends save
     → tested answer table′ memory′ pool′ ends′ save′ ≡ tested (sound-world table memory pool ends save machine) table memory pool ends save
 unfolding sound-world
 tests table memory pool ends save machine {good} {answer} {table′} e f =
-    ap (λ (b : Beside). tested (b .answer) table′ (b .memory) (b .pool) (b .ends) (b .save)) f
+    ap (λ (b : RecordTested). tested (b .answer) table′ (b .memory) (b .pool) (b .ends) (b .save)) f
     ∙ ap (λ (a : After Bool (List Task)). tested (sound-record (length memory) (length pool) ends (length save) machine (a .answer)) (a .lent) memory pool ends save) e
 
 -- ---- creation
@@ -82,7 +82,7 @@ module _ (machine : Machine) (table : List Task) (stack memory pool ends save : 
       → reported r table″ stack″ memory″ pool″ ends″ save″ ≡ call verb fuel (world machine table stack memory pool ends save)
   unfolding call-with
   calls-run verb fuel {a} {ran} {r} {table″} {stack″} {memory″} {pool″} {ends″} {save″} begun may went reports =
-      ap (λ (x : Report). reported x table″ stack″ memory″ pool″ ends″ save″) reports ∙ ap (at-end fuel) went
+      ap (λ (x : Report). reported x table″ stack″ memory″ pool″ ends″ save″) reports ∙ ap (reported-end fuel) went
       ∙ sym (simp (may)) ∙ ap (call-with fuel (world machine table′ stack memory′ pool′ ends′ save′)) begun ∙ calls verb fuel
 
   -- one that is not
@@ -94,23 +94,23 @@ module _ (machine : Machine) (table : List Task) (stack memory pool ends save : 
       ∙ sym (simp (may)) ∙ ap (call-with fuel (world machine table′ stack memory′ pool′ ends′ save′)) begun ∙ calls verb fuel
 
   -- the read of a value
-  pub reads-value : (position : ℕ) {r : Return} {stack″ memory″ ends″ : List ℕ} → reads.beside r stack″ memory″ ends″ ≡ reads.beside (value-at stack memory′ ends′ machine good position) stack memory′ ends′
+  pub reads-value : (position : ℕ) {r : Return} {stack″ memory″ ends″ : List ℕ} → reads.value-on r stack″ memory″ ends″ ≡ reads.value-on (value-at stack memory′ ends′ machine good position) stack memory′ ends′
       → read-to r (world machine table′ stack″ memory″ pool′ ends″ save′) ≡ value-read position (world machine table stack memory pool ends save)
   unfolding value-read
   reads-value position f =
-      ap (λ (b : reads.Beside). read-to (b .answer) (world machine table′ (b .stack) (b .memory) pool′ (b .ends) save′)) f
+      ap (λ (b : reads.ValueOn). read-to (b .answer) (world machine table′ (b .stack) (b .memory) pool′ (b .ends) save′)) f
       ∙ ap (λ (t : Tested). read-to (value-at stack (t .memory) (t .ends) machine (t .answer) position) (world machine (t .table) stack (t .memory) (t .pool) (t .ends) (t .save))) e
 
   -- the read of a task
   pub reads-task : (id : TaskId) {slot : ℕ} {task : Task} {r : TaskRead} {table″ : List Task} {pool″ ends″ : List ℕ} → slot ≡ slot-of id → after task table″ ≡ after (getD table′ slot blank) table′
-      → stepped r pool″ ends″ ≡ stepped (task-at ends′ machine good id task) pool′ ends′
+      → stepped r pool″ ends″ ≡ stepped (task-answer ends′ machine good id task) pool′ ends′
       → read-to r (world machine table″ stack memory′ pool″ ends″ save′) ≡ task-read id (world machine table stack memory pool ends save)
   unfolding task-read
   reads-task id {slot} {task} {r} {table″} at found f =
       ap (λ (b : Stepped TaskRead). read-to (b .answer) (world machine table″ stack memory′ (b .pool) (b .ends) save′)) f
-      ∙ ap (λ (a : After Task (List Task)). read-to (task-at ends′ machine good id (a .answer)) (world machine (a .lent) stack memory′ pool′ ends′ save′)) found
-      ∙ ap (λ (n : ℕ). read-to (task-at ends′ machine good id (getD table′ n blank)) (world machine table′ stack memory′ pool′ ends′ save′)) at
-      ∙ ap (λ (t : Tested). read-to (task-at (t .ends) machine (t .answer) id (getD (t .table) (slot-of id) blank)) (world machine (t .table) stack (t .memory) (t .pool) (t .ends) (t .save))) e
+      ∙ ap (λ (a : After Task (List Task)). read-to (task-answer ends′ machine good id (a .answer)) (world machine (a .lent) stack memory′ pool′ ends′ save′)) found
+      ∙ ap (λ (n : ℕ). read-to (task-answer ends′ machine good id (getD table′ n blank)) (world machine table′ stack memory′ pool′ ends′ save′)) at
+      ∙ ap (λ (t : Tested). read-to (task-answer (t .ends) machine (t .answer) id (getD (t .table) (slot-of id) blank)) (world machine (t .table) stack (t .memory) (t .pool) (t .ends) (t .save))) e
 
   -- a save
   hosts : cond good (host-save-as (world machine table′ stack memory′ pool′ ends′ save′) (save-table (machine .«next_id» .0) table′ pool′ ends′ (machine .entries) save′)) (saved-to (not-saved machine) table′ stack memory′ pool′ ends′ save′)

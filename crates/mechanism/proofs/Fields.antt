@@ -32,19 +32,19 @@ use Rattle.mechanism.specs.declared.MachineAndChange.{MachineAndChange}
 use Rattle.mechanism.proofs.MachineAndChange as acted
 use Rattle.mechanism.proofs.MachineAndChange.Laws as acted-laws
 use Rattle.mechanism.specs.declared.Progress.{Progress}
-use Rattle.mechanism.proofs.Progress as gone
-use Rattle.mechanism.proofs.Progress.Laws as gone-laws
+use Rattle.mechanism.proofs.Progress as progress
+use Rattle.mechanism.proofs.Progress.Laws as progress-laws
 use Rattle.mechanism.proofs.MachineResult as went
 use Rattle.mechanism.specs.declared.StateAnswer.{StateAnswer}
 use Rattle.mechanism.proofs.StateAnswer as stated
 use Rattle.mechanism.proofs.StateAnswer.Laws as stated-laws
-use Rattle.mechanism.proofs.Values.{machine-shut, machine-vals, change-shut, change-vals, went-shut, went-vals, acted-shut, acted-vals, gone-shut, gone-vals, stated-shut, stated-vals}
+use Rattle.mechanism.proofs.Values.{machine-shut, machine-vals, change-shut, change-vals, went-shut, went-vals, acted-shut, acted-vals, progress-shut, progress-vals, stated-shut, stated-vals}
 open Shut id-shut using (val as id-val)
 open Shut machine-shut using (val as machine-val)
 open Shut change-shut using (val as change-val, ty as change-ty)
 open Shut went-shut using (val as went-val)
 open Shut acted-shut using (val as acted-val, ty as acted-ty)
-open Shut gone-shut using (val as gone-val, ty as gone-ty)
+open Shut progress-shut using (val as progress-val, ty as progress-ty)
 open Shut stated-shut using (val as stated-val, ty as stated-ty)
 
 -- ---- their fields
@@ -86,17 +86,17 @@ unfolding stated-shut went-shut
 stated-went-is s is = struct.owed stated.the-type stated-laws.the-laws s (stated-vals s) is .1 .1 .1 .0
 
 -- of a machine on its way
-pub machine-is : (g : Progress) → Is gone.the-row g (gone-vals g) → Is machine.the-row (g .machine) (machine-vals (g .machine))
-unfolding gone-shut machine-shut
-machine-is g is = struct.owed gone.the-type gone-laws.the-laws g (gone-vals g) is .0
+pub machine-is : (g : Progress) → Is progress.the-row g (progress-vals g) → Is machine.the-row (g .machine) (machine-vals (g .machine))
+unfolding progress-shut machine-shut
+machine-is g is = struct.owed progress.the-type progress-laws.the-laws g (progress-vals g) is .0
 
-pub left-fits : (g : Progress) → Is gone.the-row g (gone-vals g) → g .left < 2 ^ 64
-unfolding gone-shut
-left-fits g is = struct.owed gone.the-type gone-laws.the-laws g (gone-vals g) is .1 .0 .1
+pub left-fits : (g : Progress) → Is progress.the-row g (progress-vals g) → g .left < 2 ^ 64
+unfolding progress-shut
+left-fits g is = struct.owed progress.the-type progress-laws.the-laws g (progress-vals g) is .1 .0 .1
 
-pub op-fits : (g : Progress) → Is gone.the-row g (gone-vals g) → g .op < 2 ^ 8
-unfolding gone-shut
-op-fits g is = struct.owed gone.the-type gone-laws.the-laws g (gone-vals g) is .1 .1 .1 .0 .1
+pub op-fits : (g : Progress) → Is progress.the-row g (progress-vals g) → g .op < 2 ^ 8
+unfolding progress-shut
+op-fits g is = struct.owed progress.the-type progress-laws.the-laws g (progress-vals g) is .1 .1 .1 .0 .1
 
 -- ---- an operand that reads one
 
@@ -117,29 +117,29 @@ module _ {M : Type 1} {𝓤 : URA M} {H : Heap 𝓤} {A : Atoms 𝓤} {K : Type 
       (sub t j f (subst (λ (v : Val). Part K W (‵ (fat fullShare (tyStruct ν τs) l 0 (vstruct vs))) fullShare (tyStruct ν′ τs′) l (0 + d) v (λ w. ‵ (fat fullShare (tyStruct ν τs) l 0 (vstruct (setV vs k w))))) inside (sub t k e (whole t))))))
 
   -- of a machine on its way
-  pub take-machine : K → (i n : ℕ) (g : Progress) {l : ℕ} → spotOf 𝓤 H E i ≡ (gone-ty, l, 0) → nth 𝓤 H A n Γ ≡ ‵ (fat fullShare gone-ty l 0 (gone-val g)) → Opd K W Γ E (copy (place i (field 0 ∷ []))) (machine-val (g .machine))
-  unfolding gone-shut machine-shut
+  pub take-machine : K → (i n : ℕ) (g : Progress) {l : ℕ} → spotOf 𝓤 H E i ≡ (progress-ty, l, 0) → nth 𝓤 H A n Γ ≡ ‵ (fat fullShare progress-ty l 0 (progress-val g)) → Opd K W Γ E (copy (place i (field 0 ∷ []))) (machine-val (g .machine))
+  unfolding progress-shut machine-shut
   take-machine t i n g at holds = taken t 0 i n refl at holds
 
-  pub take-left : K → (i n : ℕ) (g : Progress) {l : ℕ} → spotOf 𝓤 H E i ≡ (gone-ty, l, 0) → nth 𝓤 H A n Γ ≡ ‵ (fat fullShare gone-ty l 0 (gone-val g)) → Opd K W Γ E (copy (place i (field 1 ∷ []))) (vint w64 (g .left))
-  unfolding gone-shut
+  pub take-left : K → (i n : ℕ) (g : Progress) {l : ℕ} → spotOf 𝓤 H E i ≡ (progress-ty, l, 0) → nth 𝓤 H A n Γ ≡ ‵ (fat fullShare progress-ty l 0 (progress-val g)) → Opd K W Γ E (copy (place i (field 1 ∷ []))) (vint w64 (g .left))
+  unfolding progress-shut
   take-left t i n g at holds = taken t 1 i n refl at holds
 
-  pub take-running : K → (i n : ℕ) (g : Progress) {l : ℕ} → spotOf 𝓤 H E i ≡ (gone-ty, l, 0) → nth 𝓤 H A n Γ ≡ ‵ (fat fullShare gone-ty l 0 (gone-val g)) → Opd K W Γ E (copy (place i (field 2 ∷ []))) (vbool (g .running))
-  unfolding gone-shut
+  pub take-running : K → (i n : ℕ) (g : Progress) {l : ℕ} → spotOf 𝓤 H E i ≡ (progress-ty, l, 0) → nth 𝓤 H A n Γ ≡ ‵ (fat fullShare progress-ty l 0 (progress-val g)) → Opd K W Γ E (copy (place i (field 2 ∷ []))) (vbool (g .running))
+  unfolding progress-shut
   take-running t i n g at holds = taken t 2 i n refl at holds
 
-  pub take-op : K → (i n : ℕ) (g : Progress) {l : ℕ} → spotOf 𝓤 H E i ≡ (gone-ty, l, 0) → nth 𝓤 H A n Γ ≡ ‵ (fat fullShare gone-ty l 0 (gone-val g)) → Opd K W Γ E (copy (place i (field 3 ∷ []))) (vint w8 (g .op))
-  unfolding gone-shut
+  pub take-op : K → (i n : ℕ) (g : Progress) {l : ℕ} → spotOf 𝓤 H E i ≡ (progress-ty, l, 0) → nth 𝓤 H A n Γ ≡ ‵ (fat fullShare progress-ty l 0 (progress-val g)) → Opd K W Γ E (copy (place i (field 3 ∷ []))) (vint w8 (g .op))
+  unfolding progress-shut
   take-op t i n g at holds = taken t 3 i n refl at holds
 
   -- of the machine in it
-  pub take-entries : K → (i n : ℕ) (g : Progress) {l : ℕ} → spotOf 𝓤 H E i ≡ (gone-ty, l, 0) → nth 𝓤 H A n Γ ≡ ‵ (fat fullShare gone-ty l 0 (gone-val g)) → Opd K W Γ E (copy (place i (field 0 ∷ field 6 ∷ []))) (vint w64 (g .machine .entries))
-  unfolding gone-shut
+  pub take-entries : K → (i n : ℕ) (g : Progress) {l : ℕ} → spotOf 𝓤 H E i ≡ (progress-ty, l, 0) → nth 𝓤 H A n Γ ≡ ‵ (fat fullShare progress-ty l 0 (progress-val g)) → Opd K W Γ E (copy (place i (field 0 ∷ field 6 ∷ []))) (vint w64 (g .machine .entries))
+  unfolding progress-shut
   take-entries t i n g at holds = taken-in t 0 6 i n refl refl refl at holds
 
-  pub take-next-id : K → (i n : ℕ) (g : Progress) {l : ℕ} → spotOf 𝓤 H E i ≡ (gone-ty, l, 0) → nth 𝓤 H A n Γ ≡ ‵ (fat fullShare gone-ty l 0 (gone-val g)) → Opd K W Γ E (copy (place i (field 0 ∷ field 7 ∷ []))) (id-val (g .machine .«next_id»))
-  unfolding gone-shut id-shut
+  pub take-next-id : K → (i n : ℕ) (g : Progress) {l : ℕ} → spotOf 𝓤 H E i ≡ (progress-ty, l, 0) → nth 𝓤 H A n Γ ≡ ‵ (fat fullShare progress-ty l 0 (progress-val g)) → Opd K W Γ E (copy (place i (field 0 ∷ field 7 ∷ []))) (id-val (g .machine .«next_id»))
+  unfolding progress-shut id-shut
   take-next-id t i n g at holds = taken-in t 0 7 i n refl refl refl at holds
 
   -- of an answer

@@ -13,7 +13,7 @@ use Rattle.storage.specs.declared.TaskId.{TaskId}
 use Rattle.storage.specs.declared.FindResult.{FindResult}
 use Rattle.storage.specs.declared.FindResult.the-variants.{Found, NotFound}
 use Rattle.storage.specs.Storage.{find}
-use Rattle.image.specs.Image.{framed, body}
+use Rattle.image.specs.Image.{record-of, body}
 use Rattle.image.specs.Slots.{task-in}
 use Rattle.image.specs.Table.{task-refusal}
 use Rattle.image.specs.Writing.{Stepped, stepped, added, measure-slot}
@@ -46,7 +46,7 @@ by-refusal (some refusal) size = refl
 -- a living slot has a size where the task is not refused
 living-read : (pool ends : List ℕ) (entries : ℕ) (task : Task) → task .living ≡ true → if-measured (measure-slot pool ends entries 0 task 0) ≡ readable-unless (task-refusal ends entries task)
 living-read pool ends entries task living =
-    ap if-measured (slot-measured pool ends entries 0 task 0 living) ∙ by-refusal (task-refusal ends entries task) (length (framed 2 (body (task-in pool ends task))))
+    ap if-measured (slot-measured pool ends entries 0 task 0 living) ∙ by-refusal (task-refusal ends entries task) (length (record-of 2 (body (task-in pool ends task))))
 
 pub found : (pool ends p e : List ℕ) (machine : Machine) (sound : Bool) (id : TaskId) (task : Task) (size : SizeResult) (result : TaskResult) → sound ≡ true → find task id ≡ Found
     → stepped size p e ≡ stepped (measure-slot pool ends (machine .entries) 0 task 0) pool ends → if-measured size ≡ result

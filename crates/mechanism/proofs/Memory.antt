@@ -13,7 +13,7 @@ use Rattle.values.specs.declared.PointerResult.the-variants.{Pointer, NoPointer
 use Rattle.values.specs.declared.ValueResult.{ValueResult}
 use Rattle.values.specs.declared.ValueResult.the-variants.{Value, NoValue}
 use Rattle.memory.specs.Allocation as allocation
-use Rattle.memory.specs.Allocation.{vector, offset-aligned, stored, alloc}
+use Rattle.memory.specs.Allocation.{vector, offset-aligned, vector-stored, alloc}
 use Rattle.memory.specs.declared.AllocResult.the-variants.{Allocated, NotAllocated}
 use Rattle.memory.specs.Change as change
 use Rattle.memory.specs.Change.{element-size-bytes, changed, mut-vec, inside}
@@ -49,12 +49,12 @@ beside s memory _ (stack.kept refusal) = kept refusal
 
 -- ---- allocation
 
-pub data Allocates (memory : List ℕ) : allocation.After → Type 0 where
-  allocated : (value used : ℕ) (m : List ℕ) → Allocates memory (allocation.after (Allocated value used) m)
-  not-allocated : (refusal : Refusal) → Allocates memory (allocation.after (NotAllocated refusal) memory)
+pub data Allocates (memory : List ℕ) : allocation.AfterAllocation → Type 0 where
+  allocated : (value used : ℕ) (m : List ℕ) → Allocates memory (allocation.after-allocation (Allocated value used) m)
+  not-allocated : (refusal : Refusal) → Allocates memory (allocation.after-allocation (NotAllocated refusal) memory)
 
-stored-leaves : (memory payload : List ℕ) (used size offset : ℕ) (result : ValueResult) → Allocates memory (stored memory payload used size offset result)
-unfolding stored
+stored-leaves : (memory payload : List ℕ) (used size offset : ℕ) (result : ValueResult) → Allocates memory (vector-stored memory payload used size offset result)
+unfolding vector-stored
 stored-leaves memory payload used size offset (NoValue refusal) = not-allocated refusal
 stored-leaves memory payload used size offset (Value value) =
     either (Allocates memory) (leb (offset + size) (length memory)) _ _ (allocated _ _ _) (not-allocated _)
@@ -63,7 +63,7 @@ alloc-leaves : (memory payload : List ℕ) (used size tag : ℕ) → Allocates m
 unfolding alloc
 alloc-leaves memory payload used size tag = stored-leaves memory payload used size _ _
 
-placed-leaves : (s memory : List ℕ) (registers : Registers) (next height : ℕ) (a : allocation.After) → Allocates memory a
+placed-leaves : (s memory : List ℕ) (registers : Registers) (next height : ℕ) (a : allocation.AfterAllocation) → Allocates memory a
     → Leaves s memory (placed s registers next height (a .memory) (a .answer))
 unfolding placed
 placed-leaves s memory registers next height _ (allocated value used m) = finished _ _ _
@@ -87,9 +87,9 @@ m-st-leaves s memory none registers next tag = sized-leaves s memory none regist
 
 -- ---- change
 
-data Changes (memory : List ℕ) : change.After → Type 0 where
-  has-changed : (m : List ℕ) → Changes memory (change.after Changed m)
-  not-changed : (refusal : Refusal) → Changes memory (change.after (NotChanged refusal) memory)
+data Changes (memory : List ℕ) : change.AfterChange → Type 0 where
+  has-changed : (m : List ℕ) → Changes memory (change.after-change Changed m)
+  not-changed : (refusal : Refusal) → Changes memory (change.after-change (NotChanged refusal) memory)
 
 changed-leaves : (memory : List ℕ) (pointer : FatPointer) (index payload : ℕ) (result : SizeResult) → Changes memory (changed memory pointer index payload result)
 unfolding changed
@@ -107,7 +107,7 @@ take-drop zero xs = refl
 take-drop (suc n) [] = refl
 take-drop (suc n) (x ∷ xs) = ap (λ (ys : List ℕ). x ∷ ys) (take-drop n xs)
 
-beside-rest : (memory : List ℕ) (used : ℕ) (a : change.After) → Changes (take used memory) a → ChangesIn memory (changed-in (a .answer) (a .memory ++ drop used memory))
+beside-rest : (memory : List ℕ) (used : ℕ) (a : change.AfterChange) → Changes (take used memory) a → ChangesIn memory (changed-in (a .answer) (a .memory ++ drop used memory))
 beside-rest memory used _ (has-changed m) = has-changed _
 beside-rest memory used _ (not-changed refusal) =
     subst (λ (m : List ℕ). ChangesIn memory (changed-in (NotChanged refusal) m)) (sym (take-drop used memory)) (not-changed refusal)

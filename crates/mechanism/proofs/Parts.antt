@@ -237,11 +237,11 @@ module _ (w : World) where
 
   -- ---- memory
 
-  abbrev filled : List ℕ → ℕ → ℕ → ValueResult → allocation.After
-  filled payload size tag a = allocation.stored (w .memory) payload (w .machine .memory) size (allocation.offset-aligned (w .machine .memory) tag) a
+  abbrev filled : List ℕ → ℕ → ℕ → ValueResult → allocation.AfterAllocation
+  filled payload size tag a = allocation.vector-stored (w .memory) payload (w .machine .memory) size (allocation.offset-aligned (w .machine .memory) tag) a
 
   pub stores : (to height size tag : ℕ) (payload : List ℕ) → on-registers w (storing.store (w .stack) (w .memory) payload r to height size tag) ≡ store w to height size tag payload
-  unfolding storing.store full full-by allocated-at allocation.alloc allocation.stored store calculated allocated test inner-did settled placed registers-of
+  unfolding storing.store full full-by allocated-at allocation.alloc allocation.vector-stored store calculated allocated test inner-did settled placed registers-of
   stores to height size tag payload = by (allocation.vector (w .machine .memory) size tag)
     where
       at : (a : AllocResult) (memory : List ℕ) → on-registers w (allocated-at (w .stack) r to height memory a) ≡ allocated w to height memory a

@@ -49,7 +49,7 @@ use Rattle.machine.specs.declared.Machine.{Machine}
 use Rattle.machine.specs.Machines.{placed}
 use Rattle.machine.specs.Titles.{within, title-length, title-bytes, retitled, retargeted}
 use Rattle.machine.specs.World.{World, code, place, height, memory-in-use, moved, with-stack, with-task, with-save, framed as with-frame}
-use Rattle.machine.specs.Words.{StepResult, next, refused, test, pop, popped, push, pointed, bytes-of, store, operand-found, frame-pushed, frame-popped, bounded, interned, task-of, found, first-state, has-state, with-room, saved}
+use Rattle.machine.specs.Words.{StepResult, next, refused, test, pop, popped, push, pointed, bytes-of, store, operand-found, frame-pushed, frame-popped, bounds-found, interned, task-of, found, first-state, has-state, with-room, saved}
 use Rattle.machine.specs.Opcodes as opcodes
 use Rattle.mechanism.specs.Registers.{OnMemory, on-memory, registers-of, settled, machine-at}
 use Rattle.mechanism.specs.Registers as registers
@@ -265,13 +265,13 @@ module _ (w : World) where
   frame-is i below (NoNewFrames refusal) = refl
 
   enter-is : (i below : ℕ) (reference : InstructionsRef) (a : BoundsResult) → on-went i (enter-bounded (machine-at (w .machine) (place w + 1) below) reference a)
-      ≡ bounded a (λ start end. cond (leb end start) (next (opcodes.onward w below)) (frame-pushed (stacks.push-frame (opcodes.onward w below .machine .frames) (record { entry = reference; place = 0 })) λ frames. next (with-frame (opcodes.onward w below) frames)))
-  unfolding enter-bounded bounded acts-went applied settled placed registers-of
+      ≡ bounds-found a (λ start end. cond (leb end start) (next (opcodes.onward w below)) (frame-pushed (stacks.push-frame (opcodes.onward w below .machine .frames) (record { entry = reference; place = 0 })) λ frames. next (with-frame (opcodes.onward w below) frames)))
+  unfolding enter-bounded bounds-found acts-went applied settled placed registers-of
   enter-is i below reference (Bounds start end) = on-bool (leb end start) (λ t. rw t) (λ t. rw t (frame-is i below _))
   enter-is i below reference (NoBounds refusal) = refl
 
-  pub call-is : on-went (named (w .stack) (height w)) (op-call (w .stack) (w .ends) (w .machine) (place w + 1) (slot (named (w .stack) (height w)))) ≡ opcodes.call w
-  unfolding op-call call-popped framing.enter named named-by opcodes.call opcodes.enter acts-went applied storage.slot-of settled placed registers-of
+  pub call-is : on-went (named (w .stack) (height w)) (op-call (w .stack) (w .ends) (w .machine) (place w + 1) (slot (named (w .stack) (height w)))) ≡ opcodes.call-task w
+  unfolding op-call call-popped framing.enter named named-by opcodes.call-task opcodes.enter acts-went applied storage.slot-of settled placed registers-of
   call-is =
       one-off w (λ a. on-went (named-by a) (call-popped (w .ends) (w .machine) (place w + 1) (slot (named-by a)) a)) _ (λ refusal. refl)
       (λ id below. on-bool (slot (to-u32 id) .living) (λ t. rw t (enter-is (to-u32 id) below (slot (to-u32 id) .«instructions_ref») _)) (λ t. rw t)) (stacks.pop (w .stack) (height w))

@@ -12,8 +12,8 @@ use Rattle.mechanism.specs.declared.MachineAndChange.{MachineAndChange}
 use Rattle.mechanism.proofs.MachineAndChange as acted
 use Rattle.mechanism.proofs.MachineAndChange.Laws as acted-laws
 use Rattle.mechanism.specs.declared.Progress.{Progress}
-use Rattle.mechanism.proofs.Progress as gone
-use Rattle.mechanism.proofs.Progress.Laws as gone-laws
+use Rattle.mechanism.proofs.Progress as progress
+use Rattle.mechanism.proofs.Progress.Laws as progress-laws
 use Rattle.machine.specs.declared.RunEnd.{RunEnd}
 use Rattle.machine.proofs.RunEnd as ran
 use Rattle.machine.proofs.RunEnd.Laws as ran-laws
@@ -46,11 +46,11 @@ abbrev pub acted-vals : MachineAndChange → List Val
 acted-vals = vals acted-shut
 
 -- a machine on its way
-unfoldable pub gone-shut : Shut gone.the-row
-gone-shut = of-struct gone.the-type gone-laws.the-laws gone-laws.the-plain
+unfoldable pub progress-shut : Shut progress.the-row
+progress-shut = of-struct progress.the-type progress-laws.the-laws progress-laws.the-plain
 
-abbrev pub gone-vals : Progress → List Val
-gone-vals = vals gone-shut
+abbrev pub progress-vals : Progress → List Val
+progress-vals = vals progress-shut
 
 -- a machine at the end of a run
 unfoldable pub ran-shut : Shut ran.the-row

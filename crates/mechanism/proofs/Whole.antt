@@ -173,7 +173,7 @@ module _ (w : World) (inside : place w < length (code w)) where
   unfolding is-outer operand-size act-by on-frames on-task wanted
   t-delete e = acts-step T-DELETE e refl refl _ (reach-next T-DELETE e refl refl refl) (rw (task-parts.top-is w) (task-parts.delete-is w))
 
-  call : getD (code w) (place w) 0 ≡ CALL → step-by-parts w ≡ opcodes.call w
+  call : getD (code w) (place w) 0 ≡ CALL → step-by-parts w ≡ opcodes.call-task w
   unfolding is-outer operand-size act-by on-frames wanted
   call e = acts-step CALL e refl refl _ (reach-next CALL e refl refl refl) (rw (task-parts.top-is w) (task-parts.call-is w))
 

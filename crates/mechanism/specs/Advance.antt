@@ -52,20 +52,20 @@ halted-at machine op left halt.Outer = at-hand machine left op
 
 -- a machine on its way, the stack, memory, pool and ends then
 pub record ProgressOn : Type 0 where
-  pub gone : Progress
+  pub progress : Progress
   pub stack : List ℕ
   pub memory : List ℕ
   pub pool : List ℕ
   pub ends : List ℕ
 
 -- these five together
-abbrev pub gone-on : Progress → List ℕ → List ℕ → List ℕ → List ℕ → ProgressOn
-gone-on gone stack memory pool ends = record { gone = gone; stack = stack; memory = memory; pool = pool; ends = ends }
+abbrev pub progress-on : Progress → List ℕ → List ℕ → List ℕ → List ℕ → ProgressOn
+progress-on progress stack memory pool ends = record { progress = progress; stack = stack; memory = memory; pool = pool; ends = ends }
 
 -- where the steps of the current code halted
 unfoldable pub after-steps : List ℕ → List ℕ → Machine → Halted → ProgressOn
 after-steps pool ends machine h =
-    gone-on
+    progress-on
     (halted-at (settled machine (h .at .registers)) (getD (code-of pool ends machine) (h .at .registers .place) 0) (h .at .left) (h .at .halt))
     (h .stack) (h .memory) pool ends
 

@@ -34,4 +34,4 @@ save-went machine (NotSaved refusal) = Refused refusal
 
 -- the end of a run
 abbrev pub ran : Progress → RunEnd
-ran gone = record { machine = gone .machine; left = gone .left; outcome = gone .outcome }
+ran progress = record { machine = progress .machine; left = progress .left; outcome = progress .outcome }

@@ -29,21 +29,21 @@ unfoldable pub filling : ℕ → List ℕ → List ℕ
 filling size payload = take size (payload ++ replicate size 0)
 
 -- an allocation's answer, and the memory after it
-pub record After : Type 0 where
+pub record AfterAllocation : Type 0 where
   pub answer : AllocResult
   pub memory : List ℕ
 
-abbrev pub after : AllocResult → List ℕ → After
-after answer memory = record { answer = answer; memory = memory }
+abbrev pub after-allocation : AllocResult → List ℕ → AfterAllocation
+after-allocation answer memory = record { answer = answer; memory = memory }
 
 -- padding and the vector's bytes from the length in use on, where the lent memory holds them
-unfoldable pub stored : List ℕ → List ℕ → ℕ → ℕ → ℕ → ValueResult → After
-stored memory payload used size offset (NoValue refusal) = after (NotAllocated refusal) memory
-stored memory payload used size offset (Value value) =
+unfoldable pub vector-stored : List ℕ → List ℕ → ℕ → ℕ → ℕ → ValueResult → AfterAllocation
+vector-stored memory payload used size offset (NoValue refusal) = after-allocation (NotAllocated refusal) memory
+vector-stored memory payload used size offset (Value value) =
     cond (leb (offset + size) (length memory))
-    (after (Allocated value (offset + size)) (sets memory used (replicate (offset - used) 0 ++ filling size payload)))
-    (after (NotAllocated MemoryTooShort) memory)
+    (after-allocation (Allocated value (offset + size)) (sets memory used (replicate (offset - used) 0 ++ filling size payload)))
+    (after-allocation (NotAllocated MemoryTooShort) memory)
 
 -- an allocation: 5, else 13, then 23
-unfoldable pub alloc : List ℕ → List ℕ → ℕ → ℕ → ℕ → After
-alloc memory payload used size tag = stored memory payload used size (offset-aligned used tag) (vector used size tag)
+unfoldable pub alloc : List ℕ → List ℕ → ℕ → ℕ → ℕ → AfterAllocation
+alloc memory payload used size tag = vector-stored memory payload used size (offset-aligned used tag) (vector used size tag)

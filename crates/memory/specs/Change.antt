@@ -5,6 +5,7 @@ use mathlib.Core.List.{List, [], _∷_}
 use lib.ListN.{length}
 use lib.Seq.{sets}
 use lib.Dec.{eqb, leb, ltb}
+use Rattle.slices.specs.Numbers.{little-endian}
 use Rattle.errors.specs.declared.Refusal.the-variants.{InvalidType, MSliceOutOfBounds}
 use Rattle.values.specs.declared.FatPointer.{FatPointer}
 use Rattle.memory.specs.declared.SizeResult.{SizeResult}
@@ -20,33 +21,28 @@ element-size-bytes tag = cond (eqb tag 4) (Size 1) (cond (eqb tag 6) (Size 4) (N
 unfoldable pub scaled : ℕ → ℕ → ℕ
 scaled index width = index * width % 2 ^ 32
 
--- the low `width` bytes of a number, the lowest first
-unfoldable pub little-endian : ℕ → ℕ → List ℕ
-little-endian zero number = []
-little-endian (suc width) number = number % 256 ∷ little-endian width (number / 256)
-
 -- a vector lies in the memory in use
 unfoldable pub inside : List ℕ → FatPointer → Bool
 inside memory pointer = leb (pointer .offset + pointer .size) (length memory)
 
 -- a change's answer, and the memory in use after it
-pub record After : Type 0 where
+pub record AfterChange : Type 0 where
   pub answer : ChangeResult
   pub memory : List ℕ
 
-abbrev pub after : ChangeResult → List ℕ → After
-after answer memory = record { answer = answer; memory = memory }
+abbrev pub after-change : ChangeResult → List ℕ → AfterChange
+after-change answer memory = record { answer = answer; memory = memory }
 
 -- the element's index is tested before the vector's place in memory
-unfoldable pub changed : List ℕ → FatPointer → ℕ → ℕ → SizeResult → After
-changed memory pointer index payload (NoSize refusal) = after (NotChanged refusal) memory
+unfoldable pub changed : List ℕ → FatPointer → ℕ → ℕ → SizeResult → AfterChange
+changed memory pointer index payload (NoSize refusal) = after-change (NotChanged refusal) memory
 changed memory pointer index payload (Size width) =
     cond (leb (pointer .size / width) index)
-    (after (NotChanged (MSliceOutOfBounds (scaled index width) (pointer .size))) memory)
+    (after-change (NotChanged (MSliceOutOfBounds (scaled index width) (pointer .size))) memory)
     (cond (inside memory pointer)
-    (after Changed (sets memory (pointer .offset + index * width) (little-endian width payload)))
-    (after (NotChanged (MSliceOutOfBounds (pointer .offset) (pointer .size))) memory))
+    (after-change Changed (sets memory (pointer .offset + index * width) (little-endian width payload)))
+    (after-change (NotChanged (MSliceOutOfBounds (pointer .offset) (pointer .size))) memory))
 
 -- M_MUTA on the memory in use: 5, then 14 with the element, then 14 with the vector
-unfoldable pub mut-vec : List ℕ → FatPointer → ℕ → ℕ → ℕ → After
+unfoldable pub mut-vec : List ℕ → FatPointer → ℕ → ℕ → ℕ → AfterChange
 mut-vec memory pointer index payload tag = changed memory pointer index payload (element-size-bytes tag)

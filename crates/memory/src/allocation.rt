@@ -3,7 +3,7 @@ ghost use mathlib.Core.Path.{_≡_};
 ghost use Prim.Native.Nat.{_≤_, _<_};
 ghost use lib.ListN.{length};
 ghost use lib.Seq.{sets};
-ghost use Rattle.memory.specs.Allocation.{offset-aligned, is-element-tag, vector, filling, alloc, after};
+ghost use Rattle.memory.specs.Allocation.{offset-aligned, is-element-tag, vector, filling, alloc, after-allocation};
 use crate::AllocResult;
 use errors::Refusal;
 use values::ValueResult;
@@ -58,7 +58,7 @@ fn fill(part: &mut [u8], payload: &[u8], size: usize)
 
 // A new vector behind the length in use: padding, and then the tail of the memory is handed on to be filled.
 pub fn alloc(memory: &mut [u8], payload: &[u8], used: usize, size: u16, tag: u8) -> AllocResult
-    ensures { λ r. ⌜ after r (now (memory .exit)) ≡ alloc (now (memory .entry)) (now (payload .entry)) used size tag ⌝ }
+    ensures { λ r. ⌜ after-allocation r (now (memory .exit)) ≡ alloc (now (memory .entry)) (now (payload .entry)) used size tag ⌝ }
 {
     match vector(used, size, tag) {
         ValueResult::NoValue(refusal) => AllocResult::NotAllocated(refusal),

@@ -5,7 +5,8 @@ ghost use Prim.Native.Nat.{_+_, _≤_};
 ghost use lib.ListN.{length};
 ghost use lib.Seq.{sets};
 ghost use Rattle.memory.specs.declared.SizeResult.the-variants.{Size};
-ghost use Rattle.memory.specs.Change.{element-size-bytes, scaled, little-endian, changed, mut-vec, after};
+ghost use Rattle.slices.specs.Numbers.{little-endian};
+ghost use Rattle.memory.specs.Change.{element-size-bytes, scaled, changed, mut-vec, after-change};
 use crate::ChangeResult;
 use crate::ElementIndex;
 use crate::SizeResult;
@@ -67,7 +68,7 @@ fn change_element(
     width: u32,
 ) -> ChangeResult
     requires { ⌜ (width ≡ 1) ⊎ (width ≡ 4) ⌝ }
-    ensures { λ r. ⌜ after r (now (memory .exit)) ≡ changed (now (memory .entry)) pointer (index .0) payload (Size width) ⌝ }
+    ensures { λ r. ⌜ after-change r (now (memory .exit)) ≡ changed (now (memory .entry)) pointer (index .0) payload (Size width) ⌝ }
 {
     let size = pointer.size as u32;
     if size / width <= index.0 {
@@ -99,7 +100,7 @@ pub fn mut_vec(
     payload: u32,
     tag: u64,
 ) -> ChangeResult
-    ensures { λ r. ⌜ after r (now (memory .exit)) ≡ mut-vec (now (memory .entry)) pointer (index .0) payload tag ⌝ }
+    ensures { λ r. ⌜ after-change r (now (memory .exit)) ≡ mut-vec (now (memory .entry)) pointer (index .0) payload tag ⌝ }
 {
     match element_size_bytes(tag) {
         SizeResult::NoSize(refusal) => ChangeResult::NotChanged(refusal),

@@ -7,7 +7,7 @@ use lib.Dec.{leb}
 use lib.ListN.{length, take, drop, getD, length-drop}
 use lib.Seq.{take-all}
 use borrow.Author.Tests.{le-leb, lt-leb}
-use Rattle.image.specs.Numbers.{number-at}
+use Rattle.slices.specs.Numbers.{number-at}
 use Rattle.printer.specs.Asked.{call-at}
 
 -- ---- numbers

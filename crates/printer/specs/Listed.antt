@@ -3,7 +3,7 @@ use Prim.Native.Nat.{ℕ, min}
 use mathlib.Core.List.{List}
 use lib.ListN.{take, drop}
 use Rattle.storage.specs.declared.Task.{Task}
-use Rattle.listing.specs.Listing.{Read, height-of, values-of, line-by}
+use Rattle.listing.specs.Listing.{ValueRead, height-of, values-read, line-by}
 use Rattle.printer.specs.declared.CallOutcome.{CallOutcome}
 
 -- how many values are listed: no more than a stack has
@@ -11,9 +11,9 @@ unfoldable pub listed : CallOutcome → ℕ
 listed answered = min 1000 (height-of (answered .head) (answered .machine .height))
 
 -- the values, read over the memory in use
-abbrev pub call-values : CallOutcome → List ℕ → List ℕ → List ℕ → List ℕ → List Read
+abbrev pub call-values : CallOutcome → List ℕ → List ℕ → List ℕ → List ℕ → List ValueRead
 call-values answered stack memory pool ends =
-    values-of (take (answered .machine .memory) (drop 0 memory)) pool ends (answered .machine .entries) (take (listed answered) stack)
+    values-read (take (answered .machine .memory) (drop 0 memory)) pool ends (answered .machine .entries) (take (listed answered) stack)
 
 -- a line, with the count of living tasks and the task in the line's slot
 abbrev pub call-line : CallOutcome → List ℕ → List ℕ → List ℕ → List ℕ → ℕ → Task → ℕ → List ℕ

@@ -3,7 +3,7 @@ ghost use mathlib.Core.Path.{_≡_};
 ghost use Prim.Native.Nat.{_<_};
 ghost use lib.ListN.{getD};
 ghost use Rattle.storage.specs.Tasks.{after};
-ghost use Rattle.image.specs.Numbers.{number-at};
+ghost use Rattle.slices.specs.Numbers.{number-at};
 ghost use Rattle.printer.specs.Asked.{call-at, verb-at, fuel-at, verb-of, ended, ran, kept, saved, count-of};
 use crate::CallOutcome;
 use image::SaveResult;

@@ -5,7 +5,7 @@ use mathlib.Core.Path.{_≡_, refl, ap, sym, _∙_}
 use native.Mathlib.Omega.{arith}
 use lib.ListN.{length}
 use Rattle.image.specs.Image.{Image, sound, task-count, read-image}
-use Rattle.image.specs.Numbers.{number-at, Bytes}
+use Rattle.slices.specs.Numbers.{number-at, Bytes}
 use Rattle.image.specs.Table.{Loading, cleared, load-tasks, load-read, load-table}
 use Rattle.roundtrips.proofs.LoadSave.{load-sound}
 use Rattle.roundtrips.proofs.Loads.{Done, load-holds}

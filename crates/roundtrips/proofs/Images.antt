@@ -9,9 +9,9 @@ use Rattle.utf8.specs.Utf8.{holds, lead, from, valid}
 use Rattle.pools.specs.Pool.{end-of, start-of, bounds, entry-of, has-room, interned}
 use Rattle.storage.specs.Tasks.{new-task, blank, no-title, title-of}
 use Rattle.storage.specs.declared.Task.{Task}
-use Rattle.image.specs.Image.{header, records, written as written-image, read-image, framed, body, task-at, headed, good, joined, read-from, counted}
-use Rattle.image.specs.Numbers.{little-endian, number-at}
-use Rattle.image.specs.Reading.{tested, s-len, instruction-bytes}
+use Rattle.image.specs.Image.{header, records, written as written-image, read-image, record-of, body, task-at, headed, good, task-before, read-from, with-count}
+use Rattle.slices.specs.Numbers.{little-endian, number-at}
+use Rattle.image.specs.Reading.{image-result, s-len-of, instruction-bytes}
 use Rattle.image.specs.Walking.{read-record, on}
 use Rattle.image.specs.Slots.{loaded-task, saved-task, task-in}
 use Rattle.image.specs.Table.{living-tasks, refusal-by, task-refusal, or-else, first-refusal, image-of-tasks, SavedTable, saved-over, saved-unless, save-tasks, save-table, Loading, bytes-after, entries-after, next-reference}
@@ -58,7 +58,7 @@ saved bytes = save-table 2 (blank ∷ task 1 ∷ []) pool ends 2 (replicate byte
 -- the examples
 pub record Examples : Type 0 where
   -- a second kind 1 is wrong at its place
-  pub second-header : tested (read-image (header 1 0 ++ header 1 0)) ≡ NotSound (BadImage 14)
+  pub second-header : image-result (read-image (header 1 0 ++ header 1 0)) ≡ NotSound (BadImage 14)
   -- the state count stands before the state
   pub states-read : read-record (image 1) 14 (record { 0 = 1 }) .task .state ≡ record { len = 3; state = 1 }
   -- a reference that names no entry in use is 12, a title that is not UTF-8 is 15
@@ -82,7 +82,7 @@ pub record Examples : Type 0 where
   pub saved-length : saved 33 .answer ≡ Saved 32
 
 pub examples : Examples
-unfolding UTF8-char holds lead from valid end-of start-of bounds entry-of has-room interned no-title blank title-of new-task framed header body task-at headed good joined read-from counted read-image little-endian number-at s-len instruction-bytes tested on read-record loaded-task saved-task added measure-slot save-slot records written-image living-tasks refusal-by task-refusal or-else first-refusal image-of-tasks saved-over saved-unless save-tasks save-table bytes-after entries-after next-reference load-record record-placed load-records puts task-in size-of sized measure image-tests creation-tests
+unfolding UTF8-char holds lead from valid end-of start-of bounds entry-of has-room interned no-title blank title-of new-task record-of header body task-at headed good task-before read-from with-count read-image little-endian number-at s-len-of instruction-bytes image-result on read-record loaded-task saved-task added measure-slot save-slot records written-image living-tasks refusal-by task-refusal or-else first-refusal image-of-tasks saved-over saved-unless save-tasks save-table bytes-after entries-after next-reference load-record record-placed load-records puts task-in size-of sized measure image-tests creation-tests
 examples = record {
   second-header = refl;
   states-read = refl;

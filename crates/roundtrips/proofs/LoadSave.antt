@@ -14,8 +14,8 @@ use Rattle.image.proofs.Rules.{Rules, Head}
 use Rattle.image.proofs.Walks.{title-length-is, instructions-length}
 use Rattle.image.proofs.Readings.{not-bad, read-none, Goes, at-end, goes-on, goes, loaded}
 use Rattle.roundtrips.proofs.SaveLoad.{front-of}
-use Rattle.image.specs.Image.{ImageTask, Image, header, body, records, written, Fine, Rising, none, more, Sound, Read, sound, bad-at, body-length, kind, next-id-in, task-count, id-in, title-length, task-at, headed, good, joined, read-from, counted, read-image}
-use Rattle.image.specs.Numbers.{little-endian, number-at, Bytes}
+use Rattle.image.specs.Image.{ImageTask, Image, header, body, records, written, Fine, Rising, none, more, SoundImage, Parsed, sound, bad-at, body-length, kind, next-id-in, task-count, id-in, title-length-in, task-at, headed, good, task-before, read-from, with-count, read-image}
+use Rattle.slices.specs.Numbers.{little-endian, number-at, Bytes}
 
 -- ---- one record, read and written again
 
@@ -37,7 +37,7 @@ module _ {next-id low : ℕ} {bytes : List ℕ} (r : Rules next-id low bytes) wh
   tail-is : task-at bytes .title ++ (task-at bytes .instructions ++ drop (6 + body-length bytes) bytes) ≡ drop 14 bytes
   unfolding task-at
   tail-is =
-      let e : 6 + body-length bytes ≡ 14 + (title-length bytes + (body-length bytes - 8 - title-length bytes)) = omega (arith, r .inside) in
+      let e : 6 + body-length bytes ≡ 14 + (title-length-in bytes + (body-length bytes - 8 - title-length-in bytes)) = omega (arith, r .inside) in
       rw (e, ← drop-drop, ← drop-drop, take-append-drop, take-append-drop)
 
 -- two bytes and what follows them
@@ -46,7 +46,7 @@ two-here bytes long = sym (drop-cons bytes 10 0 (omega arith) ∙ ap (λ (l : Li
 
 -- the fields of a record, written again
 fields-again : {bytes : List ℕ} → Bytes bytes → 14 ≤ length bytes
-    → little-endian 4 (body-length bytes) ++ (little-endian 2 (kind bytes) ++ (little-endian 4 (id-in bytes) ++ (getD bytes 10 0 ∷ getD bytes 11 0 ∷ (little-endian 2 (title-length bytes) ++ drop 14 bytes)))) ≡ bytes
+    → little-endian 4 (body-length bytes) ++ (little-endian 2 (kind bytes) ++ (little-endian 4 (id-in bytes) ++ (getD bytes 10 0 ∷ getD bytes 11 0 ∷ (little-endian 2 (title-length-in bytes) ++ drop 14 bytes)))) ≡ bytes
 fields-again {bytes} b long =
     rw (
       number-here 2 12 14 b refl long,
@@ -75,7 +75,7 @@ module _ (bytes : List ℕ) where
   unfolding task-at
   task-state-is = refl
 
-  task-title-is : task-at bytes .title ≡ take (title-length bytes) (drop 14 bytes)
+  task-title-is : task-at bytes .title ≡ take (title-length-in bytes) (drop 14 bytes)
   unfolding task-at
   task-title-is = refl
 
@@ -168,7 +168,7 @@ module _ (bytes : List ℕ) (image : Image) (some : 0 < length bytes) (e : read-
     again = read-again (length bytes) (next-id-in bytes) 0 14 (drop 14 bytes) (image .tasks) (bytes-drop 14 b) (loaded bytes image some e .read)
 
     -- what reads as sound is sound
-    pub load-sound : Sound image
+    pub load-sound : SoundImage image
     load-sound =
         let l = loaded bytes image some e in
         record { few = rw (l .next-id-is) (l .head .few); tasks = rw (l .next-id-is) (again .rises) }

@@ -12,7 +12,7 @@ use Rattle.roundtrips.proofs.Saves.{Holds, Lists, end, dead, alive, sav
 use Rattle.table_image.proofs.Loads.{load-more, load-none, load-table-tasks}
 use Rattle.roundtrips.proofs.Stores.{Pool, Stored, stored}
 use Rattle.image.specs.Image.{ImageTask, Image, header, records, written, Fine, Rising, none, more, sound, read-image}
-use Rattle.image.specs.Numbers.{Bytes}
+use Rattle.slices.specs.Numbers.{Bytes}
 use Rattle.image.specs.Reading.{instruction-bytes}
 use Rattle.image.specs.Slots.{loaded-task, saved-task, task-in}
 use Rattle.image.specs.Table.{Loading, cleared, next-reference, load-slot, load-tasks, load-read, load-table, saved-over, save-table}

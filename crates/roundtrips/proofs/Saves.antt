@@ -11,7 +11,7 @@ use lib.Seq.{sets, sets-eq, drop-cons, take-append-seam}
 use borrow.Author.Tests.{lt-ltb, le-leb, lt-leb}
 use Rattle.errors.specs.declared.Refusal.the-variants.{SaveBufferTooShort}
 use Rattle.roundtrips.proofs.SaveLoad.{save-load}
-use Rattle.image.specs.Image.{ImageTask, Image, written, Sound, sound, read-image}
+use Rattle.image.specs.Image.{ImageTask, Image, written, SoundImage, sound, read-image}
 use Rattle.image.specs.Slots.{saved-task, title-in, task-in}
 use Rattle.image.specs.Table.{living-tasks, refusal-by, task-refusal, or-else, first-refusal, image-of-tasks, saved-table, saved-over, saved-unless, save-tasks, save-table}
 use Rattle.image.specs.declared.SaveResult.the-variants.{Saved, NotSaved}
@@ -88,6 +88,6 @@ module _ {table : List Task} {pool ends : List ℕ} {entries : ℕ} (image : Ima
   too-short past = saved-lists ∙ rw (lt-leb (length (written image)) (length save) past)
 
 -- a saved image loads to the same tasks
-pub saved-loads : (image : Image) (save : List ℕ) → Sound image → length (written image) ≤ length save → read-image (take (length (written image)) (sets save 0 (written image))) ≡ sound image
+pub saved-loads : (image : Image) (save : List ℕ) → SoundImage image → length (written image) ≤ length save → read-image (take (length (written image)) (sets save 0 (written image))) ≡ sound image
 saved-loads image save s fits =
     rw (sets-eq (written image) save 0 (omega arith), take-append-seam (written image) (drop (0 + length (written image)) save)) (save-load image s)

@@ -65,54 +65,54 @@ module _ (stack memory pool ends : List ℕ) (machine : Machine) (task : Task) w
       simp (lt-leb _ _ here, bare-extent (code-of pool ends machine) (place pool ends machine) here (subst (λ (o : ℕ). bare o ≡ true) (sym at) alone), at)
 
 -- CALL names the slot of the value on top, past the last one where there is none
-names-top : (stack : List ℕ) (gone : Progress) → gone .op ≡ CALL → slot-at stack gone ≡ slot-of-call stack gone
+names-top : (stack : List ℕ) (progress : Progress) → progress .op ≡ CALL → slot-at stack progress ≡ slot-of-call stack progress
 unfolding wanted named named-by pop if-some
-names-top stack gone is = on-bool (eqb (gone .machine .height) 0) (λ none. simp (is, none)) (λ some. simp (is, some))
+names-top stack progress is = on-bool (eqb (progress .machine .height) 0) (λ none. simp (is, none)) (λ some. simp (is, some))
 
-module _ (table : List Task) (stack memory pool ends : List ℕ) (gone : Progress) (fits : length pool < 2 ^ 64) where
+module _ (table : List Task) (stack memory pool ends : List ℕ) (progress : Progress) (fits : length pool < 2 ^ 64) where
   -- the same turn, its answer and its next place given
   abbrev with-next : (ℕ → MachineResult) → ℕ → Acting
-  with-next went next = acting (turned (gone .machine) (gone .left) (went next)) table stack memory pool ends
+  with-next went next = acting (turned (progress .machine) (progress .left) (went next)) table stack memory pool ends
 
   -- END_CALL
-  pub returns-turn : op-at pool ends (gone .machine) ≡ END-CALL → acting (returned gone) table stack memory pool ends ≡ task-turn table stack memory pool ends gone
+  pub returns-turn : op-at pool ends (progress .machine) ≡ END-CALL → acting (returned progress) table stack memory pool ends ≡ task-turn table stack memory pool ends progress
   unfolding task-turn returned on-frames applied bare
   returns-turn at =
-      ap (with-next (op-end-call (gone .machine))) (next-is pool ends (gone .machine) fits (inside pool ends (gone .machine) END-CALL at (λ none. omega arith)))
-      ∙ sym (ap (after-act gone (slot-at stack gone) table) (acts-bare stack memory pool ends (gone .machine) (getD table (slot-at stack gone) blank) END-CALL at (λ none. omega arith) refl))
+      ap (with-next (op-end-call (progress .machine))) (next-is pool ends (progress .machine) fits (inside pool ends (progress .machine) END-CALL at (λ none. omega arith)))
+      ∙ sym (ap (after-act progress (slot-at stack progress) table) (acts-bare stack memory pool ends (progress .machine) (getD table (slot-at stack progress) blank) END-CALL at (λ none. omega arith) refl))
 
   -- CALL
-  pub calls-turn : gone .op ≡ CALL → op-at pool ends (gone .machine) ≡ CALL → from-entering (call-turn table stack ends gone) memory pool ≡ task-turn table stack memory pool ends gone
+  pub calls-turn : progress .op ≡ CALL → op-at pool ends (progress .machine) ≡ CALL → from-entering (call-turn table stack ends progress) memory pool ≡ task-turn table stack memory pool ends progress
   unfolding task-turn call-turn called on-frames applied bare
   calls-turn is at =
-      ap (λ (slot : ℕ). acting (called stack ends gone (getD table slot blank)) table stack memory pool ends) (sym (names-top stack gone is))
-      ∙ ap (with-next (λ (next : ℕ). op-call stack ends (gone .machine) next (getD table (slot-at stack gone) blank))) (next-is pool ends (gone .machine) fits (inside pool ends (gone .machine) CALL at (λ none. omega arith)))
-      ∙ sym (ap (after-act gone (slot-at stack gone) table) (acts-bare stack memory pool ends (gone .machine) (getD table (slot-at stack gone) blank) CALL at (λ none. omega arith) refl))
+      ap (λ (slot : ℕ). acting (called stack ends progress (getD table slot blank)) table stack memory pool ends) (sym (names-top stack progress is))
+      ∙ ap (with-next (λ (next : ℕ). op-call stack ends (progress .machine) next (getD table (slot-at stack progress) blank))) (next-is pool ends (progress .machine) fits (inside pool ends (progress .machine) CALL at (λ none. omega arith)))
+      ∙ sym (ap (after-act progress (slot-at stack progress) table) (acts-bare stack memory pool ends (progress .machine) (getD table (slot-at stack progress) blank) CALL at (λ none. omega arith) refl))
 
 -- ---- an instruction by its opcode
 
-module _ (table : List Task) (stack memory pool ends : List ℕ) (gone : Progress) where
-  pub at-end-call : eqb (gone .op) END-CALL ≡ true → act-turn table stack memory pool ends gone ≡ acting (returned gone) table stack memory pool ends
+module _ (table : List Task) (stack memory pool ends : List ℕ) (progress : Progress) where
+  pub at-end-call : eqb (progress .op) END-CALL ≡ true → act-turn table stack memory pool ends progress ≡ acting (returned progress) table stack memory pool ends
   unfolding act-turn
   at-end-call is = simp (is)
 
-  pub at-call : eqb (gone .op) END-CALL ≡ false → eqb (gone .op) CALL ≡ true → act-turn table stack memory pool ends gone ≡ from-entering (call-turn table stack ends gone) memory pool
+  pub at-call : eqb (progress .op) END-CALL ≡ false → eqb (progress .op) CALL ≡ true → act-turn table stack memory pool ends progress ≡ from-entering (call-turn table stack ends progress) memory pool
   unfolding act-turn
   at-call not is = simp (not, is)
 
-  pub at-other : eqb (gone .op) END-CALL ≡ false → eqb (gone .op) CALL ≡ false
-      → act-turn table stack memory pool ends gone ≡ state-turn table memory pool ends gone (slot-at stack gone) (stated stack (gone .machine) (gone .op) (getD table (slot-at stack gone) blank))
+  pub at-other : eqb (progress .op) END-CALL ≡ false → eqb (progress .op) CALL ≡ false
+      → act-turn table stack memory pool ends progress ≡ state-turn table memory pool ends progress (slot-at stack progress) (stated stack (progress .machine) (progress .op) (getD table (slot-at stack progress) blank))
   unfolding act-turn
   at-other not none = simp (not, none)
 
 -- ---- what the calls of the carrier answer, put together
 
 -- the slot named, its task read, and called
-pub call-turns : (table : List Task) (stack ends : List ℕ) (gone : Progress) {slot : ℕ} {stack′ : List ℕ} {task : Task} {table′ : List Task} {r : Progress} {stack″ ends′ : List ℕ}
-    → after slot stack′ ≡ after (slot-of-call stack gone) stack → after task table′ ≡ after (getD table slot blank) table
-    → after (after r stack″) ends′ ≡ after (after (called stack′ ends gone task) stack′) ends → entering r table′ stack″ ends′ ≡ call-turn table stack ends gone
+pub call-turns : (table : List Task) (stack ends : List ℕ) (progress : Progress) {slot : ℕ} {stack′ : List ℕ} {task : Task} {table′ : List Task} {r : Progress} {stack″ ends′ : List ℕ}
+    → after slot stack′ ≡ after (slot-of-call stack progress) stack → after task table′ ≡ after (getD table slot blank) table
+    → after (after r stack″) ends′ ≡ after (after (called stack′ ends progress task) stack′) ends → entering r table′ stack″ ends′ ≡ call-turn table stack ends progress
 unfolding call-turn
-call-turns table stack ends gone {slot} {stack′} {task} {table′} names read went =
+call-turns table stack ends progress {slot} {stack′} {task} {table′} names read went =
     ap (λ (a : After (After Progress (List ℕ)) (List ℕ)). entering (a .answer .answer) table′ (a .answer .lent) (a .lent)) went
-    ∙ ap (λ (a : After Task (List Task)). entering (called stack′ ends gone (a .answer)) (a .lent) stack′ ends) read
-    ∙ ap (λ (a : After ℕ (List ℕ)). entering (called (a .lent) ends gone (getD table (a .answer) blank)) table (a .lent) ends) names
+    ∙ ap (λ (a : After Task (List Task)). entering (called stack′ ends progress (a .answer)) (a .lent) stack′ ends) read
+    ∙ ap (λ (a : After ℕ (List ℕ)). entering (called (a .lent) ends progress (getD table (a .answer) blank)) table (a .lent) ends) names

@@ -50,22 +50,22 @@ use Rattle.mechanism.proofs.Settled.{on-bool, registers-settled, code-settled, 
 
 -- the machine with everything lent to it
 abbrev pub world-of : Going → World
-world-of g = world (g .gone .machine) (g .table) (g .stack) (g .memory) (g .pool) (g .ends) (g .save)
+world-of g = world (g .progress .machine) (g .table) (g .stack) (g .memory) (g .pool) (g .ends) (g .save)
 
 -- where it ends, between two turns
 unfoldable pub comes-to : Going → End
-comes-to g = cond (g .gone .running) (run (g .gone .left) (world-of g)) (end-at (world-of g) (g .gone .left) (g .gone .outcome))
+comes-to g = cond (g .progress .running) (run (g .progress .left) (world-of g)) (end-at (world-of g) (g .progress .left) (g .progress .outcome))
 
 -- where it ends, with an instruction at hand
 unfoldable pub finishes : Going → End
 finishes g =
-    cond (g .gone .running)
-    (follow (λ v. run (g .gone .left - 1) v) (world-of g) (g .gone .left) (outer (world-of g) (eqb (g .gone .op) S-SAVE) (slot-at (g .stack) (g .gone))))
-    (end-at (world-of g) (g .gone .left) (g .gone .outcome))
+    cond (g .progress .running)
+    (follow (λ v. run (g .progress .left - 1) v) (world-of g) (g .progress .left) (outer (world-of g) (eqb (g .progress .op) S-SAVE) (slot-at (g .stack) (g .progress))))
+    (end-at (world-of g) (g .progress .left) (g .progress .outcome))
 
 -- the turns that may still come
 abbrev pub turns-left : Going → ℕ
-turns-left g = g .gone .left * 2 + cond (g .gone .running) 1 0
+turns-left g = g .progress .left * 2 + cond (g .progress .running) 1 0
 
 past : (a b : ℕ) → ltb a b ≡ true → leb b a ≡ false
 past a b t = lt-leb b a (ltb-true a b t)
@@ -195,11 +195,11 @@ waits-fueled fuel machine op _ (refuses refusal left r _ m less) running = absur
 waits-fueled fuel machine op _ (waits left r _ m less some) running = some
 
 -- an instruction at hand has fuel
-fueled : (fuel : ℕ) (w : World) → begins fuel w .gone .running ≡ true → 0 < begins fuel w .gone .left
+fueled : (fuel : ℕ) (w : World) → begins fuel w .progress .running ≡ true → 0 < begins fuel w .progress .left
 unfolding begins advance after-steps
 fueled fuel w running = waits-fueled fuel _ _ _ (spare _ _ fuel _ _ _) running
 
-begins-left : (fuel : ℕ) (w : World) → begins fuel w .gone .left ≤ fuel
+begins-left : (fuel : ℕ) (w : World) → begins fuel w .progress .left ≤ fuel
 unfolding begins advance after-steps
 begins-left fuel w = left-falls fuel _ _ _ (spare _ _ fuel _ _ _)
 
@@ -211,7 +211,7 @@ none-saved machine op left halt.OutOfFuel stopped = refl
 none-saved machine op left (halt.Refused refusal) stopped = refl
 none-saved machine op left halt.Outer stopped = absurd (never (sym stopped))
 
-begins-none-saved : (fuel : ℕ) (w : World) → begins fuel w .gone .running ≡ false → eqb (begins fuel w .gone .op) S-SAVE ≡ false
+begins-none-saved : (fuel : ℕ) (w : World) → begins fuel w .progress .running ≡ false → eqb (begins fuel w .progress .op) S-SAVE ≡ false
 unfolding begins advance after-steps
 begins-none-saved fuel w stopped = none-saved _ _ _ _ stopped
 
@@ -225,10 +225,10 @@ shows-op p e machine op left halt.Outer at running = at
 
 -- the opcode at the place, and a pool that is not too long to count in
 record Seen (g : Going) : Type 0 where
-  at-place : op-at (g .pool) (g .ends) (g .gone .machine) ≡ g .gone .op
+  at-place : op-at (g .pool) (g .ends) (g .progress .machine) ≡ g .progress .op
   fits : length (g .pool) < 2 ^ 64
 
-begins-seen : (fuel : ℕ) (w : World) → length (w .pool) < 2 ^ 64 → begins fuel w .gone .running ≡ true → Seen (begins fuel w)
+begins-seen : (fuel : ℕ) (w : World) → length (w .pool) < 2 ^ 64 → begins fuel w .progress .running ≡ true → Seen (begins fuel w)
 unfolding begins advance after-steps
 begins-seen fuel w fits running = record { at-place = shows-op (w .pool) (w .ends) _ _ _ _ (op-settled (w .pool) (w .ends) (w .machine) _) running; fits = fits }
 
@@ -236,11 +236,11 @@ begins-seen fuel w fits running = record { at-place = shows-op (w .pool) (w .end
 
 -- where the machine goes on after an instruction that was finished, or stays after one that was refused
 data Turns (g : Going) : Going → StepResult → Type 0 where
-  on : (machine : Machine) (table : List Task) (s m p e save : List ℕ) → Turns g (going (at-hand machine (g .gone .left - 1) 0) table s m p e save) (next (world machine table s m p e save))
-  stays : (refusal : Refusal) → Turns g (going (outcome-at (g .gone .machine) (g .gone .left) (outcomes.Refused refusal)) (g .table) (g .stack) (g .memory) (g .pool) (g .ends) (g .save)) (refused refusal)
+  on : (machine : Machine) (table : List Task) (s m p e save : List ℕ) → Turns g (going (at-hand machine (g .progress .left - 1) 0) table s m p e save) (next (world machine table s m p e save))
+  stays : (refusal : Refusal) → Turns g (going (outcome-at (g .progress .machine) (g .progress .left) (outcomes.Refused refusal)) (g .table) (g .stack) (g .memory) (g .pool) (g .ends) (g .save)) (refused refusal)
 
 acts-turns : (g : Going) (slot : ℕ) (a : OnAll) → acts-law.Leaves (g .stack) (g .memory) (g .pool) (g .ends) (getD (g .table) slot blank) a
-    → Turns g (from-acting (after-act (g .gone) slot (g .table) a) (g .save)) (acts-went (world-of g) slot a (a .acted .went))
+    → Turns g (from-acting (after-act (g .progress) slot (g .table) a) (g .save)) (acts-went (world-of g) slot a (a .acted .went))
 unfolding turned acts-went applied
 acts-turns g slot _ (acts-law.finished machine change s m p e) = on machine _ s m p e (g .save)
 acts-turns g slot _ (acts-law.kept refusal) = stays refusal
@@ -259,103 +259,103 @@ unfolding save-table save-tasks
 save-leaves next-id table pool e entries save = saved-leaves _ _ save
 
 saves-turns : (g : Going) (a : SavedTable) → Saves (g .save) a
-    → next-of (g .gone .machine) ≡ registers-of (g .gone .machine) .place + 1
-    → Turns g (from-saving (after-save (g .gone) (g .table) (g .pool) (g .ends) a) (g .stack) (g .memory)) (saves-went (world-of g) (a .save) (save-went (g .gone .machine) (a .answer)))
+    → next-of (g .progress .machine) ≡ registers-of (g .progress .machine) .place + 1
+    → Turns g (from-saving (after-save (g .progress) (g .table) (g .pool) (g .ends) a) (g .stack) (g .memory)) (saves-went (world-of g) (a .save) (save-went (g .progress .machine) (a .answer)))
 unfolding saved save-answered turned save-went saves-went
 saves-turns g _ (has-saved length after) behind = rw behind (on _ (g .table) (g .stack) (g .memory) (g .pool) (g .ends) after)
 saves-turns g _ (not-saved refusal) behind = stays refusal
 
 -- an instruction that saves, or works on the record of the slot that it names
 abbrev record-turn : Going → Going
-record-turn g = from-acting (task-turn (g .table) (g .stack) (g .memory) (g .pool) (g .ends) (g .gone)) (g .save)
+record-turn g = from-acting (task-turn (g .table) (g .stack) (g .memory) (g .pool) (g .ends) (g .progress)) (g .save)
 
 abbrev saving-turn : Going → Going
-saving-turn g = from-saving (save-turn (g .table) (g .pool) (g .ends) (g .save) (g .gone)) (g .stack) (g .memory)
+saving-turn g = from-saving (save-turn (g .table) (g .pool) (g .ends) (g .save) (g .progress)) (g .stack) (g .memory)
 
 -- the place behind a save
-behind-save : (g : Going) → Seen g → eqb (g .gone .op) S-SAVE ≡ true → next-of (g .gone .machine) ≡ registers-of (g .gone .machine) .place + 1
+behind-save : (g : Going) → Seen g → eqb (g .progress .op) S-SAVE ≡ true → next-of (g .progress .machine) ≡ registers-of (g .progress .machine) .place + 1
 unfolding registers-of
 behind-save g seen is =
-    next-is (g .pool) (g .ends) (g .gone .machine) (seen .fits) (inside (g .pool) (g .ends) (g .gone .machine) S-SAVE (seen .at-place ∙ eqb-true _ _ is) (λ none. omega arith))
+    next-is (g .pool) (g .ends) (g .progress .machine) (seen .fits) (inside (g .pool) (g .ends) (g .progress .machine) S-SAVE (seen .at-place ∙ eqb-true _ _ is) (λ none. omega arith))
 
-turns-by : (g : Going) (b : Bool) → (b ≡ true → next-of (g .gone .machine) ≡ registers-of (g .gone .machine) .place + 1) → Turns g (cond b (saving-turn g) (record-turn g)) (outer (world-of g) b (slot-at (g .stack) (g .gone)))
+turns-by : (g : Going) (b : Bool) → (b ≡ true → next-of (g .progress .machine) ≡ registers-of (g .progress .machine) .place + 1) → Turns g (cond b (saving-turn g) (record-turn g)) (outer (world-of g) b (slot-at (g .stack) (g .progress)))
 unfolding outer saves acts save-turn task-turn
 turns-by g true behind = saves-turns g _ (save-leaves _ (g .table) (g .pool) (g .ends) _ (g .save)) (behind refl)
-turns-by g false behind = acts-turns g (slot-at (g .stack) (g .gone)) _ (act-leaves (g .stack) (g .memory) (g .pool) (g .ends) (g .gone .machine) _)
+turns-by g false behind = acts-turns g (slot-at (g .stack) (g .progress)) _ (act-leaves (g .stack) (g .memory) (g .pool) (g .ends) (g .progress .machine) _)
 
 -- a machine on its way turns
-at-work : (g : Going) → g .gone .running ≡ true → Seen g → turn g ≡ cond (eqb (g .gone .op) S-SAVE) (saving-turn g) (record-turn g)
+at-work : (g : Going) → g .progress .running ≡ true → Seen g → turn g ≡ cond (eqb (g .progress .op) S-SAVE) (saving-turn g) (record-turn g)
 unfolding turn
 at-work g running seen =
-    ap (λ (b : Bool). cond (eqb (g .gone .op) S-SAVE) (saving-turn g) (cond b (from-acting (act-turn (g .table) (g .stack) (g .memory) (g .pool) (g .ends) (g .gone)) (g .save)) g)) running
-    ∙ ap (λ (a : Acting). cond (eqb (g .gone .op) S-SAVE) (saving-turn g) (from-acting a (g .save))) (acts-on-record (g .table) (g .stack) (g .memory) (g .pool) (g .ends) (g .gone) (seen .fits) (seen .at-place))
+    ap (λ (b : Bool). cond (eqb (g .progress .op) S-SAVE) (saving-turn g) (cond b (from-acting (act-turn (g .table) (g .stack) (g .memory) (g .pool) (g .ends) (g .progress)) (g .save)) g)) running
+    ∙ ap (λ (a : Acting). cond (eqb (g .progress .op) S-SAVE) (saving-turn g) (from-acting a (g .save))) (acts-on-record (g .table) (g .stack) (g .memory) (g .pool) (g .ends) (g .progress) (seen .fits) (seen .at-place))
 
-turns : (g : Going) → g .gone .running ≡ true → Seen g → Turns g (turn g) (outer (world-of g) (eqb (g .gone .op) S-SAVE) (slot-at (g .stack) (g .gone)))
+turns : (g : Going) → g .progress .running ≡ true → Seen g → Turns g (turn g) (outer (world-of g) (eqb (g .progress .op) S-SAVE) (slot-at (g .stack) (g .progress)))
 turns g running seen =
-    subst (λ (h : Going). Turns g h (outer (world-of g) (eqb (g .gone .op) S-SAVE) (slot-at (g .stack) (g .gone)))) (sym (at-work g running seen))
-    (turns-by g (eqb (g .gone .op) S-SAVE) (behind-save g seen))
+    subst (λ (h : Going). Turns g h (outer (world-of g) (eqb (g .progress .op) S-SAVE) (slot-at (g .stack) (g .progress)))) (sym (at-work g running seen))
+    (turns-by g (eqb (g .progress .op) S-SAVE) (behind-save g seen))
 
 -- one at its outcome stays
-stays-put : (g : Going) → g .gone .running ≡ false → eqb (g .gone .op) S-SAVE ≡ false → turn g ≡ g
+stays-put : (g : Going) → g .progress .running ≡ false → eqb (g .progress .op) S-SAVE ≡ false → turn g ≡ g
 unfolding turn
 stays-put g stopped none = simp (none, stopped)
 
 -- ---- where it ends
 
-with-instruction : (g : Going) → g .gone .running ≡ true
-    → finishes g ≡ follow (λ v. run (g .gone .left - 1) v) (world-of g) (g .gone .left) (outer (world-of g) (eqb (g .gone .op) S-SAVE) (slot-at (g .stack) (g .gone)))
+with-instruction : (g : Going) → g .progress .running ≡ true
+    → finishes g ≡ follow (λ v. run (g .progress .left - 1) v) (world-of g) (g .progress .left) (outer (world-of g) (eqb (g .progress .op) S-SAVE) (slot-at (g .stack) (g .progress)))
 unfolding finishes
 with-instruction g running = simp (running)
 
-without : (g : Going) → g .gone .running ≡ false → finishes g ≡ end-at (world-of g) (g .gone .left) (g .gone .outcome)
+without : (g : Going) → g .progress .running ≡ false → finishes g ≡ end-at (world-of g) (g .progress .left) (g .progress .outcome)
 unfolding finishes
 without g stopped = simp (stopped)
 
-on-its-way : (g : Going) → g .gone .running ≡ true → comes-to g ≡ run (g .gone .left) (world-of g)
+on-its-way : (g : Going) → g .progress .running ≡ true → comes-to g ≡ run (g .progress .left) (world-of g)
 unfolding comes-to
 on-its-way g running = simp (running)
 
 -- at its outcome
-pub ended : (g : Going) → g .gone .running ≡ false → comes-to g ≡ end-at (world-of g) (g .gone .left) (g .gone .outcome)
+pub ended : (g : Going) → g .progress .running ≡ false → comes-to g ≡ end-at (world-of g) (g .progress .left) (g .progress .outcome)
 unfolding comes-to
 ended g stopped = simp (stopped)
 
 -- after the instruction at hand
-comes-after : (g h : Going) (stepped : StepResult) → Turns g h stepped → comes-to h ≡ follow (λ v. run (g .gone .left - 1) v) (world-of g) (g .gone .left) stepped
+comes-after : (g h : Going) (stepped : StepResult) → Turns g h stepped → comes-to h ≡ follow (λ v. run (g .progress .left - 1) v) (world-of g) (g .progress .left) stepped
 unfolding comes-to follow
 comes-after g _ _ (on machine table s m p e save) = refl
 comes-after g _ _ (stays refusal) = refl
 
-turned-on : (g : Going) → (g .gone .running ≡ true → Seen g) → (g .gone .running ≡ false → eqb (g .gone .op) S-SAVE ≡ false) → comes-to (turn g) ≡ finishes g
+turned-on : (g : Going) → (g .progress .running ≡ true → Seen g) → (g .progress .running ≡ false → eqb (g .progress .op) S-SAVE ≡ false) → comes-to (turn g) ≡ finishes g
 turned-on g seen none =
-    on-bool (g .gone .running) (λ running. comes-after g _ _ (turns g running (seen running)) ∙ sym (with-instruction g running))
+    on-bool (g .progress .running) (λ running. comes-after g _ _ (turns g running (seen running)) ∙ sym (with-instruction g running))
     (λ stopped. ap comes-to (stays-put g stopped (none stopped)) ∙ ended g stopped ∙ sym (without g stopped))
 
 -- after the current code and the instruction that it comes to
-pub went-on : (g : Going) → length (g .pool) < 2 ^ 64 → g .gone .running ≡ true → comes-to (goes-on g) ≡ comes-to g
+pub went-on : (g : Going) → length (g .pool) < 2 ^ 64 → g .progress .running ≡ true → comes-to (goes-on g) ≡ comes-to g
 unfolding goes-on
 went-on g fits running =
-    turned-on (begins (g .gone .left) (world-of g)) (begins-seen (g .gone .left) (world-of g) fits) (begins-none-saved (g .gone .left) (world-of g)) ∙ begun (g .gone .left) (world-of g) ∙ sym (on-its-way g running)
+    turned-on (begins (g .progress .left) (world-of g)) (begins-seen (g .progress .left) (world-of g) fits) (begins-none-saved (g .progress .left) (world-of g)) ∙ begun (g .progress .left) (world-of g) ∙ sym (on-its-way g running)
 
 -- ---- with fewer turns to come
 
-fewer-after : (fuel : ℕ) (g h : Going) (stepped : StepResult) → Turns g h stepped → g .gone .left ≤ fuel → 0 < g .gone .left → turns-left h < fuel * 2 + 1
+fewer-after : (fuel : ℕ) (g h : Going) (stepped : StepResult) → Turns g h stepped → g .progress .left ≤ fuel → 0 < g .progress .left → turns-left h < fuel * 2 + 1
 fewer-after fuel g _ _ (on machine table s m p e save) less some = omega (arith, less, some)
 fewer-after fuel g _ _ (stays refusal) less some = omega (arith, less)
 
-fewer-at-rest : (fuel : ℕ) (g : Going) → g .gone .running ≡ false → g .gone .left ≤ fuel → turns-left g < fuel * 2 + 1
+fewer-at-rest : (fuel : ℕ) (g : Going) → g .progress .running ≡ false → g .progress .left ≤ fuel → turns-left g < fuel * 2 + 1
 fewer-at-rest fuel g stopped less =
-    let none : _≡_ {A = ℕ} (cond (g .gone .running) 1 0) 0 = ap (λ (b : Bool). cond {A = ℕ} b 1 0) stopped in
+    let none : _≡_ {A = ℕ} (cond (g .progress .running) 1 0) 0 = ap (λ (b : Bool). cond {A = ℕ} b 1 0) stopped in
     omega (arith, less, none)
 
 fewer-than : (fuel : ℕ) (w : World) → length (w .pool) < 2 ^ 64 → turns-left (turn (begins fuel w)) < fuel * 2 + 1
 fewer-than fuel w fits =
-    on-bool (begins fuel w .gone .running) (λ running. fewer-after fuel (begins fuel w) _ _ (turns (begins fuel w) running (begins-seen fuel w fits running)) (begins-left fuel w) (fueled fuel w running))
+    on-bool (begins fuel w .progress .running) (λ running. fewer-after fuel (begins fuel w) _ _ (turns (begins fuel w) running (begins-seen fuel w fits running)) (begins-left fuel w) (fueled fuel w running))
     (λ stopped. subst (λ (h : Going). turns-left h < fuel * 2 + 1) (sym (stays-put (begins fuel w) stopped (begins-none-saved fuel w stopped))) (fewer-at-rest fuel (begins fuel w) stopped (begins-left fuel w)))
 
-pub fewer : (g : Going) → length (g .pool) < 2 ^ 64 → g .gone .running ≡ true → turns-left (goes-on g) < turns-left g
+pub fewer : (g : Going) → length (g .pool) < 2 ^ 64 → g .progress .running ≡ true → turns-left (goes-on g) < turns-left g
 unfolding goes-on
 fewer g fits running =
-    let one : _≡_ {A = ℕ} (cond (g .gone .running) 1 0) 1 = ap (λ (b : Bool). cond {A = ℕ} b 1 0) running in
-    let less = fewer-than (g .gone .left) (world-of g) fits in
+    let one : _≡_ {A = ℕ} (cond (g .progress .running) 1 0) 1 = ap (λ (b : Bool). cond {A = ℕ} b 1 0) running in
+    let less = fewer-than (g .progress .left) (world-of g) fits in
     omega (arith, one, less)

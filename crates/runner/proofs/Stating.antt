@@ -180,43 +180,43 @@ unfolding restated applied
 restates table slot task s = on-bool (s .states) (λ yes. simp (yes)) (λ no. simp (no))
 
 -- without the rest of the record, or with it, it is the turn on the whole one
-module _ (table : List Task) (stack memory pool ends : List ℕ) (gone : Progress) where
+module _ (table : List Task) (stack memory pool ends : List ℕ) (progress : Progress) where
   abbrev slot : ℕ
-  slot = slot-at stack gone
+  slot = slot-at stack progress
 
   abbrev record-of : Task
   record-of = getD table slot blank
 
-  not-stated : state-turn table memory pool ends gone slot (after (whole (gone .machine)) stack) ≡ task-turn table stack memory pool ends gone
+  not-stated : state-turn table memory pool ends progress slot (after (whole (progress .machine)) stack) ≡ task-turn table stack memory pool ends progress
   unfolding state-turn
   not-stated = refl
 
-  is-stated : (s : StateAnswer) (stack′ : List ℕ) → s .whole ≡ false → act stack memory pool ends (gone .machine) record-of ≡ leaves stack memory pool ends (gone .machine) record-of (after s stack′)
-      → state-turn table memory pool ends gone slot (after s stack′) ≡ task-turn table stack memory pool ends gone
+  is-stated : (s : StateAnswer) (stack′ : List ℕ) → s .whole ≡ false → act stack memory pool ends (progress .machine) record-of ≡ leaves stack memory pool ends (progress .machine) record-of (after s stack′)
+      → state-turn table memory pool ends progress slot (after s stack′) ≡ task-turn table stack memory pool ends progress
   unfolding state-turn task-turn
   is-stated s stack′ small acts =
-      let told : cond (s .whole) (task-turn table stack′ memory pool ends gone) (acting (turned (gone .machine) (gone .left) (s .went)) (restated table slot s) stack′ memory pool ends)
-      ≡ acting (turned (gone .machine) (gone .left) (s .went)) (restated table slot s) stack′ memory pool ends = simp (small) in
-      told ∙ ap (λ (t : List Task). acting (turned (gone .machine) (gone .left) (s .went)) t stack′ memory pool ends) (restates table slot record-of s)
-      ∙ sym (ap (after-act gone slot table) acts)
+      let told : cond (s .whole) (task-turn table stack′ memory pool ends progress) (acting (turned (progress .machine) (progress .left) (s .went)) (restated table slot s) stack′ memory pool ends)
+      ≡ acting (turned (progress .machine) (progress .left) (s .went)) (restated table slot s) stack′ memory pool ends = simp (small) in
+      told ∙ ap (λ (t : List Task). acting (turned (progress .machine) (progress .left) (s .went)) t stack′ memory pool ends) (restates table slot record-of s)
+      ∙ sym (ap (after-act progress slot table) acts)
 
-  by-answer : (op : ℕ) → Answered stack memory pool ends (gone .machine) record-of op → state-turn table memory pool ends gone slot (stated stack (gone .machine) op record-of) ≡ task-turn table stack memory pool ends gone
-  by-answer op (not-done e) = ap (state-turn table memory pool ends gone slot) e ∙ not-stated
-  by-answer op (done {s} {stack′} e small acts) = ap (state-turn table memory pool ends gone slot) e ∙ is-stated s stack′ small acts
+  by-answer : (op : ℕ) → Answered stack memory pool ends (progress .machine) record-of op → state-turn table memory pool ends progress slot (stated stack (progress .machine) op record-of) ≡ task-turn table stack memory pool ends progress
+  by-answer op (not-done e) = ap (state-turn table memory pool ends progress slot) e ∙ not-stated
+  by-answer op (done {s} {stack′} e small acts) = ap (state-turn table memory pool ends progress slot) e ∙ is-stated s stack′ small acts
 
-  states-turn : length pool < 2 ^ 64 → op-at pool ends (gone .machine) ≡ gone .op → state-turn table memory pool ends gone slot (stated stack (gone .machine) (gone .op) record-of) ≡ task-turn table stack memory pool ends gone
-  states-turn fits at = by-answer (gone .op) (answered stack memory pool ends (gone .machine) record-of (gone .op) fits at)
+  states-turn : length pool < 2 ^ 64 → op-at pool ends (progress .machine) ≡ progress .op → state-turn table memory pool ends progress slot (stated stack (progress .machine) (progress .op) record-of) ≡ task-turn table stack memory pool ends progress
+  states-turn fits at = by-answer (progress .op) (answered stack memory pool ends (progress .machine) record-of (progress .op) fits at)
 
 -- ---- an instruction by its opcode is the one on the whole record, if its opcode is the one at the place
 
-pub acts-on-record : (table : List Task) (stack memory pool ends : List ℕ) (gone : Progress) → length pool < 2 ^ 64 → op-at pool ends (gone .machine) ≡ gone .op
-    → act-turn table stack memory pool ends gone ≡ task-turn table stack memory pool ends gone
-acts-on-record table stack memory pool ends gone fits at =
-    on-bool (eqb (gone .op) END-CALL)
-    (λ is. at-end-call table stack memory pool ends gone is ∙ returns-turn table stack memory pool ends gone fits (at ∙ eqb-true (gone .op) END-CALL is))
-    (λ not. on-bool (eqb (gone .op) CALL)
-    (λ is. at-call table stack memory pool ends gone not is ∙ calls-turn table stack memory pool ends gone fits (eqb-true (gone .op) CALL is) (at ∙ eqb-true (gone .op) CALL is))
-    (λ none. at-other table stack memory pool ends gone not none ∙ states-turn table stack memory pool ends gone fits at))
+pub acts-on-record : (table : List Task) (stack memory pool ends : List ℕ) (progress : Progress) → length pool < 2 ^ 64 → op-at pool ends (progress .machine) ≡ progress .op
+    → act-turn table stack memory pool ends progress ≡ task-turn table stack memory pool ends progress
+acts-on-record table stack memory pool ends progress fits at =
+    on-bool (eqb (progress .op) END-CALL)
+    (λ is. at-end-call table stack memory pool ends progress is ∙ returns-turn table stack memory pool ends progress fits (at ∙ eqb-true (progress .op) END-CALL is))
+    (λ not. on-bool (eqb (progress .op) CALL)
+    (λ is. at-call table stack memory pool ends progress not is ∙ calls-turn table stack memory pool ends progress fits (eqb-true (progress .op) CALL is) (at ∙ eqb-true (progress .op) CALL is))
+    (λ none. at-other table stack memory pool ends progress not none ∙ states-turn table stack memory pool ends progress fits at))
 
 -- ---- what the calls of the carrier answer, put together
 

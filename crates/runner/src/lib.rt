@@ -1,6 +1,6 @@
 // The run of a machine over everything lent to it: the functions that carry the lent table of tasks from instruction to instruction.
 mod act;
-mod gone;
+mod progress;
 mod states;
 mod wanted;
 
@@ -44,15 +44,15 @@ fn task_turn(
     memory: &mut [u8],
     pool: &mut [u8],
     ends: &mut [u32; 1024],
-    gone: Progress,
+    progress: Progress,
 ) -> Progress
-    ensures { λ r. ⌜ acting r (now (table .exit)) (now (stack .exit)) (now (memory .exit)) (now (pool .exit)) (now (ends .exit)) ≡ task-turn (now (table .entry)) (now (stack .entry)) (now (memory .entry)) (now (pool .entry)) (now (ends .entry)) gone ⌝ }
+    ensures { λ r. ⌜ acting r (now (table .exit)) (now (stack .exit)) (now (memory .exit)) (now (pool .exit)) (now (ends .exit)) ≡ task-turn (now (table .entry)) (now (stack .entry)) (now (memory .entry)) (now (pool .entry)) (now (ends .entry)) progress ⌝ }
 {
-    let slot = crate::wanted::slot_of(stack, gone);
+    let slot = crate::wanted::slot_of(stack, progress);
     let task = table::get(table, slot);
-    let acted = act(stack, memory, pool, ends, gone.machine, task);
+    let acted = act(stack, memory, pool, ends, progress.machine, task);
     apply(table, slot, acted.change);
-    crate::gone::turned(gone.machine, gone.left, acted.went)
+    crate::progress::turned(progress.machine, progress.left, acted.went)
 }
 
 // The state that an instruction sets in the slot that it names.
@@ -70,13 +70,13 @@ fn call_turn(
     table: &mut [Task],
     stack: &mut [u64; 1000],
     ends: &mut [u32; 1024],
-    gone: Progress,
+    progress: Progress,
 ) -> Progress
-    ensures { λ r. ⌜ entering r (now (table .exit)) (now (stack .exit)) (now (ends .exit)) ≡ call-turn (now (table .entry)) (now (stack .entry)) (now (ends .entry)) gone ⌝ }
+    ensures { λ r. ⌜ entering r (now (table .exit)) (now (stack .exit)) (now (ends .exit)) ≡ call-turn (now (table .entry)) (now (stack .entry)) (now (ends .entry)) progress ⌝ }
 {
-    let slot = crate::wanted::slot_of_call(stack, gone);
+    let slot = crate::wanted::slot_of_call(stack, progress);
     let task = table::get(table, slot);
-    crate::gone::called(stack, ends, gone, task)
+    crate::progress::called(stack, ends, progress, task)
 }
 
 // The instruction at hand. CALL, END_CALL and those on a state have their own way: where all came together, each carried the whole record of a slot.
@@ -86,25 +86,25 @@ fn act_turn(
     memory: &mut [u8],
     pool: &mut [u8],
     ends: &mut [u32; 1024],
-    gone: Progress,
+    progress: Progress,
 ) -> Progress
-    ensures { λ r. ⌜ acting r (now (table .exit)) (now (stack .exit)) (now (memory .exit)) (now (pool .exit)) (now (ends .exit)) ≡ act-turn (now (table .entry)) (now (stack .entry)) (now (memory .entry)) (now (pool .entry)) (now (ends .entry)) gone ⌝ }
+    ensures { λ r. ⌜ acting r (now (table .exit)) (now (stack .exit)) (now (memory .exit)) (now (pool .exit)) (now (ends .exit)) ≡ act-turn (now (table .entry)) (now (stack .entry)) (now (memory .entry)) (now (pool .entry)) (now (ends .entry)) progress ⌝ }
 {
-    let op = gone.op;
+    let op = progress.op;
     if op == END_CALL {
-        return crate::gone::returned(gone);
+        return crate::progress::returned(progress);
     }
     if op == CALL {
-        return call_turn(table, stack, ends, gone);
+        return call_turn(table, stack, ends, progress);
     }
-    let slot = crate::wanted::slot_of(stack, gone);
+    let slot = crate::wanted::slot_of(stack, progress);
     let task = table::get(table, slot);
-    let stated = crate::states::stated(stack, gone.machine, op, task);
+    let stated = crate::states::stated(stack, progress.machine, op, task);
     if stated.whole {
-        return task_turn(table, stack, memory, pool, ends, gone);
+        return task_turn(table, stack, memory, pool, ends, progress);
     }
     restate(table, slot, stated);
-    crate::gone::turned(gone.machine, gone.left, stated.went)
+    crate::progress::turned(progress.machine, progress.left, stated.went)
 }
 
 // S_SAVE, at hand.
@@ -113,19 +113,19 @@ fn save_turn(
     pool: &mut [u8],
     ends: &mut [u32; 1024],
     save: &mut [u8],
-    gone: Progress,
+    progress: Progress,
 ) -> Progress
-    ensures { λ r. ⌜ saving r (now (table .exit)) (now (pool .exit)) (now (ends .exit)) (now (save .exit)) ≡ save-turn (now (table .entry)) (now (pool .entry)) (now (ends .entry)) (now (save .entry)) gone ⌝ }
+    ensures { λ r. ⌜ saving r (now (table .exit)) (now (pool .exit)) (now (ends .exit)) (now (save .exit)) ≡ save-turn (now (table .entry)) (now (pool .entry)) (now (ends .entry)) (now (save .entry)) progress ⌝ }
 {
     let result = table_image::save_table(
         table,
         pool,
         ends,
         save,
-        gone.machine.entries,
-        gone.machine.next_id,
+        progress.machine.entries,
+        progress.machine.next_id,
     );
-    crate::gone::saved(gone.machine, gone.left, result)
+    crate::progress::saved(progress.machine, progress.left, result)
 }
 
 // The instruction at hand; a machine that is at its outcome stays as it is.
@@ -136,17 +136,17 @@ fn turn(
     pool: &mut [u8],
     ends: &mut [u32; 1024],
     save: &mut [u8],
-    gone: Progress,
+    progress: Progress,
 ) -> Progress
-    ensures { λ r. ⌜ going r (now (table .exit)) (now (stack .exit)) (now (memory .exit)) (now (pool .exit)) (now (ends .exit)) (now (save .exit)) ≡ turn (going gone (now (table .entry)) (now (stack .entry)) (now (memory .entry)) (now (pool .entry)) (now (ends .entry)) (now (save .entry))) ⌝ }
+    ensures { λ r. ⌜ going r (now (table .exit)) (now (stack .exit)) (now (memory .exit)) (now (pool .exit)) (now (ends .exit)) (now (save .exit)) ≡ turn (going progress (now (table .entry)) (now (stack .entry)) (now (memory .entry)) (now (pool .entry)) (now (ends .entry)) (now (save .entry))) ⌝ }
 {
-    if gone.op == S_SAVE {
-        return save_turn(table, pool, ends, save, gone);
+    if progress.op == S_SAVE {
+        return save_turn(table, pool, ends, save, progress);
     }
-    if gone.running {
-        return act_turn(table, stack, memory, pool, ends, gone);
+    if progress.running {
+        return act_turn(table, stack, memory, pool, ends, progress);
     }
-    gone
+    progress
 }
 
 // The run: at most so many instructions.
@@ -162,11 +162,11 @@ pub fn run(
 ) -> RunEnd
     ensures { λ r. ⌜ ran-to r (now (table .exit)) (now (stack .exit)) (now (memory .exit)) (now (pool .exit)) (now (ends .exit)) (now (save .exit)) ≡ run fuel (world machine (now (table .entry)) (now (stack .entry)) (now (memory .entry)) (now (pool .entry)) (now (ends .entry)) (now (save .entry))) ⌝ }
 {
-    let mut gone = crate::gone::begun(machine, fuel);
-    while gone.running {
-        gone = advance(stack, memory, pool, ends, gone.machine, gone.left);
-        let next = turn(table, stack, memory, pool, ends, save, gone);
-        gone = next;
+    let mut progress = crate::progress::begun(machine, fuel);
+    while progress.running {
+        progress = advance(stack, memory, pool, ends, progress.machine, progress.left);
+        let next = turn(table, stack, memory, pool, ends, save, progress);
+        progress = next;
     }
-    crate::gone::ran(gone)
+    crate::progress::ran(progress)
 }

@@ -3,7 +3,7 @@ ghost use mathlib.Core.Path.{_≡_};
 ghost use Prim.Native.Nat.{_≤_};
 ghost use Rattle.storage.specs.Tasks.{after};
 ghost use Rattle.runner.specs.States.{names-state, whole, got, gets, set-third, sets, stated};
-use crate::gone::next_of;
+use crate::progress::next_of;
 use bytecode::opcodes::T_GET_FIELD;
 use bytecode::opcodes::T_SET_FIELD;
 use machine::Machine;

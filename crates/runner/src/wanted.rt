@@ -44,15 +44,15 @@ fn wanted(stack: &[u64; 1000], machine: Machine, op: u8) -> usize
 }
 
 // The slot that CALL names.
-pub(crate) fn slot_of_call(stack: &mut [u64; 1000], gone: Progress) -> usize
-    ensures { λ r. ⌜ after r (now (stack .exit)) ≡ after (named (now (stack .entry)) (gone .machine .height)) (now (stack .entry)) ⌝ }
+pub(crate) fn slot_of_call(stack: &mut [u64; 1000], progress: Progress) -> usize
+    ensures { λ r. ⌜ after r (now (stack .exit)) ≡ after (named (now (stack .entry)) (progress .machine .height)) (now (stack .entry)) ⌝ }
 {
-    named(stack, gone.machine.height)
+    named(stack, progress.machine.height)
 }
 
 // The slot that the instruction at hand names.
-pub(crate) fn slot_of(stack: &mut [u64; 1000], gone: Progress) -> usize
-    ensures { λ r. ⌜ after r (now (stack .exit)) ≡ after (wanted (now (stack .entry)) (gone .machine) (gone .op)) (now (stack .entry)) ⌝ }
+pub(crate) fn slot_of(stack: &mut [u64; 1000], progress: Progress) -> usize
+    ensures { λ r. ⌜ after r (now (stack .exit)) ≡ after (wanted (now (stack .entry)) (progress .machine) (progress .op)) (now (stack .entry)) ⌝ }
 {
-    wanted(stack, gone.machine, gone.op)
+    wanted(stack, progress.machine, progress.op)
 }

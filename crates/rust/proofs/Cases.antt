@@ -1,7 +1,7 @@
 -- The answers that the Rust itself gave, computed from its definition.
 use mathlib.Core.Path.{refl}
 use Rattle.bytecode.specs.Operands.{big-endian}
-use Rattle.memory.specs.Change.{little-endian}
+use Rattle.slices.specs.Numbers.{little-endian}
 use Rattle.slices.specs.Same.{same}
 use Rattle.utf8.specs.Grammar.{UTF8-char}
 use Rattle.utf8.specs.Utf8.{valid, from, lead, holds}

@@ -9,7 +9,7 @@ use Rattle.slices.specs.Same.{same}
 use Rattle.utf8.specs.Utf8.{valid}
 use Rattle.values.specs.declared.FatPointer.{FatPointer}
 use Rattle.values.specs.Values.{to-bool-val}
-use Rattle.memory.specs.Change.{little-endian}
+use Rattle.slices.specs.Numbers.{little-endian}
 use Rattle.rust.specs.Errors.{Out, err, panic, InvalidType, MSliceOutOfBounds, BytesToStringConversionError, AlignmentMismatch, SliceSizeMismatch}
 use Rattle.rust.specs.Values.{to-vec-val}
 use Rattle.rust.specs.Helpers.{slice}

@@ -90,7 +90,7 @@ module _ (program : List ℕ) (kinds : List Kind) (labelled : Labelled program k
     pub ready : Ready (world-after r)
     pub safe : Safe kinds r
 
-  keeps-done : {v : World} (fuel left : ℕ) → Stands program labels v → at-end v ≡ true → Keeps (calls.at-end fuel (end-at v left Done))
+  keeps-done : {v : World} (fuel left : ℕ) → Stands program labels v → at-end v ≡ true → Keeps (calls.reported-end fuel (end-at v left Done))
   unfolding report ended rewound placed settled registers-of may-continue
   keeps-done {v} fuel left stands over =
       let e = end-good program kinds labelled v stands over in
@@ -103,11 +103,11 @@ module _ (program : List ℕ) (kinds : List Kind) (labelled : Labelled program k
         });
         safe = record {
           never-refused = λ refusal q. absurd (let z : _≡_ {A = ℕ} 0 1 = cc in omega arith);
-          listed-kinds = λ q. listed (world-after (calls.at-end fuel (end-at v left Done))) (e .kinded);
+          listed-kinds = λ q. listed (world-after (calls.reported-end fuel (end-at v left Done))) (e .kinded);
         };
       }
 
-  keeps-paused : {v : World} (fuel left : ℕ) → Stands program labels v → Keeps (calls.at-end fuel (end-at v left Paused))
+  keeps-paused : {v : World} (fuel left : ℕ) → Stands program labels v → Keeps (calls.reported-end fuel (end-at v left Paused))
   unfolding report ended may-start
   keeps-paused fuel left stands = record {
     ready = on-its-way refl (record { lent = stands .lent; main = stands .main; holds = stands .holds });
@@ -124,14 +124,14 @@ module _ (program : List ℕ) (kinds : List Kind) (labelled : Labelled program k
     listed-kinds = λ q. absurd (let z : _≡_ {A = ℕ} 0 1 = cc in omega arith);
   }
 
-  keeps-refused : {v : World} (refusal : Refusal) (fuel left : ℕ) → Stands program labels v → May refusal → Keeps (calls.at-end fuel (end-at v left (Refused refusal)))
+  keeps-refused : {v : World} (refusal : Refusal) (fuel left : ℕ) → Stands program labels v → May refusal → Keeps (calls.reported-end fuel (end-at v left (Refused refusal)))
   unfolding report ended may-start
   keeps-refused refusal fuel left stands may = record {
     ready = on-its-way refl (record { lent = stands .lent; main = stands .main; holds = stands .holds });
     safe = safe-refusal _ refusal refl (not-ruled-out (number-of refusal) may);
   }
 
-  keeps-run : {e : End} (fuel : ℕ) → Runs program kinds labelled e → Keeps (calls.at-end fuel e)
+  keeps-run : {e : End} (fuel : ℕ) → Runs program kinds labelled e → Keeps (calls.reported-end fuel e)
   keeps-run fuel (runs-done {left = left} stands over) = keeps-done fuel left stands over
   keeps-run fuel (runs-paused {left = left} stands) = keeps-paused fuel left stands
   keeps-run fuel (runs-refused {left = left} {refusal = refusal} stands may) = keeps-refused refusal fuel left stands may
@@ -161,7 +161,7 @@ module _ (program : List ℕ) (kinds : List Kind) (labelled : Labelled program k
 
   -- ---- what an allowed call is refused with
 
-  only-run : {e : End} (fuel : ℕ) (refusal : Refusal) → Runs program kinds labelled e → calls.at-end fuel e .report .outcome ≡ Refused refusal → May refusal
+  only-run : {e : End} (fuel : ℕ) (refusal : Refusal) → Runs program kinds labelled e → calls.reported-end fuel e .report .outcome ≡ Refused refusal → May refusal
   unfolding report
   only-run fuel refusal (runs-done stands over) q = absurd (let z : _≡_ {A = ℕ} 0 1 = cc in omega arith)
   only-run fuel refusal (runs-paused stands) q = absurd (let z : _≡_ {A = ℕ} 0 1 = cc in omega arith)

@@ -30,7 +30,7 @@ use Rattle.labels.specs.declared.KindResult.the-variants.{Known, Unknown}
 use Rattle.labels.specs.declared.Exchange.{Exchange}
 use Rattle.labels.specs.declared.Exchange.the-variants.{Unchanged, Adds, Turns, Joins, Gets, Sets, Dup, Swap, Drop, Compares, Changes}
 use Rattle.labels.specs.declared.Element.the-variants.{NoRule, Kinds, Do, Loop, LoopIndex, JumpIfFalse}
-use Rattle.labels.specs.Elements.{joined, after, tag-kind, field-kind, with-kind, field-element, jump-element, moving-element, plain-element, whole-element, element}
+use Rattle.labels.specs.Elements.{joined, element-end, tag-kind, field-kind, with-kind, field-element, jump-element, moving-element, plain-element, whole-element, element}
 use Rattle.labels.specs.Labels.{Open, opened, Label, kinds-after, loops-after, Labelling}
 use Rattle.safety.proofs.Kinded.{Kinded, lengths, kept-below}
 use Rattle.safety.proofs.Rules.{on-bool, Shape, is-unchanged, is-adds, is-gets, is-sets, two-numbers, one-bool}
@@ -195,7 +195,7 @@ module _ (code : List ℕ) (labels : ℕ → Label) (lab : Labelling code labels
   at-target e a =
       let f : element code place ≡ JumpIfFalse target = element-whole code place (whole code labels lab at inside) ∙ ap (whole-element code place) e ∙ jump-element-is e in
       let j = lab .jumps place target (at .start) inside f in
-      let n : after code place ≡ next = after-alone code place (ap (λ (b : ℕ). eqb b PUSH-TASK-FIELD) e) in
+      let n : element-end code place ≡ next = after-alone code place (ap (λ (b : ℕ). eqb b PUSH-TASK-FIELD) e) in
       record { start = j .0; label-is = j .1 ∙ ap labels n ∙ a .label-is; few-kinds = a .few-kinds; few-loops = a .few-loops }
 
   jump-at : Goal JUMP-IF-FALSE
@@ -275,12 +275,12 @@ module _ (code : List ℕ) (labels : ℕ → Label) (lab : Labelling code labels
       (middle within (ap (λ (i : ℕ). getD code i 0) n ∙ c) half (add-one height) less (getD-set-same stack height (to-u32-val field) 0 (omega arith)) fielded
       (kept-below height (to-u32-val field) (omega arith) (subst (Kinded stack height) same kinded)) (subst (λ (i : ℕ). At code labels i left opens) more a) looping))
 
-  after-joined : getD code place 0 ≡ PUSH-TASK-FIELD → (eqb second T-GET-FIELD || eqb second T-SET-FIELD) ≡ true → after code place ≡ place + 3
-  unfolding after joined
+  after-joined : getD code place 0 ≡ PUSH-TASK-FIELD → (eqb second T-GET-FIELD || eqb second T-SET-FIELD) ≡ true → element-end code place ≡ place + 3
+  unfolding element-end joined
   after-joined e t = rw (e, t)
 
-  after-lone : getD code place 0 ≡ PUSH-TASK-FIELD → (eqb second T-GET-FIELD || eqb second T-SET-FIELD) ≡ false → after code place ≡ next
-  unfolding after joined
+  after-lone : getD code place 0 ≡ PUSH-TASK-FIELD → (eqb second T-GET-FIELD || eqb second T-SET-FIELD) ≡ false → element-end code place ≡ next
+  unfolding element-end joined
   after-lone e t = rw (e, t)
 
   within-joined : getD code place 0 ≡ PUSH-TASK-FIELD → (eqb second T-GET-FIELD || eqb second T-SET-FIELD) ≡ true → place + 3 ≤ length code

@@ -19,7 +19,7 @@ use Rattle.labels.specs.declared.KindResult.the-variants.{Known, Unknown}
 use Rattle.labels.specs.declared.Exchange.{Exchange}
 use Rattle.labels.specs.declared.Element.{Element}
 use Rattle.labels.specs.declared.Element.the-variants.{NoRule, Kinds}
-use Rattle.labels.specs.Elements.{joined, after, tag-kind, field-kind, whole-element, element}
+use Rattle.labels.specs.Elements.{joined, element-end, tag-kind, field-kind, whole-element, element}
 use Rattle.labels.specs.Labels.{Open, Label, kinds-after, loops-after, rule, next-label, Start, follow, Labelling}
 use Rattle.labels.proofs.Comparison.{and-left}
 use Rattle.labels.proofs.Ways.{fits}
@@ -80,16 +80,16 @@ module _ (code : List ℕ) (place : ℕ) where
   operands op e within = rw (← e) (omega arith)
 
   -- an element ends where its instruction does, or later
-  pub behind-within : behind code place ≤ after code place
-  unfolding after joined
+  pub behind-within : behind code place ≤ element-end code place
+  unfolding element-end joined
   behind-within =
       on-bool (eqb (getD code place 0) PUSH-TASK-FIELD && (eqb (getD code (place + 2) 0) T-GET-FIELD || eqb (getD code (place + 2) 0) T-SET-FIELD))
       (λ t. rw t (omega (arith, behind-field (eqb-true (getD code place 0) PUSH-TASK-FIELD (and-left (eqb (getD code place 0) PUSH-TASK-FIELD) _ t)))))
       (λ f. rw f (omega arith))
 
   -- any but PUSH_TASK_FIELD is an element by itself
-  pub after-alone : eqb (getD code place 0) PUSH-TASK-FIELD ≡ false → after code place ≡ behind code place
-  unfolding after joined
+  pub after-alone : eqb (getD code place 0) PUSH-TASK-FIELD ≡ false → element-end code place ≡ behind code place
+  unfolding element-end joined
   after-alone alone = rw alone
 
   -- a whole instruction
@@ -97,36 +97,36 @@ module _ (code : List ℕ) (place : ℕ) where
   unfolding extent
   extent-whole whole = simp (le-leb (behind code place) (length code) whole)
 
-  pub element-whole : after code place ≤ length code → element code place ≡ whole-element code place (getD code place 0)
+  pub element-whole : element-end code place ≤ length code → element code place ≡ whole-element code place (getD code place 0)
   unfolding element
-  element-whole whole = simp (le-leb (after code place) (length code) whole)
+  element-whole whole = simp (le-leb (element-end code place) (length code) whole)
 
 -- ---- the label behind an element
 
 module _ (code : List ℕ) (labels : ℕ → Label) (lab : Labelling code labels) {place : ℕ} {kinds : List Kind} {opens : List Open} (at : At code labels place kinds opens) (inside : place < length code) where
   -- the element is whole
-  pub whole : after code place ≤ length code
+  pub whole : element-end code place ≤ length code
   whole = fits code place (labels place) (lab .rules place (at .start) inside)
 
   pub instruction-whole : behind code place ≤ length code
   instruction-whole = omega (arith, behind-within code place, whole)
 
   -- what its rule gave
-  rule-given : Given (element code place) (after code place) kinds opens (labels (after code place))
+  rule-given : Given (element code place) (element-end code place) kinds opens (labels (element-end code place))
   unfolding next-label
   rule-given =
-      given (element code place) (after code place) kinds opens (labels (after code place))
-      (subst (λ (l : Label). rule (element code place) (after code place) l ≡ some (labels (after code place))) (at .label-is) (lab .rules place (at .start) inside))
+      given (element code place) (element-end code place) kinds opens (labels (element-end code place))
+      (subst (λ (l : Label). rule (element code place) (element-end code place) l ≡ some (labels (element-end code place))) (at .label-is) (lab .rules place (at .start) inside))
 
   -- the rule of the element, and the label behind it
   pub record Follows (found : Element) (next : ℕ) : Type 0 where
     pub rule-gave : Given found next kinds opens (labels next)
     pub at-next : At code labels next (rule-gave .left) (rule-gave .opens)
 
-  pub follows : (found : Element) (next : ℕ) → element code place ≡ found → after code place ≡ next → Follows found next
+  pub follows : (found : Element) (next : ℕ) → element code place ≡ found → element-end code place ≡ next → Follows found next
   follows found next e n =
       let g : Given found next kinds opens (labels next) =
-      subst (λ (k : ℕ). Given found k kinds opens (labels k)) n (subst (λ (x : Element). Given x (after code place) kinds opens (labels (after code place))) e rule-given) in
+      subst (λ (k : ℕ). Given found k kinds opens (labels k)) n (subst (λ (x : Element). Given x (element-end code place) kinds opens (labels (element-end code place))) e rule-given) in
       record {
         rule-gave = g;
         at-next = record {

@@ -13,7 +13,7 @@ use Rattle.labels.specs.declared.Kind.the-variants.{Number, Calldata, Boolean, 
 use Rattle.labels.specs.declared.Exchange.{Exchange}
 use Rattle.labels.specs.declared.Exchange.the-variants.{Unchanged, Adds, Takes, Turns, Joins, Creates, Gets, Sets, Dup, Swap, Drop, Compares, Changes}
 use Rattle.labels.specs.declared.Element.{Element}
-use Rattle.labels.specs.Labels.{letter, same-kind, Open, Label, label, onward, takes, gives, compares, keeps-vector, exchanged, kinds-after, loops-after, bounded, rule}
+use Rattle.labels.specs.Labels.{letter, same-kind, Open, Label, label, and-then, takes, gives, compares, keeps-vector, exchanged, kinds-after, loops-after, bounded, rule}
 use Rattle.labels.proofs.Comparison.{and-left, and-right, letters-equal}
 
 -- by a test
@@ -24,7 +24,7 @@ on-bool false f g = g refl
 pub no-answer : {A B : Type 0} {a : A} → none ≡ some a → B
 no-answer e = absurd (let z : _≡_ {A = ℕ} 0 1 = cc in omega arith)
 
-went-on : {A B : Type 0} (o : Option A) (f : A → Option B) (b : B) → onward o f ≡ some b → (a : A) × (o ≡ some a) × (f a ≡ some b)
+went-on : {A B : Type 0} (o : Option A) (f : A → Option B) (b : B) → and-then o f ≡ some b → (a : A) × (o ≡ some a) × (f a ≡ some b)
 went-on none f b e = no-answer e
 went-on (some a) f b e = (a, refl, e)
 
@@ -45,7 +45,7 @@ pub record Given (element : Element) (next : ℕ) (kinds : List Kind) (loops : L
 pub given : (element : Element) (next : ℕ) (kinds : List Kind) (loops : List Open) (l : Label) → rule element next (label kinds loops) ≡ some l → Given element next kinds loops l
 unfolding rule bounded
 given element next kinds loops l e =
-    let a = went-on (kinds-after element kinds) (λ left. onward (loops-after element next left loops) (bounded left)) l e in
+    let a = went-on (kinds-after element kinds) (λ left. and-then (loops-after element next left loops) (bounded left)) l e in
     let b = went-on (loops-after element next (a .0) loops) (bounded (a .0)) l (a .2) in
     let c = passed (leb (length (a .0)) 1000 && leb (length (b .0)) 2) (some (label (a .0) (b .0))) l (b .2) in
     record {

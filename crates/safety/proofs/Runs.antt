@@ -19,7 +19,7 @@ use Rattle.laws.proofs.Finished.{finished}
 use Rattle.laws.specs.Finished.{Reaches, here, onto, Ends, is-done, is-paused, is-refused}
 use Rattle.labels.specs.declared.Kind.{Kind}
 use Rattle.labels.specs.declared.Kind.the-variants.{Number}
-use Rattle.labels.specs.Labels.{Open, Label, label, kinds-of, loops-of, Start, zeroth, follow, Labelling, Labelled}
+use Rattle.labels.specs.Labels.{Open, Label, label, kinds-of, open-loops, Start, zeroth, follow, Labelling, Labelled}
 use Rattle.labels.proofs.Ways.{fits}
 use Rattle.safety.specs.Kinds.{HasKind, Listed}
 use Rattle.safety.proofs.Kinded.{Kinded, nil, more, lengths}
@@ -108,7 +108,7 @@ module _ (program : List ℕ) (kinds : List Kind) (labelled : Labelled program k
       let e : place w ≡ length program = omega (arith, start-within (at .start)) in
       let l : labels (length program) ≡ label found opens = subst (λ (i : ℕ). labels i ≡ label found opens) e (at .label-is) in
       let same : found ≡ kinds = sym (ap kinds-of l) ∙ labelled .at-end in
-      record { closed = no-loops looping (sym (ap loops-of l) ∙ lab .closed); kinded = subst (Kinded (w .stack) (w .machine .height)) same kinded }
+      record { closed = no-loops looping (sym (ap open-loops l) ∙ lab .closed); kinded = subst (Kinded (w .stack) (w .machine .height)) same kinded }
   end-holds w over (middle there e half high few top fielded kinded at looping) = absurd (omega arith)
 
   pub end-good : (w : World) → Stands program labels w → at-end w ≡ true → AtEnd w

@@ -11,7 +11,7 @@ use Rattle.errors.specs.declared.Refusal.{Refusal}
 use Rattle.values.specs.Values.{to-vec-val, to-u32, raw-tag, is-vec, fat-pointer, to-fat-pointer}
 use Rattle.values.specs.declared.FatPointer.{FatPointer}
 use Rattle.values.specs.declared.ValueResult.{ValueResult}
-use Rattle.memory.specs.Allocation.{offset-aligned, is-element-tag, vector, stored, alloc}
+use Rattle.memory.specs.Allocation.{offset-aligned, is-element-tag, vector, vector-stored, alloc}
 use Rattle.memory.specs.Allocation as allocation
 use Rattle.memory.specs.declared.AllocResult.{AllocResult}
 use Rattle.memory.specs.declared.AllocResult.the-variants.{Allocated, NotAllocated}
@@ -50,10 +50,10 @@ data Allocates (kind : Kind) : AllocResult → Type 0 where
   allocated : {value used : ℕ} → HasKind kind value → Allocates kind (Allocated value used)
   not-allocated : {refusal : Refusal} → May refusal → Allocates kind (NotAllocated refusal)
 
-stored-good : {kind : Kind} {result : ValueResult} (memory payload : List ℕ) (used size offset : ℕ) → Result kind result → Allocates kind (stored memory payload used size offset result .answer)
-unfolding stored
+stored-good : {kind : Kind} {result : ValueResult} (memory payload : List ℕ) (used size offset : ℕ) → Result kind result → Allocates kind (vector-stored memory payload used size offset result .answer)
+unfolding vector-stored
 stored-good {kind} memory payload used size offset (is-value has) =
-    either (λ (a : allocation.After). Allocates kind (a .answer)) (leb (offset + size) (length memory)) _ _ (allocated has) (not-allocated refl)
+    either (λ (a : allocation.AfterAllocation). Allocates kind (a .answer)) (leb (offset + size) (length memory)) _ _ (allocated has) (not-allocated refl)
 stored-good memory payload used size offset (is-refused may) = not-allocated may
 
 alloc-good : {tag : ℕ} {kind : Kind} (memory payload : List ℕ) (used size : ℕ) → TagKind tag kind → Allocates kind (alloc memory payload used size tag .answer)
@@ -69,8 +69,8 @@ data ChangesTo : ChangeResult → Type 0 where
 sized-change : (memory : List ℕ) (pointer : FatPointer) (index payload width : ℕ) → ChangesTo (changed memory pointer index payload (Size width) .answer)
 unfolding changed
 sized-change memory pointer index payload width =
-    either (λ (a : change.After). ChangesTo (a .answer)) (leb (pointer .size / width) index) _ _ (not-changed refl)
-    (either (λ (a : change.After). ChangesTo (a .answer)) (inside memory pointer) _ _ is-changed (not-changed refl))
+    either (λ (a : change.AfterChange). ChangesTo (a .answer)) (leb (pointer .size / width) index) _ _ (not-changed refl)
+    (either (λ (a : change.AfterChange). ChangesTo (a .answer)) (inside memory pointer) _ _ is-changed (not-changed refl))
 
 change-good : (memory : List ℕ) (pointer : FatPointer) (index payload tag : ℕ) {kind : Kind} → TagKind tag kind → ChangesTo (mut-vec memory pointer index payload tag .answer)
 unfolding mut-vec element-size-bytes

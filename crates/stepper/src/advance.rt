@@ -1,6 +1,6 @@
 // The run of the current code, up to an instruction that needs a task, a frame or the pool.
 ghost use mathlib.Core.Path.{_≡_};
-ghost use Rattle.mechanism.specs.Advance.{halted-at, gone-on, advance};
+ghost use Rattle.mechanism.specs.Advance.{halted-at, progress-on, advance};
 use crate::steps;
 use machine::Machine;
 use machine::Outcome;
@@ -56,7 +56,7 @@ pub fn advance(
     machine: Machine,
     fuel: u64,
 ) -> Progress
-    ensures { λ r. ⌜ gone-on r (now (stack .exit)) (now (memory .exit)) (now (pool .exit)) (now (ends .exit)) ≡ advance (now (stack .entry)) (now (memory .entry)) (now (pool .entry)) (now (ends .entry)) machine fuel ⌝ }
+    ensures { λ r. ⌜ progress-on r (now (stack .exit)) (now (memory .exit)) (now (pool .exit)) (now (ends .exit)) ≡ advance (now (stack .entry)) (now (memory .entry)) (now (pool .entry)) (now (ends .entry)) machine fuel ⌝ }
 {
     let code = code_of(pool, ends, machine);
     let stepped = steps(

@@ -9,8 +9,8 @@ use lib.ListN.{length, replicate}
 use borrow.Author.Tests.{eqb-true, eqb-false, ltb-false}
 use Rattle.storage.specs.declared.TaskId.{TaskId}
 use Rattle.errors.specs.declared.Refusal.the-variants.{EmptyInstructions, PoolFull, WrongPhaseOrUnsound, ProgramTooLong}
-use Rattle.image.specs.Image.{Image, Read, sound, bad-at, task-count, read-image}
-use Rattle.image.specs.Reading.{s-len, instruction-bytes, tested}
+use Rattle.image.specs.Image.{Image, Parsed, sound, bad-at, task-count, read-image}
+use Rattle.image.specs.Reading.{s-len-of, instruction-bytes, image-result}
 use Rattle.image.specs.Table.{load-table}
 use Rattle.image.specs.declared.ImageResult.the-variants.{Sound, NotSound}
 use Rattle.image.specs.declared.ImageResult.{ImageResult}
@@ -32,15 +32,15 @@ pub record Tested (bytes : List ℕ) (next-id count len instructions : ℕ) : Ty
   pub read : read-image bytes ≡ sound image
   pub next-id-is : image .next-id ≡ next-id
   pub count-is : length (image .tasks) ≡ count
-  pub s-len-is : s-len (image .tasks) ≡ len
+  pub s-len-is : s-len-of (image .tasks) ≡ len
   pub bytes-are : instruction-bytes (image .tasks) ≡ instructions
 
 -- the answer `Sound` tells of such an image
-pub tested-sound : (bytes : List ℕ) (next-id count len instructions : ℕ) → Sound (record { 0 = next-id }) count len instructions ≡ tested (read-image bytes) → Tested bytes next-id count len instructions
-unfolding tested
+pub tested-sound : (bytes : List ℕ) (next-id count len instructions : ℕ) → Sound (record { 0 = next-id }) count len instructions ≡ image-result (read-image bytes) → Tested bytes next-id count len instructions
+unfolding image-result
 tested-sound bytes next-id count len instructions e = by (read-image bytes) refl e
   where
-    by : (r : Read Image) → read-image bytes ≡ r → Sound (record { 0 = next-id }) count len instructions ≡ tested r → Tested bytes next-id count len instructions
+    by : (r : Parsed Image) → read-image bytes ≡ r → Sound (record { 0 = next-id }) count len instructions ≡ image-result r → Tested bytes next-id count len instructions
     by (sound image) q j = record { image = image; read = q; next-id-is = (let z : _≡_ {A = TaskId} (record { 0 = next-id }) (record { 0 = image .next-id }) = cc in ap (λ (i : TaskId). i .0) (sym z)); count-is = cc; s-len-is = cc; bytes-are = cc }
     by (bad-at place) q j = absurd (let z : _≡_ {A = ℕ} 0 1 = cc in omega arith)
 
@@ -82,8 +82,8 @@ pub record Fits (slots lent size : ℕ) (bytes : List ℕ) (next-id count len : 
 pub fits : (slots lent size : ℕ) (bytes : List ℕ) (next-id count len : ℕ) → creation-tests slots lent size bytes ≡ Fit (record { 0 = next-id }) count len → Fits slots lent size bytes next-id count len
 unfolding creation-tests
 fits slots lent size bytes next-id count len e =
-    let t = tests-taken (eqb slots 256) (eqb size 0) (ltb 65535 size) (image-tests lent size (tested (read-image bytes))) next-id count len e in
-    let k = image-taken lent size (tested (read-image bytes)) next-id count len (t .3) in
+    let t = tests-taken (eqb slots 256) (eqb size 0) (ltb 65535 size) (image-tests lent size (image-result (read-image bytes))) next-id count len e in
+    let k = image-taken lent size (image-result (read-image bytes)) next-id count len (t .3) in
     let n = eqb-false size 0 (t .1) in
     record {
       table = eqb-true slots 256 (t .0);

@@ -7,8 +7,8 @@ use lib.ListN.{length, drop, replicate, length-drop}
 use lib.Seq.{drop-drop}
 use Rattle.image.proofs.Readings.{not-bad, read-none, Goes, at-end, goes-on, goes, loaded}
 use Rattle.image.proofs.Rules.{Rules}
-use Rattle.image.specs.Image.{ImageTask, Image, sound, body-length, task-count, id-in, title-length, task-at, read-from, read-image}
-use Rattle.image.specs.Numbers.{number-at}
+use Rattle.image.specs.Image.{ImageTask, Image, sound, body-length, task-count, id-in, title-length-in, task-at, read-from, read-image}
+use Rattle.slices.specs.Numbers.{number-at}
 use Rattle.image.specs.Walking.{on, read-record}
 use Rattle.image.specs.Slots.{loaded-task}
 use Rattle.image.specs.Table.{Loading, cleared, next-reference, load-slot, load-tasks, load-read, load-table}
@@ -32,7 +32,7 @@ module _ (image : List ℕ) (place : ℕ) (reference : InstructionsRef) {next-id
   unfolding read-record on
   end-is = omega (arith, r .uncut, length-drop place image)
 
-  start-is : read-record image place reference .start ≡ place + (14 + title-length (drop place image))
+  start-is : read-record image place reference .start ≡ place + (14 + title-length-in (drop place image))
   unfolding read-record on
   start-is = omega (arith, r .uncut, r .inside, length-drop place image)
 
@@ -43,7 +43,7 @@ module _ (image : List ℕ) (place : ℕ) (reference : InstructionsRef) {next-id
   instructions-read : instructions-of image (read-record image place reference) ≡ task-at (drop place image) .instructions
   unfolding task-at
   instructions-read =
-      let n : place + (6 + body-length (drop place image)) - (place + (14 + title-length (drop place image))) ≡ body-length (drop place image) - 8 - title-length (drop place image) = omega (arith, r .inside) in
+      let n : place + (6 + body-length (drop place image)) - (place + (14 + title-length-in (drop place image))) ≡ body-length (drop place image) - 8 - title-length-in (drop place image) = omega (arith, r .inside) in
       rw (end-is, start-is, n, ← drop-drop, ← drop-drop)
 
 records-more : (n : ℕ) (image : List ℕ) (place : ℕ) (l : Loading) → load-records (suc n) image place l ≡ load-records n image (read-record image place (next-reference (l .entries)) .end) (load-slot (read-record image place (next-reference (l .entries)) .task) (instructions-of image (read-record image place (next-reference (l .entries)))) l)

@@ -13,8 +13,8 @@ use borrow.Author.Tests.{le-leb, lt-leb, leb-true, leb-false}
 use Rattle.errors.specs.declared.Refusal.{Refusal}
 use Rattle.errors.specs.declared.Refusal.the-variants.{BytesToStringConversionError, SaveBufferTooShort}
 use Rattle.image.proofs.Puts.{puts-puts}
-use Rattle.image.specs.Image.{ImageTask, Image, framed, body, header, records, written}
-use Rattle.image.specs.Numbers.{little-endian}
+use Rattle.image.specs.Image.{ImageTask, Image, record-of, body, header, records, written}
+use Rattle.slices.specs.Numbers.{little-endian}
 use Rattle.image.specs.Walking.{on}
 use Rattle.image.specs.Slots.{saved-task, title-in, task-in}
 use Rattle.image.specs.Table.{living-tasks, refusal-by, task-refusal, or-else, first-refusal, image-of-tasks, SavedTable, saved-table, saved-over, saved-unless, save-tasks, save-table}
@@ -44,7 +44,7 @@ size-unless none size = Size size
 size-unless (some refusal) size = NoSize refusal
 
 -- a task is measured as it is refused, and its record has the size
-measure-is : (pool ends : List ℕ) (entries : ℕ) (slot : Task) → measure pool ends entries slot ≡ size-unless (task-refusal ends entries slot) (length (framed 2 (body (task-in pool ends slot))))
+measure-is : (pool ends : List ℕ) (entries : ℕ) (slot : Task) → measure pool ends entries slot ≡ size-unless (task-refusal ends entries slot) (length (record-of 2 (body (task-in pool ends slot))))
 unfolding measure sized size-of task-refusal refusal-by task-in saved-task
 measure-is pool ends entries slot = by (bounds ends entries (slot .«instructions_ref»))
   where
@@ -52,9 +52,9 @@ measure-is pool ends entries slot = by (bounds ends entries (slot .«instruction
     text true size = refl
     text false size = refl
 
-    by : (found : BoundsResult) → sized (task-in pool ends slot) found ≡ size-unless (refusal-by (title-in slot) found) (length (framed 2 (body (task-in pool ends slot))))
+    by : (found : BoundsResult) → sized (task-in pool ends slot) found ≡ size-unless (refusal-by (title-in slot) found) (length (record-of 2 (body (task-in pool ends slot))))
     by (NoBounds refusal) = refl
-    by (Bounds start end) = text (valid (title-in slot)) (length (framed 2 (body (task-in pool ends slot))))
+    by (Bounds start end) = text (valid (title-in slot)) (length (record-of 2 (body (task-in pool ends slot))))
 
 -- the tasks of the image
 abbrev tasks-of : List ℕ → List ℕ → List Task → List ImageTask
@@ -71,9 +71,9 @@ living-less slot table dead = rw dead
 
 -- the length of the records, with one more task before the others
 records-more : (pool ends : List ℕ) (task : Task) (tasks : List Task)
-    → length (records (map (task-in pool ends) (task ∷ tasks))) ≡ length (framed 2 (body (task-in pool ends task))) + length (records (map (task-in pool ends) tasks))
+    → length (records (map (task-in pool ends) (task ∷ tasks))) ≡ length (record-of 2 (body (task-in pool ends task))) + length (records (map (task-in pool ends) tasks))
 unfolding records
-records-more pool ends task tasks = length-append (framed 2 (body (task-in pool ends task))) (records (map (task-in pool ends) tasks))
+records-more pool ends task tasks = length-append (record-of 2 (body (task-in pool ends task))) (records (map (task-in pool ends) tasks))
 
 -- ---- measuring
 
@@ -117,7 +117,7 @@ module _ (pool ends : List ℕ) (entries limit : ℕ) where
   none-told count size = tells-size {size = size} {number = count} (omega arith) (ap (λ (n : ℕ). min n limit) (omega arith))
 
   -- a living slot is measured and counted
-  pub slot-measured : (slot : Task) (size : ℕ) → slot .living ≡ true → measure-slot pool ends entries limit slot size ≡ added limit size (size-unless (task-refusal ends entries slot) (length (framed 2 (body (task-in pool ends slot)))))
+  pub slot-measured : (slot : Task) (size : ℕ) → slot .living ≡ true → measure-slot pool ends entries limit slot size ≡ added limit size (size-unless (task-refusal ends entries slot) (length (record-of 2 (body (task-in pool ends slot)))))
   unfolding measure-slot
   slot-measured slot size e = taken _ _ (slot .living) e ∙ ap (added limit size) (measure-is pool ends entries slot)
 
@@ -138,7 +138,7 @@ module _ (pool ends : List ℕ) (entries limit : ℕ) where
   living-told slot table count size none r e others =
       let l = records-more pool ends slot (living-tasks table) in
       rw (living-more slot table e, measures-first slot table count size, slot-measured slot size e, slot-counted slot count e, r)
-      (tells-same (omega arith) (omega arith) (others (count + 1) (min (size + length (framed 2 (body (task-in pool ends slot)))) limit)))
+      (tells-same (omega arith) (omega arith) (others (count + 1) (min (size + length (record-of 2 (body (task-in pool ends slot)))) limit)))
 
   -- all slots
   tells-all : (table : List Task) (count size : ℕ) → Told table count size
@@ -183,7 +183,7 @@ module _ (pool ends : List ℕ) where
   unfolding save-slot
   dead-written slot table e others place save inside = rw (living-less slot table e, saves-first slot table place save, e) (others place save inside)
 
-  slot-written : (slot : Task) (place : ℕ) (save : List ℕ) → slot .living ≡ true → save-slot pool ends slot place save ≡ puts save place (framed 2 (body (task-in pool ends slot)))
+  slot-written : (slot : Task) (place : ℕ) (save : List ℕ) → slot .living ≡ true → save-slot pool ends slot place save ≡ puts save place (record-of 2 (body (task-in pool ends slot)))
   unfolding save-slot
   slot-written slot place save e = taken _ _ (slot .living) e
 
@@ -191,8 +191,8 @@ module _ (pool ends : List ℕ) where
   unfolding records
   living-written slot table e others place save inside =
       rw (living-more slot table e, saves-first slot table place save, slot-written slot place save e)
-      (others (puts save place (framed 2 (body (task-in pool ends slot))) .place) (puts save place (framed 2 (body (task-in pool ends slot))) .save) (put-inside place save (framed 2 (body (task-in pool ends slot))))
-      ∙ puts-puts save place (framed 2 (body (task-in pool ends slot))) (records (tasks-of pool ends table)))
+      (others (puts save place (record-of 2 (body (task-in pool ends slot))) .place) (puts save place (record-of 2 (body (task-in pool ends slot))) .save) (put-inside place save (record-of 2 (body (task-in pool ends slot))))
+      ∙ puts-puts save place (record-of 2 (body (task-in pool ends slot))) (records (tasks-of pool ends table)))
 
   -- one record after another
   saves-all : (table : List Task) → Written table
@@ -204,7 +204,7 @@ module _ (pool ends : List ℕ) where
       by false e others = dead-written slot table e others
 
 pub header-length : (next-id count : ℕ) → length (header next-id count) ≡ 14
-unfolding header framed little-endian
+unfolding header record-of little-endian
 header-length next-id count = refl
 
 pub written-length : (image : Image) → length (written image) ≡ 14 + length (records (image .tasks))

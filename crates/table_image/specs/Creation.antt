@@ -8,7 +8,7 @@ use Rattle.pools.specs.Pool.{has-room}
 use Rattle.image.specs.declared.ImageResult.{ImageResult}
 use Rattle.image.specs.declared.ImageResult.the-variants.{Sound, NotSound}
 use Rattle.image.specs.Image.{read-image}
-use Rattle.image.specs.Reading.{tested}
+use Rattle.image.specs.Reading.{image-result}
 use Rattle.table_image.specs.declared.creation.CreationResult.{CreationResult}
 use Rattle.table_image.specs.declared.creation.CreationResult.the-variants.{Fit, Unfit}
 
@@ -24,5 +24,5 @@ creation-tests slots lent size image =
     cond (eqb slots 256)
     (cond (eqb size 0) (Unfit EmptyInstructions)
     (cond (ltb 65535 size) (Unfit ProgramTooLong)
-    (image-tests lent size (tested (read-image image)))))
+    (image-tests lent size (image-result (read-image image)))))
     (Unfit WrongPhaseOrUnsound)

@@ -9,7 +9,7 @@ use lib.ListN.{length, drop, getD, drop-of-length-le}
 use lib.Seq.{drop-cons, drop-drop, getD-drop}
 use borrow.Author.Tests.{ne-eqb}
 use Rattle.text.specs.declared.Piece.{Piece}
-use Rattle.text.specs.Numbers.{decimal, spaced, words, shown, numbers-left, filled}
+use Rattle.text.specs.Numbers.{decimal, spaced, words, filled-in, numbers-left, filled}
 use Rattle.text.specs.Pieces.{pieces, width, Holds, Front}
 
 -- the first of what is left
@@ -57,14 +57,14 @@ module _ (bytes numbers : List ℕ) (place used : ℕ) where
 
   marked-splits : (after : ℕ) → drop after numbers ≡ drop (used + 1) numbers → getD bytes place 0 ≡ 35 → place + 1 ≤ length bytes
       → pieces false (drop place bytes) (drop used numbers) ≡ decimal (getD numbers used 0) ++ pieces false (drop (place + 1) bytes) (drop after numbers)
-  unfolding pieces filled shown numbers-left
+  unfolding pieces filled filled-in numbers-left
   marked-splits after behind marked inside =
       let here : used + 0 ≡ used = omega arith in
       rw (first bytes place (omega arith), marked, behind, getD-drop used numbers 0 0, drop-drop 1 used numbers, here)
 
   byte-splits : (getD bytes place 0 ≡ 35 → ⊥) → place + 1 ≤ length bytes
       → pieces false (drop place bytes) (drop used numbers) ≡ (getD bytes place 0 ∷ []) ++ pieces false (drop (place + 1) bytes) (drop used numbers)
-  unfolding pieces filled shown numbers-left
+  unfolding pieces filled filled-in numbers-left
   byte-splits plain inside = rw (first bytes place (omega arith), ne-eqb (getD bytes place 0) 35 plain)
 
 module _ (is-spaced : Bool) (bytes numbers : List ℕ) (place used : ℕ) {piece : Piece} where

@@ -38,8 +38,8 @@ words (a ∷ b ∷ c ∷ []) = []
 words (a ∷ b ∷ c ∷ d ∷ more) = (a + 256 * b + 65536 * c + 16777216 * d) ∷ words more
 
 -- a byte of a template: `#` stands for the next number, any other for itself
-unfoldable pub shown : ℕ → List ℕ → List ℕ
-shown byte numbers = cond (eqb byte 35) (decimal (getD numbers 0 0)) (byte ∷ [])
+unfoldable pub filled-in : ℕ → List ℕ → List ℕ
+filled-in byte numbers = cond (eqb byte 35) (decimal (getD numbers 0 0)) (byte ∷ [])
 
 -- the numbers that are left behind a byte of a template
 unfoldable pub numbers-left : ℕ → List ℕ → List ℕ
@@ -48,4 +48,4 @@ numbers-left byte numbers = cond (eqb byte 35) (drop 1 numbers) numbers
 -- a template with its numbers
 unfoldable pub filled : List ℕ → List ℕ → List ℕ
 filled [] numbers = []
-filled (byte ∷ more) numbers = shown byte numbers ++ filled more (numbers-left byte numbers)
+filled (byte ∷ more) numbers = filled-in byte numbers ++ filled more (numbers-left byte numbers)

@@ -11,7 +11,7 @@ use lib.Seq.{drop-cons}
 use lib.Dec.{eqb}
 use Rattle.utf8.specs.Grammar.{Range, %x, UTF8-char, In}
 use Rattle.utf8.specs.Utf8.{from, valid}
-use Rattle.utf8.specs.Steps.{due, after}
+use Rattle.utf8.specs.Steps.{due, valid-after}
 use Rattle.utf8.specs.declared.Step.{Step}
 use Rattle.utf8.specs.declared.Step.the-variants.{Bad, Due}
 use Rattle.utf8.proofs.Lead.{in-holds, out-fails, Begins, rest-of, takes}
@@ -30,23 +30,23 @@ ascii (b ∷ s) all = ascii s (λ k h. all (suc k) (omega arith)) ∙ opens 0 b 
 -- an octet that is due leaves one less
 pub due-in :
     (more low high b : ℕ) (s : List ℕ) → 0 < more → In (%x low high) b →
-    after (Due (more - 1) 0x80 0xBF) s ≡ from (b ∷ s) (due more low high)
-unfolding after from due
+    valid-after (Due (more - 1) 0x80 0xBF) s ≡ from (b ∷ s) (due more low high)
+unfolding valid-after from due
 due-in zero low high b s h p = absurd (omega arith)
 due-in (suc n) low high b s h p = let less : suc n - 1 ≡ n = omega arith in rw (in-holds p, less)
 
 -- an octet that is not due ends the test
 pub due-out :
     (more low high b : ℕ) (s : List ℕ) → 0 < more → (In (%x low high) b → ⊥) →
-    after Bad s ≡ from (b ∷ s) (due more low high)
-unfolding after from due
+    valid-after Bad s ≡ from (b ∷ s) (due more low high)
+unfolding valid-after from due
 due-out zero low high b s h out = absurd (omega arith)
 due-out (suc n) low high b s h out = rw (out-fails (%x low high) b out)
 
 -- a turn of the loop keeps its invariant
 pub turn :
     (s : List ℕ) (i : ℕ) (ranges : List Range) (r step : Step) → i < length s → from (drop i s) ranges ≡ valid s →
-    ((t : List ℕ) → after r t ≡ from (getD s i 0 ∷ t) ranges) → r ≡ step → after step (drop (i + 1) s) ≡ valid s
+    ((t : List ℕ) → valid-after r t ≡ from (getD s i 0 ∷ t) ranges) → r ≡ step → valid-after step (drop (i + 1) s) ≡ valid s
 turn s i ranges r step h inv made is =
     let peel : drop i s ≡ getD s i 0 ∷ drop (i + 1) s = rw (drop-cons s i 0, add-one) in
     cc (made (drop (i + 1) s))

@@ -13,6 +13,6 @@ due zero low high = []
 due (suc more) low high = %x low high ∷ due more (UTF8-tail .low) (UTF8-tail .high)
 
 -- the octets are those due after the step, and then characters
-unfoldable pub after : Step → List ℕ → Bool
-after Bad s = false
-after (Due more low high) s = from s (due more low high)
+unfoldable pub valid-after : Step → List ℕ → Bool
+valid-after Bad s = false
+valid-after (Due more low high) s = from s (due more low high)

@@ -4,7 +4,7 @@ ghost use mathlib.Core.List.{List, [], _∷_};
 ghost use Prim.Native.Nat.{ℕ, _<_, _≤_};
 ghost use lib.ListN.{length, getD};
 ghost use Rattle.utf8.specs.Utf8.{from, valid};
-ghost use Rattle.utf8.specs.Steps.{due, after};
+ghost use Rattle.utf8.specs.Steps.{due, valid-after};
 
 // What may follow: nothing, or `Due(more, low, high)`: `more` octets, the first from `low` to `high`, the others tails.
 enum Step {
@@ -14,7 +14,7 @@ enum Step {
 
 // What may follow a first octet, by the alternatives of UTF8-char.
 fn lead_of(b: u8) -> Step
-    ensures { λ r. ⌜ ((s : List ℕ) → after r s ≡ from (b ∷ s) []) ⌝ }
+    ensures { λ r. ⌜ ((s : List ℕ) → valid-after r s ≡ from (b ∷ s) []) ⌝ }
 {
     match b {
         0x00..=0x7F => Step::Due(0, 0x80, 0xBF),
@@ -32,7 +32,7 @@ fn lead_of(b: u8) -> Step
 
 // What may follow one octet more.
 fn step_of(more: u8, low: u8, high: u8, b: u8) -> Step
-    ensures { λ r. ⌜ ((s : List ℕ) → after r s ≡ from (b ∷ s) (due more low high)) ⌝ }
+    ensures { λ r. ⌜ ((s : List ℕ) → valid-after r s ≡ from (b ∷ s) (due more low high)) ⌝ }
 {
     if more == 0 {
         return lead_of(b);

@@ -1,7 +1,7 @@
 // Whether a machine is sound with what is lent to it, 26: the table, the lengths, the frames and the pool's entries.
 ghost use mathlib.Core.Path.{_≡_};
 ghost use lib.ListN.{length};
-ghost use Rattle.machine.specs.Sound.{beside, names, sound-frames, sound-lengths, sound-record, tested, sound-world};
+ghost use Rattle.machine.specs.Sound.{record-tested, names, sound-frames, sound-lengths, sound-record, tested, sound-world};
 use inlinevec::Frame;
 use inlinevec::Frames;
 use machine::Machine;
@@ -61,7 +61,7 @@ fn sound_record(
     machine: Machine,
     table_sound: bool,
 ) -> bool
-    ensures { λ r. ⌜ beside r (now (memory .exit)) (now (pool .exit)) (now (ends .exit)) (now (save .exit)) ≡ beside (sound-record (length (now (memory .entry))) (length (now (pool .entry))) (now (ends .entry)) (length (now (save .entry))) machine «table_sound») (now (memory .entry)) (now (pool .entry)) (now (ends .entry)) (now (save .entry)) ⌝ }
+    ensures { λ r. ⌜ record-tested r (now (memory .exit)) (now (pool .exit)) (now (ends .exit)) (now (save .exit)) ≡ record-tested (sound-record (length (now (memory .entry))) (length (now (pool .entry))) (now (ends .entry)) (length (now (save .entry))) machine «table_sound») (now (memory .entry)) (now (pool .entry)) (now (ends .entry)) (now (save .entry)) ⌝ }
 {
     if table_sound {
         if sound_lengths(memory.len(), pool.len(), save.len(), machine) {

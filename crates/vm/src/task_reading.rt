@@ -1,7 +1,7 @@
 // The read of a task by the host.
 ghost use mathlib.Core.Path.{_≡_};
 ghost use Rattle.image.specs.Writing.{stepped};
-ghost use Rattle.machine.specs.Reads.{task-result, task-at, read-to, task-read};
+ghost use Rattle.machine.specs.Reads.{task-result, task-answer, read-to, task-read};
 ghost use Rattle.machine.specs.World.{world};
 use crate::sound::sound;
 use errors::Refusal;
@@ -48,7 +48,7 @@ fn task_at(
     id: TaskId,
     task: Task,
 ) -> TaskRead
-    ensures { λ r. ⌜ stepped r (now (pool .exit)) (now (ends .exit)) ≡ stepped (task-at (now (ends .entry)) machine sound id task) (now (pool .entry)) (now (ends .entry)) ⌝ }
+    ensures { λ r. ⌜ stepped r (now (pool .exit)) (now (ends .exit)) ≡ stepped (task-answer (now (ends .entry)) machine sound id task) (now (pool .entry)) (now (ends .entry)) ⌝ }
 {
     TaskRead {
         result: task_result(pool, ends, machine, sound, id, task),

@@ -1,7 +1,7 @@
 // The read of a value by the host.
 ghost use mathlib.Core.Path.{_≡_};
 ghost use lib.ListN.{getD};
-ghost use Rattle.machine.specs.Reads.{is-done, readable, beside, value-at, read-to, value-read};
+ghost use Rattle.machine.specs.Reads.{is-done, readable, value-on, value-at, read-to, value-read};
 ghost use Rattle.machine.specs.World.{world};
 use crate::sound::sound;
 use errors::Refusal;
@@ -55,7 +55,7 @@ fn value_at(
     sound: bool,
     position: usize,
 ) -> Return
-    ensures { λ r. ⌜ beside r (now (stack .exit)) (now (memory .exit)) (now (ends .exit)) ≡ beside (value-at (now (stack .entry)) (now (memory .entry)) (now (ends .entry)) machine sound position) (now (stack .entry)) (now (memory .entry)) (now (ends .entry)) ⌝ }
+    ensures { λ r. ⌜ value-on r (now (stack .exit)) (now (memory .exit)) (now (ends .exit)) ≡ value-on (value-at (now (stack .entry)) (now (memory .entry)) (now (ends .entry)) machine sound position) (now (stack .entry)) (now (memory .entry)) (now (ends .entry)) ⌝ }
 {
     if readable(machine, sound, position) {
         let word = word_at(stack, position);

@@ -50,41 +50,41 @@ use Rattle.storage.proofs.Records.{R, table-ty}
 use Rattle.machine.specs.declared.Machine.{Machine}
 use Rattle.mechanism.specs.declared.Progress.{Progress}
 use Rattle.machine.specs.declared.RunEnd.{RunEnd}
-use Rattle.mechanism.specs.Advance.{gone-on, advance as advance-of}
+use Rattle.mechanism.specs.Advance.{progress-on, advance as advance-of}
 use Rattle.mechanism.specs.Turns.{begun as begun-of, ran as ran-of}
 use Rattle.machine.specs.World.{world}
 use Rattle.machine.specs.Run.{End, ran-to, run as run-of}
 use Rattle.runner.specs.Going.{Going, going, turn as turn-of}
-use Rattle.mechanism.proofs.Values.{machine-shut, machine-vals, gone-shut, gone-vals, ran-shut, ran-vals}
+use Rattle.mechanism.proofs.Values.{machine-shut, machine-vals, progress-shut, progress-vals, ran-shut, ran-vals}
 use Rattle.mechanism.proofs.Fields.{machine-is, left-fits, take-machine, take-left, take-running, is-true, is-false}
 use Rattle.runner.proofs.Runs.{comes-to, turns-left}
 use Rattle.runner.proofs.Turns.{begins-same, goes-at, goes-same, goes-fewer, ends-run}
-use Rattle.runner.proofs.gone.begun.Symbol.{name as #begins}
+use Rattle.runner.proofs.progress.begun.Symbol.{name as #begins}
 use Rattle.stepper.proofs.advance.advance.Symbol.{name as #advance}
 use Rattle.runner.proofs.turn.Symbol.{name as #turn}
-use Rattle.runner.proofs.gone.ran.Symbol.{name as #ends}
+use Rattle.runner.proofs.progress.ran.Symbol.{name as #ends}
 use Rattle.runner.proofs.run.Key.{name as #this}
 use Rattle.machine.proofs.Machine as machine
-use Rattle.mechanism.proofs.Progress as gone
+use Rattle.mechanism.proofs.Progress as progress
 use Rattle.machine.proofs.RunEnd as ran
-use Rattle.runner.proofs.gone.begun as begins
-use Rattle.runner.proofs.gone.begun.Symbol as begins-def
-use Rattle.runner.proofs.gone.begun.Met as begins-thm
+use Rattle.runner.proofs.progress.begun as begins
+use Rattle.runner.proofs.progress.begun.Symbol as begins-def
+use Rattle.runner.proofs.progress.begun.Met as begins-thm
 use Rattle.stepper.proofs.advance.advance as advance
 use Rattle.stepper.proofs.advance.advance.Symbol as advance-def
 use Rattle.stepper.proofs.advance.advance.Met as advance-thm
 use Rattle.runner.proofs.turn as turn
 use Rattle.runner.proofs.turn.Symbol as turn-def
 use Rattle.runner.proofs.turn.Met as turn-thm
-use Rattle.runner.proofs.gone.ran as ends
-use Rattle.runner.proofs.gone.ran.Symbol as ends-def
-use Rattle.runner.proofs.gone.ran.Met as ends-thm
+use Rattle.runner.proofs.progress.ran as ends
+use Rattle.runner.proofs.progress.ran.Symbol as ends-def
+use Rattle.runner.proofs.progress.ran.Met as ends-thm
 use Rattle.runner.proofs.run as f
 use Rattle.runner.proofs.run.Statement as stated
 use Rattle.runner.proofs.run.Code as code
 use Rattle.runner.proofs.run.Code.Mir as mir
 open Shut machine-shut using (val as machine-val, ty as machine-ty, tells as machine-tells, makes as machine-makes, typed as machine-typed)
-open Shut gone-shut using (val as gone-val, ty as gone-ty, tells as gone-tells, makes as gone-makes, typed as gone-typed)
+open Shut progress-shut using (val as progress-val, ty as progress-ty, tells as progress-tells, makes as progress-makes, typed as progress-typed)
 open Shut ran-shut using (val as ran-val, ty as ran-ty, tells as ran-tells, makes as ran-makes, typed as ran-typed)
 
 abbrev stayed : Stays (f.ended .signature .params) (f.ended .kept)
@@ -113,7 +113,7 @@ record State (n₀ n₂ n₃ n₅ : ℕ) (y : End) : Type 0 where
   po : List ℕ
   en : List ℕ
   sv : List ℕ
-  g-is : Is gone.the-row g (gone-vals g)
+  g-is : Is progress.the-row g (progress-vals g)
   ts-len : length ts ≡ n₀
   me-len : length me ≡ n₂
   po-len : length po ≡ n₃
@@ -192,11 +192,11 @@ module _ {M : Type 1} (𝓤 : URA M) (H : Heap 𝓤) (A : Atoms 𝓤) (W : Given
       Λ = 𝓣 .Λ
 
       abbrev En : Env 𝓤 H
-      En = (ran-ty, l₀) ∷ (sliceTy (tyRef (named 0) mut table-ty), l₁) ∷ (tyRef (named 1) mut (tyArray (tyInt w64) 1000), l₂) ∷ (sliceTy (tyRef (named 2) mut (tyInt w8)), l₃) ∷ (sliceTy (tyRef (named 3) mut (tyInt w8)), l₄) ∷ (tyRef (named 4) mut (tyArray (tyInt w32) 1024), l₅) ∷ (sliceTy (tyRef (named 5) mut (tyInt w8)), l₆) ∷ (machine-ty, l₇) ∷ (tyInt w64, l₈) ∷ (gone-ty, l₉) ∷ (gone-ty, l₁₀) ∷ (tyBool, l₁₁) ∷ (tyRef erased mut (tyArray (tyInt w64) 1000), l₁₂) ∷ (tyRef erased mut (tyInt w8), l₁₃) ∷ (sliceTy (tyRef erased mut (tyInt w8)), l₁₄) ∷ (tyRef erased mut (tyInt w8), l₁₅) ∷ (sliceTy (tyRef erased mut (tyInt w8)), l₁₆) ∷ (tyRef erased mut (tyArray (tyInt w32) 1024), l₁₇) ∷ (tyRef erased mut table-ty, l₁₈) ∷ (sliceTy (tyRef erased mut table-ty), l₁₉) ∷ (tyRef erased mut (tyArray (tyInt w64) 1000), l₂₀) ∷ (tyRef erased mut (tyInt w8), l₂₁) ∷ (sliceTy (tyRef erased mut (tyInt w8)), l₂₂) ∷ (tyRef erased mut (tyInt w8), l₂₃) ∷ (sliceTy (tyRef erased mut (tyInt w8)), l₂₄) ∷ (tyRef erased mut (tyArray (tyInt w32) 1024), l₂₅) ∷ (tyRef erased mut (tyInt w8), l₂₆) ∷ (sliceTy (tyRef erased mut (tyInt w8)), l₂₇) ∷ []
+      En = (ran-ty, l₀) ∷ (sliceTy (tyRef (named 0) mut table-ty), l₁) ∷ (tyRef (named 1) mut (tyArray (tyInt w64) 1000), l₂) ∷ (sliceTy (tyRef (named 2) mut (tyInt w8)), l₃) ∷ (sliceTy (tyRef (named 3) mut (tyInt w8)), l₄) ∷ (tyRef (named 4) mut (tyArray (tyInt w32) 1024), l₅) ∷ (sliceTy (tyRef (named 5) mut (tyInt w8)), l₆) ∷ (machine-ty, l₇) ∷ (tyInt w64, l₈) ∷ (progress-ty, l₉) ∷ (progress-ty, l₁₀) ∷ (tyBool, l₁₁) ∷ (tyRef erased mut (tyArray (tyInt w64) 1000), l₁₂) ∷ (tyRef erased mut (tyInt w8), l₁₃) ∷ (sliceTy (tyRef erased mut (tyInt w8)), l₁₄) ∷ (tyRef erased mut (tyInt w8), l₁₅) ∷ (sliceTy (tyRef erased mut (tyInt w8)), l₁₆) ∷ (tyRef erased mut (tyArray (tyInt w32) 1024), l₁₇) ∷ (tyRef erased mut table-ty, l₁₈) ∷ (sliceTy (tyRef erased mut table-ty), l₁₉) ∷ (tyRef erased mut (tyArray (tyInt w64) 1000), l₂₀) ∷ (tyRef erased mut (tyInt w8), l₂₁) ∷ (sliceTy (tyRef erased mut (tyInt w8)), l₂₂) ∷ (tyRef erased mut (tyInt w8), l₂₃) ∷ (sliceTy (tyRef erased mut (tyInt w8)), l₂₄) ∷ (tyRef erased mut (tyArray (tyInt w32) 1024), l₂₅) ∷ (tyRef erased mut (tyInt w8), l₂₆) ∷ (sliceTy (tyRef erased mut (tyInt w8)), l₂₇) ∷ []
 
       -- the locals with a machine on its way
       abbrev With : Progress → List (Item 𝓤)
-      With g = ‵ (froom (sliceTy (tyRef erased mut (tyInt w8))) l₂₇ 0) ∷ ‵ (fdies (sliceTy (tyRef erased mut (tyInt w8))) l₂₇) ∷ ‵ (froom (tyRef erased mut (tyInt w8)) l₂₆ 0) ∷ ‵ (fdies (tyRef erased mut (tyInt w8)) l₂₆) ∷ ‵ (froom (tyRef erased mut (tyArray (tyInt w32) 1024)) l₂₅ 0) ∷ ‵ (fdies (tyRef erased mut (tyArray (tyInt w32) 1024)) l₂₅) ∷ ‵ (froom (sliceTy (tyRef erased mut (tyInt w8))) l₂₄ 0) ∷ ‵ (fdies (sliceTy (tyRef erased mut (tyInt w8))) l₂₄) ∷ ‵ (froom (tyRef erased mut (tyInt w8)) l₂₃ 0) ∷ ‵ (fdies (tyRef erased mut (tyInt w8)) l₂₃) ∷ ‵ (froom (sliceTy (tyRef erased mut (tyInt w8))) l₂₂ 0) ∷ ‵ (fdies (sliceTy (tyRef erased mut (tyInt w8))) l₂₂) ∷ ‵ (froom (tyRef erased mut (tyInt w8)) l₂₁ 0) ∷ ‵ (fdies (tyRef erased mut (tyInt w8)) l₂₁) ∷ ‵ (froom (tyRef erased mut (tyArray (tyInt w64) 1000)) l₂₀ 0) ∷ ‵ (fdies (tyRef erased mut (tyArray (tyInt w64) 1000)) l₂₀) ∷ ‵ (froom (sliceTy (tyRef erased mut table-ty)) l₁₉ 0) ∷ ‵ (fdies (sliceTy (tyRef erased mut table-ty)) l₁₉) ∷ ‵ (froom (tyRef erased mut table-ty) l₁₈ 0) ∷ ‵ (fdies (tyRef erased mut table-ty) l₁₈) ∷ ‵ (froom (tyRef erased mut (tyArray (tyInt w32) 1024)) l₁₇ 0) ∷ ‵ (fdies (tyRef erased mut (tyArray (tyInt w32) 1024)) l₁₇) ∷ ‵ (froom (sliceTy (tyRef erased mut (tyInt w8))) l₁₆ 0) ∷ ‵ (fdies (sliceTy (tyRef erased mut (tyInt w8))) l₁₆) ∷ ‵ (froom (tyRef erased mut (tyInt w8)) l₁₅ 0) ∷ ‵ (fdies (tyRef erased mut (tyInt w8)) l₁₅) ∷ ‵ (froom (sliceTy (tyRef erased mut (tyInt w8))) l₁₄ 0) ∷ ‵ (fdies (sliceTy (tyRef erased mut (tyInt w8))) l₁₄) ∷ ‵ (froom (tyRef erased mut (tyInt w8)) l₁₃ 0) ∷ ‵ (fdies (tyRef erased mut (tyInt w8)) l₁₃) ∷ ‵ (froom (tyRef erased mut (tyArray (tyInt w64) 1000)) l₁₂ 0) ∷ ‵ (fdies (tyRef erased mut (tyArray (tyInt w64) 1000)) l₁₂) ∷ ‵ (froom tyBool l₁₁ 0) ∷ ‵ (fdies tyBool l₁₁) ∷ ‵ (froom gone-ty l₁₀ 0) ∷ ‵ (fdies gone-ty l₁₀) ∷ ‵ (fat fullShare gone-ty l₉ 0 (gone-val g)) ∷ ‵ (fdies gone-ty l₉) ∷ ‵ (fat fullShare (tyInt w64) l₈ 0 (vint w64 fuel)) ∷ ‵ (fdies (tyInt w64) l₈) ∷ ‵ (fat fullShare machine-ty l₇ 0 (machine-val m)) ∷ ‵ (fdies machine-ty l₇) ∷ ‵ (fat fullShare (sliceTy (tyRef (named 5) mut (tyInt w8))) l₆ 0 (sliceVal (b₅, o₅) n₅)) ∷ ‵ (fdies (sliceTy (tyRef (named 5) mut (tyInt w8))) l₆) ∷ ‵ (fat fullShare (tyRef (named 4) mut (tyArray (tyInt w32) 1024)) l₅ 0 (vptr b₄ o₄)) ∷ ‵ (fdies (tyRef (named 4) mut (tyArray (tyInt w32) 1024)) l₅) ∷ ‵ (fat fullShare (sliceTy (tyRef (named 3) mut (tyInt w8))) l₄ 0 (sliceVal (b₃, o₃) n₃)) ∷ ‵ (fdies (sliceTy (tyRef (named 3) mut (tyInt w8))) l₄) ∷ ‵ (fat fullShare (sliceTy (tyRef (named 2) mut (tyInt w8))) l₃ 0 (sliceVal (b₂, o₂) n₂)) ∷ ‵ (fdies (sliceTy (tyRef (named 2) mut (tyInt w8))) l₃) ∷ ‵ (fat fullShare (tyRef (named 1) mut (tyArray (tyInt w64) 1000)) l₂ 0 (vptr b₁ o₁)) ∷ ‵ (fdies (tyRef (named 1) mut (tyArray (tyInt w64) 1000)) l₂) ∷ ‵ (fat fullShare (sliceTy (tyRef (named 0) mut table-ty)) l₁ 0 (sliceVal (b₀, o₀) n₀)) ∷ ‵ (fdies (sliceTy (tyRef (named 0) mut table-ty)) l₁) ∷ ‵ (froom ran-ty l₀ 0) ∷ ‵ (fdies ran-ty l₀) ∷ []
+      With g = ‵ (froom (sliceTy (tyRef erased mut (tyInt w8))) l₂₇ 0) ∷ ‵ (fdies (sliceTy (tyRef erased mut (tyInt w8))) l₂₇) ∷ ‵ (froom (tyRef erased mut (tyInt w8)) l₂₆ 0) ∷ ‵ (fdies (tyRef erased mut (tyInt w8)) l₂₆) ∷ ‵ (froom (tyRef erased mut (tyArray (tyInt w32) 1024)) l₂₅ 0) ∷ ‵ (fdies (tyRef erased mut (tyArray (tyInt w32) 1024)) l₂₅) ∷ ‵ (froom (sliceTy (tyRef erased mut (tyInt w8))) l₂₄ 0) ∷ ‵ (fdies (sliceTy (tyRef erased mut (tyInt w8))) l₂₄) ∷ ‵ (froom (tyRef erased mut (tyInt w8)) l₂₃ 0) ∷ ‵ (fdies (tyRef erased mut (tyInt w8)) l₂₃) ∷ ‵ (froom (sliceTy (tyRef erased mut (tyInt w8))) l₂₂ 0) ∷ ‵ (fdies (sliceTy (tyRef erased mut (tyInt w8))) l₂₂) ∷ ‵ (froom (tyRef erased mut (tyInt w8)) l₂₁ 0) ∷ ‵ (fdies (tyRef erased mut (tyInt w8)) l₂₁) ∷ ‵ (froom (tyRef erased mut (tyArray (tyInt w64) 1000)) l₂₀ 0) ∷ ‵ (fdies (tyRef erased mut (tyArray (tyInt w64) 1000)) l₂₀) ∷ ‵ (froom (sliceTy (tyRef erased mut table-ty)) l₁₉ 0) ∷ ‵ (fdies (sliceTy (tyRef erased mut table-ty)) l₁₉) ∷ ‵ (froom (tyRef erased mut table-ty) l₁₈ 0) ∷ ‵ (fdies (tyRef erased mut table-ty) l₁₈) ∷ ‵ (froom (tyRef erased mut (tyArray (tyInt w32) 1024)) l₁₇ 0) ∷ ‵ (fdies (tyRef erased mut (tyArray (tyInt w32) 1024)) l₁₇) ∷ ‵ (froom (sliceTy (tyRef erased mut (tyInt w8))) l₁₆ 0) ∷ ‵ (fdies (sliceTy (tyRef erased mut (tyInt w8))) l₁₆) ∷ ‵ (froom (tyRef erased mut (tyInt w8)) l₁₅ 0) ∷ ‵ (fdies (tyRef erased mut (tyInt w8)) l₁₅) ∷ ‵ (froom (sliceTy (tyRef erased mut (tyInt w8))) l₁₄ 0) ∷ ‵ (fdies (sliceTy (tyRef erased mut (tyInt w8))) l₁₄) ∷ ‵ (froom (tyRef erased mut (tyInt w8)) l₁₃ 0) ∷ ‵ (fdies (tyRef erased mut (tyInt w8)) l₁₃) ∷ ‵ (froom (tyRef erased mut (tyArray (tyInt w64) 1000)) l₁₂ 0) ∷ ‵ (fdies (tyRef erased mut (tyArray (tyInt w64) 1000)) l₁₂) ∷ ‵ (froom tyBool l₁₁ 0) ∷ ‵ (fdies tyBool l₁₁) ∷ ‵ (froom progress-ty l₁₀ 0) ∷ ‵ (fdies progress-ty l₁₀) ∷ ‵ (fat fullShare progress-ty l₉ 0 (progress-val g)) ∷ ‵ (fdies progress-ty l₉) ∷ ‵ (fat fullShare (tyInt w64) l₈ 0 (vint w64 fuel)) ∷ ‵ (fdies (tyInt w64) l₈) ∷ ‵ (fat fullShare machine-ty l₇ 0 (machine-val m)) ∷ ‵ (fdies machine-ty l₇) ∷ ‵ (fat fullShare (sliceTy (tyRef (named 5) mut (tyInt w8))) l₆ 0 (sliceVal (b₅, o₅) n₅)) ∷ ‵ (fdies (sliceTy (tyRef (named 5) mut (tyInt w8))) l₆) ∷ ‵ (fat fullShare (tyRef (named 4) mut (tyArray (tyInt w32) 1024)) l₅ 0 (vptr b₄ o₄)) ∷ ‵ (fdies (tyRef (named 4) mut (tyArray (tyInt w32) 1024)) l₅) ∷ ‵ (fat fullShare (sliceTy (tyRef (named 3) mut (tyInt w8))) l₄ 0 (sliceVal (b₃, o₃) n₃)) ∷ ‵ (fdies (sliceTy (tyRef (named 3) mut (tyInt w8))) l₄) ∷ ‵ (fat fullShare (sliceTy (tyRef (named 2) mut (tyInt w8))) l₃ 0 (sliceVal (b₂, o₂) n₂)) ∷ ‵ (fdies (sliceTy (tyRef (named 2) mut (tyInt w8))) l₃) ∷ ‵ (fat fullShare (tyRef (named 1) mut (tyArray (tyInt w64) 1000)) l₂ 0 (vptr b₁ o₁)) ∷ ‵ (fdies (tyRef (named 1) mut (tyArray (tyInt w64) 1000)) l₂) ∷ ‵ (fat fullShare (sliceTy (tyRef (named 0) mut table-ty)) l₁ 0 (sliceVal (b₀, o₀) n₀)) ∷ ‵ (fdies (sliceTy (tyRef (named 0) mut table-ty)) l₁) ∷ ‵ (froom ran-ty l₀ 0) ∷ ‵ (fdies ran-ty l₀) ∷ []
 
       abbrev At : State n₀ n₂ n₃ n₅ y₀ → List (Item 𝓤)
       At s = Has (s .ts) (s .st) (s .me) (s .po) (s .en) (s .sv) (With (s .g))
@@ -211,8 +211,8 @@ module _ {M : Type 1} (𝓤 : URA M) (H : Heap 𝓤) (A : Atoms 𝓤) (W : Given
       leaves : (s : State n₀ n₂ n₃ n₅ y₀) → s .g .running ≡ false → Sq W (At s) (runs C Λ En mir.t-3 (atRet En Post))
       leaves s out =
           nothing ! $ nothing ! $
-          lent 0 [] tt (gone.the-row ∷ []) ran.the-row 𝓤 (ends.clauses 𝓤 H A at-mem run) tt (s .g, tt) (gone-val (s .g) ∷ [], tt) ! (fmOf 𝓤 H (W .laws) 𝓣) known-ends
-          tt tt (gone-makes 𝓤 H A (s .g) _ (s .g-is), tt) (λ αs δs. tt) (λ αs δs. id⊢ 𝓤 (emp 𝓤))
+          lent 0 [] tt (progress.the-row ∷ []) ran.the-row 𝓤 (ends.clauses 𝓤 H A at-mem run) tt (s .g, tt) (progress-val (s .g) ∷ [], tt) ! (fmOf 𝓤 H (W .laws) 𝓣) known-ends
+          tt tt (progress-makes 𝓤 H A (s .g) _ (s .g-is), tt) (λ αs δs. tt) (λ αs δs. id⊢ 𝓤 (emp 𝓤))
           (λ αs δs. (and-then ! (load ! (from ! (stop !)) (look ! 40 refl)) (no-more !)))
           (λ αs δs w₁ r₁ z₁ f₁. heard ! (r₁ ≡ ran-of (s .g)) (λ e₁. landed-by ! ran.the-row ran-vals ran-tells r₁ w₁ (λ is₁.
           drop ! $ drop ! $ land ! (from ! (stop !)) (init ! 56 refl (ran-typed 𝓤 H A W r₁ is₁)) $
@@ -225,7 +225,7 @@ module _ {M : Type 1} (𝓤 : URA M) (H : Heap 𝓤) (A : Atoms 𝓤) (W : Given
       pool-fits s = subst (λ (n : ℕ). n < 2 ^ 64) (sym (s .po-len)) (g₃ .0)
 
       -- the instruction that the code comes to
-      takes-turn : (s : State n₀ n₂ n₃ n₅ y₀) (r : Progress) (st me po en : List ℕ) → s .g .running ≡ true → Is gone.the-row r (gone-vals r) → length me ≡ n₂ → length po ≡ n₃ → gone-on r st me po en ≡ advance-of (s .st) (s .me) (s .po) (s .en) (s .g .machine) (s .g .left)
+      takes-turn : (s : State n₀ n₂ n₃ n₅ y₀) (r : Progress) (st me po en : List ℕ) → s .g .running ≡ true → Is progress.the-row r (progress-vals r) → length me ≡ n₂ → length po ≡ n₃ → progress-on r st me po en ≡ advance-of (s .st) (s .me) (s .po) (s .en) (s .g .machine) (s .g .left)
           → Sq W (Has (s .ts) st me po en (s .sv) (With r)) (runs C Λ En (past 9 mir.turn-1) (anyQ (Turned s)))
       unfolding afterTurn
       takes-turn s r st me po en more is m₂ m₃ e =
@@ -239,12 +239,12 @@ module _ {M : Type 1} (𝓤 : URA M) (H : Heap 𝓤) (A : Atoms 𝓤) (W : Given
           assigns ! (addr ! (from ! (hop ! (look ! 46 refl) (stop !)))) (from ! (stop !)) (init ! 6 refl (tt, tt)) $
           assigns ! (addr ! (from ! (fld ! refl (hop ! (look-in ! 44 (sub ! 0 refl (whole !))) (stop !))))) (from ! (stop !)) (init ! 4 refl (tt, tt)) $
           assigns ! (agg ! (and-then ! (load ! (from ! (stop !)) (look ! 4 refl)) (and-then ! (load ! (from ! (fld ! refl (stop !))) (look-in ! 44 (sub ! 1 refl (whole !)))) (no-more !)))) (from ! (stop !)) (init ! 2 refl (tt, (tt, (record { fits = g₅ .0 }, tt)))) $
-          lent 6 All (tt, (tt, (tt, (tt, (tt, (tt, tt)))))) (gone.the-row ∷ []) gone.the-row 𝓤 (turn.clauses 𝓤 H A at-mem run) (s .ts, (st, (me, (po, (en, (s .sv, tt)))))) (r, tt) (gone-val r ∷ [], tt) ! (fmOf 𝓤 H (W .laws) 𝓣) known-turn
-          (g₀, (tt, (g₂, (g₃, (tt, (g₅, tt)))))) (s .ts-len, (tt, (m₂, (m₃, (tt, (s .sv-len, tt)))))) (gone-makes 𝓤 H A r _ is, tt) (λ αs δs. tt) (λ αs δs. id⊢ 𝓤 (emp 𝓤))
+          lent 6 All (tt, (tt, (tt, (tt, (tt, (tt, tt)))))) (progress.the-row ∷ []) progress.the-row 𝓤 (turn.clauses 𝓤 H A at-mem run) (s .ts, (st, (me, (po, (en, (s .sv, tt)))))) (r, tt) (progress-val r ∷ [], tt) ! (fmOf 𝓤 H (W .laws) 𝓣) known-turn
+          (g₀, (tt, (g₂, (g₃, (tt, (g₅, tt)))))) (s .ts-len, (tt, (m₂, (m₃, (tt, (s .sv-len, tt)))))) (progress-makes 𝓤 H A r _ is, tt) (λ αs δs. tt) (λ αs δs. id⊢ 𝓤 (emp 𝓤))
           (λ αs δs. (and-then ! (load ! (from ! (stop !)) (look ! 18 refl)) (and-then ! (load ! (from ! (stop !)) (look ! 16 refl)) (and-then ! (load ! (from ! (stop !)) (look ! 12 refl)) (and-then ! (load ! (from ! (stop !)) (look ! 8 refl)) (and-then ! (load ! (from ! (stop !)) (look ! 6 refl)) (and-then ! (load ! (from ! (stop !)) (look ! 2 refl)) (and-then ! (load ! (from ! (stop !)) (look ! 38 refl)) (no-more !)))))))))
-          (λ αs δs w₂ r₂ z₂ f₂. heard ! (going r₂ (z₂ .0) (z₂ .1 .0) (z₂ .1 .1 .0) (z₂ .1 .1 .1 .0) (z₂ .1 .1 .1 .1 .0) (z₂ .1 .1 .1 .1 .1 .0) ≡ turn-of (going r (s .ts) st me po en (s .sv))) (λ e₂. landed-by ! gone.the-row gone-vals gone-tells r₂ w₂ (λ is₂.
-          land ! (from ! (stop !)) (init ! 36 refl (gone-typed 𝓤 H A W r₂ is₂)) $
-          assigns-last ! (of-opd ! (load ! (from ! (stop !)) (look ! 36 refl))) (from ! (stop !)) (store ! 38 refl (gone-typed 𝓤 H A W r₂ is₂)) $
+          (λ αs δs w₂ r₂ z₂ f₂. heard ! (going r₂ (z₂ .0) (z₂ .1 .0) (z₂ .1 .1 .0) (z₂ .1 .1 .1 .0) (z₂ .1 .1 .1 .1 .0) (z₂ .1 .1 .1 .1 .1 .0) ≡ turn-of (going r (s .ts) st me po en (s .sv))) (λ e₂. landed-by ! progress.the-row progress-vals progress-tells r₂ w₂ (λ is₂.
+          land ! (from ! (stop !)) (init ! 36 refl (progress-typed 𝓤 H A W r₂ is₂)) $
+          assigns-last ! (of-opd ! (load ! (from ! (stop !)) (look ! 36 refl))) (from ! (stop !)) (store ! 38 refl (progress-typed 𝓤 H A W r₂ is₂)) $
           forget ! 2 refl $ forget ! 4 refl $ forget ! 6 refl $ forget ! 8 refl $ forget ! 10 refl $ forget ! 12 refl $ forget ! 14 refl $ forget ! 16 refl $ forget ! 18 refl $ forget ! 20 refl $ forget ! 36 refl $
           again ! Less At s (record {
             g = r₂;
@@ -273,11 +273,11 @@ module _ {M : Type 1} (𝓤 : URA M) (H : Heap 𝓤) (A : Atoms 𝓤) (W : Given
           assigns ! (addr ! (from ! (fld ! refl (hop ! (look-in ! 50 (sub ! 0 refl (whole !))) (stop !))))) (from ! (stop !)) (init ! 28 refl (tt, tt)) $
           assigns ! (agg ! (and-then ! (load ! (from ! (stop !)) (look ! 28 refl)) (and-then ! (load ! (from ! (fld ! refl (stop !))) (look-in ! 50 (sub ! 1 refl (whole !)))) (no-more !)))) (from ! (stop !)) (init ! 26 refl (tt, (tt, (record { fits = g₃ .0 }, tt)))) $
           assigns ! (addr ! (from ! (hop ! (look ! 48 refl) (stop !)))) (from ! (stop !)) (init ! 24 refl (tt, tt)) $
-          lent 4 Four (tt, (tt, (tt, (tt, tt)))) (machine.the-row ∷ u64 ∷ []) gone.the-row 𝓤 (advance.clauses 𝓤 H A at-mem run) (s .st, (s .me, (s .po, (s .en, tt)))) (s .g .machine, (s .g .left, tt)) (machine-val (s .g .machine) ∷ [], (vint w64 (s .g .left) ∷ [], tt)) ! (fmOf 𝓤 H (W .laws) 𝓣) known-advance
+          lent 4 Four (tt, (tt, (tt, (tt, tt)))) (machine.the-row ∷ u64 ∷ []) progress.the-row 𝓤 (advance.clauses 𝓤 H A at-mem run) (s .st, (s .me, (s .po, (s .en, tt)))) (s .g .machine, (s .g .left, tt)) (machine-val (s .g .machine) ∷ [], (vint w64 (s .g .left) ∷ [], tt)) ! (fmOf 𝓤 H (W .laws) 𝓣) known-advance
           (tt, (g₂, (g₃, (tt, tt)))) (tt, (s .me-len, (s .po-len, (tt, tt)))) (machine-makes 𝓤 H A (s .g .machine) _ (machine-is (s .g) (s .g-is)), (uint-makes 𝓤 H A W w64 (s .g .left) _ (refl, left-fits (s .g) (s .g-is)), tt)) (λ αs δs. tt) (λ αs δs. id⊢ 𝓤 (emp 𝓤))
           (λ αs δs. (and-then ! (load ! (from ! (stop !)) (look ! 34 refl)) (and-then ! (load ! (from ! (stop !)) (look ! 30 refl)) (and-then ! (load ! (from ! (stop !)) (look ! 26 refl)) (and-then ! (load ! (from ! (stop !)) (look ! 24 refl)) (and-then ! (take-machine ! 9 40 (s .g) refl refl) (and-then ! (take-left ! 9 40 (s .g) refl refl) (no-more !))))))))
-          (λ αs δs w₁ r₁ z₁ f₁. heard ! (gone-on r₁ (z₁ .0) (z₁ .1 .0) (z₁ .1 .1 .0) (z₁ .1 .1 .1 .0) ≡ advance-of (s .st) (s .me) (s .po) (s .en) (s .g .machine) (s .g .left)) (λ e₁. landed-by ! gone.the-row gone-vals gone-tells r₁ w₁ (λ is₁.
-          land ! (from ! (stop !)) (store ! 40 refl (gone-typed 𝓤 H A W r₁ is₁)) $
+          (λ αs δs w₁ r₁ z₁ f₁. heard ! (progress-on r₁ (z₁ .0) (z₁ .1 .0) (z₁ .1 .1 .0) (z₁ .1 .1 .1 .0) ≡ advance-of (s .st) (s .me) (s .po) (s .en) (s .g .machine) (s .g .left)) (λ e₁. landed-by ! progress.the-row progress-vals progress-tells r₁ w₁ (λ is₁.
+          land ! (from ! (stop !)) (store ! 40 refl (progress-typed 𝓤 H A W r₁ is₁)) $
           forget ! 24 refl $ forget ! 26 refl $ forget ! 28 refl $ forget ! 30 refl $ forget ! 32 refl $ forget ! 34 refl $
           fsplit ! $ move ! (1 ∷ []) $ fsplit ! $ move ! (1 ∷ []) $ fsplit ! $ move ! (1 ∷ []) $ fsplit ! $ move ! (1 ∷ []) $ drop ! $ move ! (5 ∷ []) $ fsplit ! $ move ! (1 ∷ []) $ fsplit ! $ move ! (1 ∷ []) $ drop ! $ nothing ! $ move ! (1 ∷ 0 ∷ []) $ fjoin ! $ move ! (2 ∷ 0 ∷ []) $ fjoin ! $ move ! (2 ∷ 0 ∷ []) $ fjoin ! $ move ! (2 ∷ 0 ∷ []) $ fjoin ! $ move ! (2 ∷ 0 ∷ []) $ fjoin ! $ move ! (1 ∷ 0 ∷ []) $ fjoin ! $
           move ! (1 ∷ []) $ fsplit ! $ move ! (1 ∷ []) $ fsplit ! $ move ! (1 ∷ []) $ fsplit ! $ move ! (1 ∷ []) $ fsplit ! $ move ! (1 ∷ []) $ drop ! $ move ! (5 ∷ []) $ fsplit ! $ move ! (1 ∷ []) $ fsplit ! $ move ! (1 ∷ []) $ drop ! $ nothing ! $ move ! (1 ∷ 0 ∷ []) $ fjoin ! $ move ! (2 ∷ 0 ∷ []) $ fjoin ! $ move ! (2 ∷ 0 ∷ []) $ fjoin ! $ move ! (2 ∷ 0 ∷ []) $ fjoin ! $ move ! (2 ∷ 0 ∷ []) $ fjoin ! $ move ! (1 ∷ 0 ∷ []) $ fjoin ! $ move ! (1 ∷ 0 ∷ []) $
@@ -294,18 +294,18 @@ module _ {M : Type 1} (𝓤 : URA M) (H : Heap 𝓤) (A : Atoms 𝓤) (W : Given
       looped : (s : State n₀ n₂ n₃ n₅ y₀) → Sq W (At s) (runs C Λ En mir.t-2 (atRet En Post))
       looped s = first ! $ blocks ! $ loops ! 𝓣 Less (InvImage·wf (λ (s : State n₀ n₂ n₃ n₅ y₀). turns-left (now-at s)) (Nat·lt-wfRel .wf)) At turns s
 
-      steps : Sq W (Has x₀ x₁ x₂ x₃ x₄ x₅ (‵ (froom (sliceTy (tyRef erased mut (tyInt w8))) l₂₇ 0) ∷ ‵ (fdies (sliceTy (tyRef erased mut (tyInt w8))) l₂₇) ∷ ‵ (froom (tyRef erased mut (tyInt w8)) l₂₆ 0) ∷ ‵ (fdies (tyRef erased mut (tyInt w8)) l₂₆) ∷ ‵ (froom (tyRef erased mut (tyArray (tyInt w32) 1024)) l₂₅ 0) ∷ ‵ (fdies (tyRef erased mut (tyArray (tyInt w32) 1024)) l₂₅) ∷ ‵ (froom (sliceTy (tyRef erased mut (tyInt w8))) l₂₄ 0) ∷ ‵ (fdies (sliceTy (tyRef erased mut (tyInt w8))) l₂₄) ∷ ‵ (froom (tyRef erased mut (tyInt w8)) l₂₃ 0) ∷ ‵ (fdies (tyRef erased mut (tyInt w8)) l₂₃) ∷ ‵ (froom (sliceTy (tyRef erased mut (tyInt w8))) l₂₂ 0) ∷ ‵ (fdies (sliceTy (tyRef erased mut (tyInt w8))) l₂₂) ∷ ‵ (froom (tyRef erased mut (tyInt w8)) l₂₁ 0) ∷ ‵ (fdies (tyRef erased mut (tyInt w8)) l₂₁) ∷ ‵ (froom (tyRef erased mut (tyArray (tyInt w64) 1000)) l₂₀ 0) ∷ ‵ (fdies (tyRef erased mut (tyArray (tyInt w64) 1000)) l₂₀) ∷ ‵ (froom (sliceTy (tyRef erased mut table-ty)) l₁₉ 0) ∷ ‵ (fdies (sliceTy (tyRef erased mut table-ty)) l₁₉) ∷ ‵ (froom (tyRef erased mut table-ty) l₁₈ 0) ∷ ‵ (fdies (tyRef erased mut table-ty) l₁₈) ∷ ‵ (froom (tyRef erased mut (tyArray (tyInt w32) 1024)) l₁₇ 0) ∷ ‵ (fdies (tyRef erased mut (tyArray (tyInt w32) 1024)) l₁₇) ∷ ‵ (froom (sliceTy (tyRef erased mut (tyInt w8))) l₁₆ 0) ∷ ‵ (fdies (sliceTy (tyRef erased mut (tyInt w8))) l₁₆) ∷ ‵ (froom (tyRef erased mut (tyInt w8)) l₁₅ 0) ∷ ‵ (fdies (tyRef erased mut (tyInt w8)) l₁₅) ∷ ‵ (froom (sliceTy (tyRef erased mut (tyInt w8))) l₁₄ 0) ∷ ‵ (fdies (sliceTy (tyRef erased mut (tyInt w8))) l₁₄) ∷ ‵ (froom (tyRef erased mut (tyInt w8)) l₁₃ 0) ∷ ‵ (fdies (tyRef erased mut (tyInt w8)) l₁₃) ∷ ‵ (froom (tyRef erased mut (tyArray (tyInt w64) 1000)) l₁₂ 0) ∷ ‵ (fdies (tyRef erased mut (tyArray (tyInt w64) 1000)) l₁₂) ∷ ‵ (froom tyBool l₁₁ 0) ∷ ‵ (fdies tyBool l₁₁) ∷ ‵ (froom gone-ty l₁₀ 0) ∷ ‵ (fdies gone-ty l₁₀) ∷ ‵ (froom gone-ty l₉ 0) ∷ ‵ (fdies gone-ty l₉) ∷ ‵ (fat fullShare (tyInt w64) l₈ 0 (vint w64 fuel)) ∷ ‵ (fdies (tyInt w64) l₈) ∷ ‵ (fat fullShare machine-ty l₇ 0 (machine-val m)) ∷ ‵ (fdies machine-ty l₇) ∷ ‵ (fat fullShare (sliceTy (tyRef (named 5) mut (tyInt w8))) l₆ 0 (sliceVal (b₅, o₅) n₅)) ∷ ‵ (fdies (sliceTy (tyRef (named 5) mut (tyInt w8))) l₆) ∷ ‵ (fat fullShare (tyRef (named 4) mut (tyArray (tyInt w32) 1024)) l₅ 0 (vptr b₄ o₄)) ∷ ‵ (fdies (tyRef (named 4) mut (tyArray (tyInt w32) 1024)) l₅) ∷ ‵ (fat fullShare (sliceTy (tyRef (named 3) mut (tyInt w8))) l₄ 0 (sliceVal (b₃, o₃) n₃)) ∷ ‵ (fdies (sliceTy (tyRef (named 3) mut (tyInt w8))) l₄) ∷ ‵ (fat fullShare (sliceTy (tyRef (named 2) mut (tyInt w8))) l₃ 0 (sliceVal (b₂, o₂) n₂)) ∷ ‵ (fdies (sliceTy (tyRef (named 2) mut (tyInt w8))) l₃) ∷ ‵ (fat fullShare (tyRef (named 1) mut (tyArray (tyInt w64) 1000)) l₂ 0 (vptr b₁ o₁)) ∷ ‵ (fdies (tyRef (named 1) mut (tyArray (tyInt w64) 1000)) l₂) ∷ ‵ (fat fullShare (sliceTy (tyRef (named 0) mut table-ty)) l₁ 0 (sliceVal (b₀, o₀) n₀)) ∷ ‵ (fdies (sliceTy (tyRef (named 0) mut table-ty)) l₁) ∷ ‵ (froom ran-ty l₀ 0) ∷ ‵ (fdies ran-ty l₀) ∷ [])) (runs C Λ En mir.t-1 (atRet En Post))
+      steps : Sq W (Has x₀ x₁ x₂ x₃ x₄ x₅ (‵ (froom (sliceTy (tyRef erased mut (tyInt w8))) l₂₇ 0) ∷ ‵ (fdies (sliceTy (tyRef erased mut (tyInt w8))) l₂₇) ∷ ‵ (froom (tyRef erased mut (tyInt w8)) l₂₆ 0) ∷ ‵ (fdies (tyRef erased mut (tyInt w8)) l₂₆) ∷ ‵ (froom (tyRef erased mut (tyArray (tyInt w32) 1024)) l₂₅ 0) ∷ ‵ (fdies (tyRef erased mut (tyArray (tyInt w32) 1024)) l₂₅) ∷ ‵ (froom (sliceTy (tyRef erased mut (tyInt w8))) l₂₄ 0) ∷ ‵ (fdies (sliceTy (tyRef erased mut (tyInt w8))) l₂₄) ∷ ‵ (froom (tyRef erased mut (tyInt w8)) l₂₃ 0) ∷ ‵ (fdies (tyRef erased mut (tyInt w8)) l₂₃) ∷ ‵ (froom (sliceTy (tyRef erased mut (tyInt w8))) l₂₂ 0) ∷ ‵ (fdies (sliceTy (tyRef erased mut (tyInt w8))) l₂₂) ∷ ‵ (froom (tyRef erased mut (tyInt w8)) l₂₁ 0) ∷ ‵ (fdies (tyRef erased mut (tyInt w8)) l₂₁) ∷ ‵ (froom (tyRef erased mut (tyArray (tyInt w64) 1000)) l₂₀ 0) ∷ ‵ (fdies (tyRef erased mut (tyArray (tyInt w64) 1000)) l₂₀) ∷ ‵ (froom (sliceTy (tyRef erased mut table-ty)) l₁₉ 0) ∷ ‵ (fdies (sliceTy (tyRef erased mut table-ty)) l₁₉) ∷ ‵ (froom (tyRef erased mut table-ty) l₁₈ 0) ∷ ‵ (fdies (tyRef erased mut table-ty) l₁₈) ∷ ‵ (froom (tyRef erased mut (tyArray (tyInt w32) 1024)) l₁₇ 0) ∷ ‵ (fdies (tyRef erased mut (tyArray (tyInt w32) 1024)) l₁₇) ∷ ‵ (froom (sliceTy (tyRef erased mut (tyInt w8))) l₁₆ 0) ∷ ‵ (fdies (sliceTy (tyRef erased mut (tyInt w8))) l₁₆) ∷ ‵ (froom (tyRef erased mut (tyInt w8)) l₁₅ 0) ∷ ‵ (fdies (tyRef erased mut (tyInt w8)) l₁₅) ∷ ‵ (froom (sliceTy (tyRef erased mut (tyInt w8))) l₁₄ 0) ∷ ‵ (fdies (sliceTy (tyRef erased mut (tyInt w8))) l₁₄) ∷ ‵ (froom (tyRef erased mut (tyInt w8)) l₁₃ 0) ∷ ‵ (fdies (tyRef erased mut (tyInt w8)) l₁₃) ∷ ‵ (froom (tyRef erased mut (tyArray (tyInt w64) 1000)) l₁₂ 0) ∷ ‵ (fdies (tyRef erased mut (tyArray (tyInt w64) 1000)) l₁₂) ∷ ‵ (froom tyBool l₁₁ 0) ∷ ‵ (fdies tyBool l₁₁) ∷ ‵ (froom progress-ty l₁₀ 0) ∷ ‵ (fdies progress-ty l₁₀) ∷ ‵ (froom progress-ty l₉ 0) ∷ ‵ (fdies progress-ty l₉) ∷ ‵ (fat fullShare (tyInt w64) l₈ 0 (vint w64 fuel)) ∷ ‵ (fdies (tyInt w64) l₈) ∷ ‵ (fat fullShare machine-ty l₇ 0 (machine-val m)) ∷ ‵ (fdies machine-ty l₇) ∷ ‵ (fat fullShare (sliceTy (tyRef (named 5) mut (tyInt w8))) l₆ 0 (sliceVal (b₅, o₅) n₅)) ∷ ‵ (fdies (sliceTy (tyRef (named 5) mut (tyInt w8))) l₆) ∷ ‵ (fat fullShare (tyRef (named 4) mut (tyArray (tyInt w32) 1024)) l₅ 0 (vptr b₄ o₄)) ∷ ‵ (fdies (tyRef (named 4) mut (tyArray (tyInt w32) 1024)) l₅) ∷ ‵ (fat fullShare (sliceTy (tyRef (named 3) mut (tyInt w8))) l₄ 0 (sliceVal (b₃, o₃) n₃)) ∷ ‵ (fdies (sliceTy (tyRef (named 3) mut (tyInt w8))) l₄) ∷ ‵ (fat fullShare (sliceTy (tyRef (named 2) mut (tyInt w8))) l₃ 0 (sliceVal (b₂, o₂) n₂)) ∷ ‵ (fdies (sliceTy (tyRef (named 2) mut (tyInt w8))) l₃) ∷ ‵ (fat fullShare (tyRef (named 1) mut (tyArray (tyInt w64) 1000)) l₂ 0 (vptr b₁ o₁)) ∷ ‵ (fdies (tyRef (named 1) mut (tyArray (tyInt w64) 1000)) l₂) ∷ ‵ (fat fullShare (sliceTy (tyRef (named 0) mut table-ty)) l₁ 0 (sliceVal (b₀, o₀) n₀)) ∷ ‵ (fdies (sliceTy (tyRef (named 0) mut table-ty)) l₁) ∷ ‵ (froom ran-ty l₀ 0) ∷ ‵ (fdies ran-ty l₀) ∷ [])) (runs C Λ En mir.t-1 (atRet En Post))
       steps =
           nothing ! $ nothing ! $
-          lent 0 [] tt (machine.the-row ∷ u64 ∷ []) gone.the-row 𝓤 (begins.clauses 𝓤 H A at-mem run) tt (m, (fuel, tt)) (machine-val m ∷ [], (vint w64 fuel ∷ [], tt)) ! (fmOf 𝓤 H (W .laws) 𝓣) known-begins
+          lent 0 [] tt (machine.the-row ∷ u64 ∷ []) progress.the-row 𝓤 (begins.clauses 𝓤 H A at-mem run) tt (m, (fuel, tt)) (machine-val m ∷ [], (vint w64 fuel ∷ [], tt)) ! (fmOf 𝓤 H (W .laws) 𝓣) known-begins
           tt tt (machine-makes 𝓤 H A m _ m-is, (uint-makes 𝓤 H A W w64 fuel _ (refl, fuel-fits), tt)) (λ αs δs. tt) (λ αs δs. id⊢ 𝓤 (emp 𝓤))
           (λ αs δs. (and-then ! (load ! (from ! (stop !)) (look ! 44 refl)) (and-then ! (load ! (from ! (stop !)) (look ! 42 refl)) (no-more !))))
-          (λ αs δs w₁ r₁ z₁ f₁. heard ! (r₁ ≡ begun-of m fuel) (λ e₁. landed-by ! gone.the-row gone-vals gone-tells r₁ w₁ (λ is₁.
-          drop ! $ drop ! $ land ! (from ! (stop !)) (init ! 38 refl (gone-typed 𝓤 H A W r₁ is₁)) $
+          (λ αs δs w₁ r₁ z₁ f₁. heard ! (r₁ ≡ begun-of m fuel) (λ e₁. landed-by ! progress.the-row progress-vals progress-tells r₁ w₁ (λ is₁.
+          drop ! $ drop ! $ land ! (from ! (stop !)) (init ! 38 refl (progress-typed 𝓤 H A W r₁ is₁)) $
           looped (record { g = r₁; ts = x₀; st = x₁; me = x₂; po = x₃; en = x₄; sv = x₅; g-is = is₁; ts-len = refl; me-len = refl; po-len = refl; sv-len = refl; so-far = begins-same m fuel x₀ x₁ x₂ x₃ x₄ x₅ e₁ }))))
 
     walk : (𝓣 : Tables 𝓤 H) (known-begins : Triple 𝓤 (𝓣 .C #begins) (begins-con 𝓤 H A at-mem run)) (known-advance : Triple 𝓤 (𝓣 .C #advance) (advance-con 𝓤 H A at-mem run)) (known-turn : Triple 𝓤 (𝓣 .C #turn) (turn-con 𝓤 H A at-mem run)) (known-ends : Triple 𝓤 (𝓣 .C #ends) (ends-con 𝓤 H A at-mem run)) → ent 𝓤 (onEntry 𝓤 H A f.signature κs₀ qs₀ x at) (WpFn 𝓤 H (𝓣 .C) (𝓣 .Λ) code.function (sliceVal (b₀, o₀) n₀ ∷ vptr b₁ o₁ ∷ sliceVal (b₂, o₂) n₂ ∷ sliceVal (b₃, o₃) n₃ ∷ vptr b₄ o₄ ∷ sliceVal (b₅, o₅) n₅ ∷ machine-val m ∷ vint w64 fuel ∷ []) Post)
-    unfolding gone-shut machine-shut ran-shut
+    unfolding progress-shut machine-shut ran-shut
     walk 𝓣 known-begins known-advance known-turn known-ends =
         qed W ((‵ (flft κ₀ q₀) ⊛ ‵ (flft κ₁ q₁) ⊛ ‵ (flft κ₂ q₂) ⊛ ‵ (flft κ₃ q₃) ⊛ ‵ (flft κ₄ q₄) ⊛ ‵ (flft κ₅ q₅) ⊛ ‵ ftrue) ∷ ‵ (owns (typesAt (f.signature .params) κs₀) x at) ∷ []) ∵
         move ! (1 ∷ []) $ fsplit ! $ move ! (1 ∷ []) $ fsplit ! $ move ! (1 ∷ []) $ fsplit ! $ move ! (1 ∷ []) $ fsplit ! $ move ! (1 ∷ []) $ fsplit ! $ move ! (1 ∷ []) $ fsplit ! $ move ! (1 ∷ []) $ drop ! $ nothing ! $ move ! (1 ∷ 0 ∷ []) $ fjoin ! $ move ! (1 ∷ 0 ∷ []) $ fjoin ! $ move ! (1 ∷ 0 ∷ []) $ fjoin ! $ move ! (1 ∷ 0 ∷ []) $ fjoin ! $ move ! (1 ∷ 0 ∷ []) $ fjoin ! $ move ! (1 ∷ 0 ∷ []) $ fjoin ! $
@@ -336,7 +336,7 @@ run-spec 𝓤 H 𝓜 𝓖 𝓡 =
     entered 𝓤 H (tripleOf 𝓤 H (𝓖 .A) f.signature (f.spec 𝓤 H (𝓖 .A) (𝓜 .mem) (𝓡 .run)))
     (tables 𝓤 H 𝓜 𝓡 code.env .C) (tables 𝓤 H 𝓜 𝓡 code.env .Λ) #this code.function (code.unfolded 𝓤 H 𝓜 𝓡)
     (meets 𝓤 H (𝓖 .A) (givenOf 𝓤 H 𝓜 𝓖) (𝓜 .mem) (𝓡 .run) (tablesOf 𝓤 H 𝓜 (tables 𝓤 H 𝓜 𝓡 code.env))
-    (cited 𝓤 H (begins-con 𝓤 H (𝓖 .A) (𝓜 .mem) (𝓡 .run)) 𝓜 𝓡 code.env #begins begins-def.routine code.calls-runner·gone·begun (begins-thm.met 𝓤 H 𝓜 𝓖 𝓡))
+    (cited 𝓤 H (begins-con 𝓤 H (𝓖 .A) (𝓜 .mem) (𝓡 .run)) 𝓜 𝓡 code.env #begins begins-def.routine code.calls-runner·progress·begun (begins-thm.met 𝓤 H 𝓜 𝓖 𝓡))
     (cited 𝓤 H (advance-con 𝓤 H (𝓖 .A) (𝓜 .mem) (𝓡 .run)) 𝓜 𝓡 code.env #advance advance-def.routine code.calls-stepper·advance·advance (advance-thm.met 𝓤 H 𝓜 𝓖 𝓡))
     (cited 𝓤 H (turn-con 𝓤 H (𝓖 .A) (𝓜 .mem) (𝓡 .run)) 𝓜 𝓡 code.env #turn turn-def.routine code.calls-runner·turn (turn-thm.met 𝓤 H 𝓜 𝓖 𝓡))
-    (cited 𝓤 H (ends-con 𝓤 H (𝓖 .A) (𝓜 .mem) (𝓡 .run)) 𝓜 𝓡 code.env #ends ends-def.routine code.calls-runner·gone·ran (ends-thm.met 𝓤 H 𝓜 𝓖 𝓡)))
+    (cited 𝓤 H (ends-con 𝓤 H (𝓖 .A) (𝓜 .mem) (𝓡 .run)) 𝓜 𝓡 code.env #ends ends-def.routine code.calls-runner·progress·ran (ends-thm.met 𝓤 H 𝓜 𝓖 𝓡)))

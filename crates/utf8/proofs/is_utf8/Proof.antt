@@ -5,7 +5,7 @@ use native.Mathlib.Omega.{arith}
 use borrow.Author.Needs.{needs}
 use lib.ListN.{length, drop}
 use Rattle.utf8.specs.Utf8.{from, valid}
-use Rattle.utf8.specs.Steps.{due, after}
+use Rattle.utf8.specs.Steps.{due, valid-after}
 use Rattle.utf8.proofs.Laws.{ascii, turn, ended}
 use Rattle.utf8.proofs.is_utf8.Statement.{statement}
 use Rattle.utf8.proofs.is_utf8.Tie as tie
@@ -39,7 +39,7 @@ enum-told : tie.Need-enum-told Inv-loop μ-loop
 enum-told c = search needs
 
 returns-2 : tie.Need-returns-2 Inv-loop μ-loop
-unfolding after
+unfolding valid-after
 returns-2 c =
     let called = c .before .before in
     let test = called .before .before in
@@ -52,7 +52,7 @@ loop-less : tie.Need-loop-less Inv-loop μ-loop
 loop-less c = search needs
 
 loop-again : tie.Need-loop-again Inv-loop μ-loop
-unfolding after
+unfolding valid-after
 loop-again c =
     let called = c .before .before .before in
     let test = called .before .before in

@@ -11,8 +11,8 @@ enum-known-so-far c = search needs
 enum-known-so-far-2 : tie.Need-enum-known-so-far-2
 enum-known-so-far-2 c = search needs
 
-start-of-requires : tie.Need-start-of-requires
-start-of-requires c κs = search needs
+line-start-requires : tie.Need-line-start-requires
+line-start-requires c κs = search needs
 
 text-from-requires : tie.Need-text-from-requires
 text-from-requires c κs = search needs
@@ -28,7 +28,7 @@ same-length : tie.Need-same-length
 same-length c = search needs
 
 returns-2 : tie.Need-returns-2
-returns-2 c = one-more _ _ _ (c .before .before .before .before .before .before .before .so-far2 .given .1) (c .before .before .before .before .start-of .ensures) (c .before .before .before .text-from .ensures) (c .counted .ensures)
+returns-2 c = one-more _ _ _ (c .before .before .before .before .before .before .before .so-far2 .given .1) (c .before .before .before .before .line-start .ensures) (c .before .before .before .text-from .ensures) (c .counted .ensures)
 
 pub put-text-spec : {M : Type 1} → statement M
 put-text-spec =
@@ -36,7 +36,7 @@ put-text-spec =
     (tie.spec
     enum-known-so-far
     enum-known-so-far-2
-    start-of-requires
+    line-start-requires
     text-from-requires
     counted-requires
     returns

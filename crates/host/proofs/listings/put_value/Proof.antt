@@ -14,8 +14,8 @@ enum-known-so-far-2 c = search needs
 unbox-value-requires : tie.Need-unbox-value-requires
 unbox-value-requires c κs = search needs
 
-start-of-requires : tie.Need-start-of-requires
-start-of-requires c κs = search needs
+line-start-requires : tie.Need-line-start-requires
+line-start-requires c κs = search needs
 
 value-from-requires : tie.Need-value-from-requires
 value-from-requires c κs = search needs
@@ -32,7 +32,7 @@ same-length c = search needs
 
 returns-2 : tie.Need-returns-2
 returns-2 c =
-    rw (← c .before .before .before .before .before .before .unbox-value .ensures) (one-more _ _ _ (c .before .before .before .before .before .before .before .before .so-far2 .given .1) (c .before .before .before .before .start-of .ensures) (c .before .before .before .value-from .ensures) (c .counted .ensures))
+    rw (← c .before .before .before .before .before .before .unbox-value .ensures) (one-more _ _ _ (c .before .before .before .before .before .before .before .before .so-far2 .given .1) (c .before .before .before .before .line-start .ensures) (c .before .before .before .value-from .ensures) (c .counted .ensures))
 
 pub put-value-spec : {M : Type 1} → statement M
 put-value-spec =
@@ -41,7 +41,7 @@ put-value-spec =
     enum-known-so-far
     enum-known-so-far-2
     unbox-value-requires
-    start-of-requires
+    line-start-requires
     value-from-requires
     counted-requires
     returns

@@ -3,7 +3,7 @@ use Prim.Native.Nat.{_-_}
 use lib.ListN.{length}
 use borrow.Author.Needs.{needs}
 use Rattle.text.specs.Lines.{lined}
-use Rattle.listing.specs.Listing.{values-of}
+use Rattle.listing.specs.Listing.{values-read}
 use Rattle.host.specs.Listings.{put-values}
 use Rattle.host.proofs.AnsweringLines.{Telling, begun, turned, ended}
 use Rattle.host.proofs.listings.put_values.Statement.{statement}
@@ -11,7 +11,7 @@ use Rattle.host.proofs.listings.put_values.Tie as tie
 
 abbrev Inv-loop : tie.InvT-loop
 Inv-loop out₀ words memory pool ends keeps entries told₀ position₀ out told position =
-    Telling keeps memory pool ends entries words (put-values keeps (lined told₀ out₀) (values-of memory pool ends entries words)) (length out₀) told out position
+    Telling keeps memory pool ends entries words (put-values keeps (lined told₀ out₀) (values-read memory pool ends entries words)) (length out₀) told out position
 
 abbrev μ-loop : tie.MeasureT-loop
 μ-loop out₀ words memory pool ends keeps entries told₀ position₀ out told position = length words - position

@@ -1,6 +1,6 @@
 -- `host::outcomes::to_save` meets its contract.
 use borrow.Author.Needs.{needs}
-use Rattle.host.specs.Hosting.{saving}
+use Rattle.host.specs.Hosting.{machine-to-save}
 use Rattle.host.proofs.outcomes.to_save.Statement.{statement}
 use Rattle.host.proofs.outcomes.to_save.Tie as tie
 
@@ -17,17 +17,17 @@ unsavable-requires : tie.Need-unsavable-requires
 unsavable-requires c κs = search needs
 
 returns : tie.Need-returns
-unfolding saving
+unfolding machine-to-save
 returns c =
     simp (c .before .enum-told .given .1)
 
 returns-2 : tie.Need-returns-2
-unfolding saving
+unfolding machine-to-save
 returns-2 c =
     simp (c .before .enum-told2 .given .1)
 
 returns-3 : tie.Need-returns-3
-unfolding saving
+unfolding machine-to-save
 returns-3 c =
     simp (← c .unsavable .ensures, c .before .enum-told3 .given .1)
 

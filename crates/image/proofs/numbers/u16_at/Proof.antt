@@ -2,7 +2,7 @@
 use native.Mathlib.Omega.{arith}
 use borrow.Author.Needs.{needs}
 use Rattle.image.proofs.numbers.u16_at.Statement.{statement}
-use Rattle.image.specs.Numbers.{number-at}
+use Rattle.slices.specs.Numbers.{number-at}
 use Rattle.image.proofs.numbers.u16_at.Tie as tie
 
 u8-at-requires : tie.Need-u8-at-requires

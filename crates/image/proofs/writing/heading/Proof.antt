@@ -1,8 +1,8 @@
 -- `image::writing::heading` meets its contract.
 use borrow.Author.Needs.{needs}
 use Rattle.image.proofs.writing.heading.Statement.{statement}
-use Rattle.image.specs.Image.{header, framed}
-use Rattle.image.specs.Numbers.{little-endian}
+use Rattle.image.specs.Image.{header, record-of}
+use Rattle.slices.specs.Numbers.{little-endian}
 use Rattle.image.proofs.writing.heading.Tie as tie
 
 cast-next-id : tie.Need-cast-next-id
@@ -33,7 +33,7 @@ low-requires-8 : tie.Need-low-requires-8
 low-requires-8 c κs = search needs
 
 returns : tie.Need-returns
-unfolding header framed little-endian
+unfolding header record-of little-endian
 returns c =
     simp (c .before .before .before .before .before .before .before .low .ensures, c .before .before .before .before .before .before .low2 .ensures, c .before .before .before .before .before .low3 .ensures, c .before .before .before .before .low4 .ensures, c .before .before .before .low5 .ensures, c .before .before .low6 .ensures, c .before .low7 .ensures, c .low8 .ensures)
 

@@ -1,7 +1,7 @@
 -- `image::writing::opening` meets its contract.
 use borrow.Author.Needs.{needs}
 use Rattle.image.proofs.writing.opening.Statement.{statement}
-use Rattle.image.specs.Numbers.{little-endian}
+use Rattle.slices.specs.Numbers.{little-endian}
 use Rattle.image.proofs.writing.opening.Tie as tie
 
 cast-id : tie.Need-cast-id

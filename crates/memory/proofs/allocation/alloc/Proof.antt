@@ -9,7 +9,7 @@ use borrow.Rule.Slice.PartMut.{mid-len}
 use Rattle.memory.proofs.Filling.{stored-bytes}
 use Rattle.memory.proofs.Placed.{placed-below, aligned-above}
 use Rattle.memory.proofs.allocation.alloc.Statement.{statement}
-use Rattle.memory.specs.Allocation.{after, alloc, stored, vector, offset-aligned}
+use Rattle.memory.specs.Allocation.{after-allocation, alloc, vector-stored, vector, offset-aligned}
 use Rattle.memory.specs.declared.AllocResult.the-variants.{Allocated}
 use Rattle.values.specs.declared.ValueResult.the-variants.{Value}
 use Rattle.memory.proofs.allocation.alloc.Tie as tie
@@ -36,7 +36,7 @@ add-end c =
     omega (arith, placed-below _ _ _ _ boxed, c .offset-aligned .ensures)
 
 returns : tie.Need-returns
-unfolding alloc stored
+unfolding alloc vector-stored
 returns c =
     simp (← c .before .before .before .before .before .vector .ensures, c .before .before .before .value .given .1, ← c .before .offset-aligned .ensures, lt-leb _ _ (c .if1 .taken))
 
@@ -69,7 +69,7 @@ fill-requires : tie.Need-fill-requires
 fill-requires c κs = search needs
 
 returns-2 : tie.Need-returns-2
-unfolding alloc stored
+unfolding alloc vector-stored
 returns-2 c =
     simp (← c .before .before .before .vector .ensures, c .before .refusal .given .1)
 
@@ -77,7 +77,7 @@ same-length : tie.Need-same-length
 same-length c = search needs
 
 returns-3 : tie.Need-returns-3
-unfolding alloc stored
+unfolding alloc vector-stored
 returns-3 c =
     let start = c .before .before .before .before .before .before .before .before .before .before .before .before .before .before .before .before in
     let memory = start .args .memory .now in
@@ -91,7 +91,7 @@ returns-3 c =
     let cleared : c .before .before .before .before .before .before .clear .last .0 ≡ replicate (offset - used) 0 =
     c .before .before .before .before .before .before .clear .ensures ∙ ap (λ (n : ℕ). replicate n 0) (mid-len used offset memory (omega arith)) in
     simp (← boxing, boxed, ← aligned, le-leb _ _ fits, c .before .before .fill .ensures, cleared)
-    (ap (after (Allocated (c .before .before .before .before .before .before .before .before .before .before .before .value .given .0 .0) (offset + start .args .size)))
+    (ap (after-allocation (Allocated (c .before .before .before .before .before .before .before .before .before .before .before .value .given .0 .0) (offset + start .args .size)))
     (stored-bytes memory (start .args .payload .now) used offset (start .args .size) above fits _ refl))
 
 pub alloc-spec : {M : Type 1} → statement M

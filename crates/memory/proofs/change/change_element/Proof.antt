@@ -9,7 +9,8 @@ use borrow.Author.Needs.{needs}
 use borrow.Author.Tests.{le-leb, lt-leb, leb-true}
 use Rattle.memory.proofs.Elements.{element-inside}
 use Rattle.memory.proofs.change.change_element.Statement.{statement}
-use Rattle.memory.specs.Change.{changed, inside, little-endian}
+use Rattle.slices.specs.Numbers.{little-endian}
+use Rattle.memory.specs.Change.{changed, inside}
 use Rattle.memory.proofs.change.change_element.Tie as tie
 
 cast-size : tie.Need-cast-size

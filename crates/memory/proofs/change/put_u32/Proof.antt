@@ -5,7 +5,7 @@ use native.Mathlib.Omega.{arith}
 use lib.ListN.{length-set}
 use borrow.Author.Needs.{needs}
 use Rattle.memory.proofs.change.put_u32.Statement.{statement}
-use Rattle.memory.specs.Change.{little-endian}
+use Rattle.slices.specs.Numbers.{little-endian}
 use Rattle.memory.proofs.change.put_u32.Tie as tie
 
 cast-memory : tie.Need-cast-memory

@@ -2,7 +2,7 @@
 use mathlib.Core.Path.{refl}
 use borrow.Author.Needs.{needs}
 use Rattle.memory.proofs.change.put_u8.Statement.{statement}
-use Rattle.memory.specs.Change.{little-endian}
+use Rattle.slices.specs.Numbers.{little-endian}
 use Rattle.memory.proofs.change.put_u8.Tie as tie
 
 cast-memory : tie.Need-cast-memory

@@ -2,7 +2,7 @@
 use Prim.Native.Nat.{ℕ}
 use mathlib.Core.Path.{ap, _∙_}
 use mathlib.Core.List.{List}
-use Rattle.image.specs.Numbers.{number-at}
+use Rattle.slices.specs.Numbers.{number-at}
 use Rattle.storage.specs.Tasks.{after}
 use Rattle.printer.specs.Asked.{fuel-at}
 use Rattle.printer.proofs.Bytes.{fuel-of}

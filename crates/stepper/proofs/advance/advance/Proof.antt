@@ -9,7 +9,7 @@ use Rattle.machine.specs.declared.Machine.{Machine}
 use Rattle.mechanism.specs.declared.StepsEnd.{StepsEnd}
 use Rattle.machine.specs.Machines.{code-of}
 use Rattle.mechanism.specs.Registers.{registers-of, settled}
-use Rattle.mechanism.specs.Advance.{halted-at, gone-on, after-steps, advance}
+use Rattle.mechanism.specs.Advance.{halted-at, progress-on, after-steps, advance}
 use Rattle.mechanism.specs.declared.Progress.{Progress}
 use borrow.Author.Needs.{needs}
 use Rattle.stepper.proofs.advance.advance.Statement.{statement}
@@ -27,11 +27,11 @@ use Rattle.stepper.proofs.steps.Reads as steps-reads
 advanced : (stack memory pool ends : List ℕ) (machine : Machine) (fuel : ℕ) {code : List ℕ} {registers : Registers} {reached : StepsEnd} {stack′ memory′ : List ℕ} {op : ℕ} {after : Machine} {r : Progress}
     → code ≡ code-of pool ends machine → registers ≡ registers-of machine → stepped reached stack′ memory′ ≡ steps fuel stack memory code registers (machine .count)
     → op ≡ getD code (reached .registers .place) 0 → after ≡ settled machine (reached .registers) → r ≡ halted-at after op (reached .left) (reached .halt)
-    → gone-on r stack′ memory′ pool ends ≡ advance stack memory pool ends machine fuel
+    → progress-on r stack′ memory′ pool ends ≡ advance stack memory pool ends machine fuel
 unfolding advance after-steps
 advanced stack memory pool ends machine fuel {code} {registers} {reached} {stack′} {memory′} {op} {after} {r} of-code of-registers did read put halts =
-    (λ j. gone-on (halts j) stack′ memory′ pool ends)
-    ∙ (λ j. gone-on (halted-at (put j) ((read ∙ ap (λ (c : List ℕ). getD c (reached .registers .place) 0) of-code) j) (reached .left) (reached .halt)) stack′ memory′ pool ends)
+    (λ j. progress-on (halts j) stack′ memory′ pool ends)
+    ∙ (λ j. progress-on (halted-at (put j) ((read ∙ ap (λ (c : List ℕ). getD c (reached .registers .place) 0) of-code) j) (reached .left) (reached .halt)) stack′ memory′ pool ends)
     ∙ ap (after-steps pool ends machine) (did ∙ (λ j. steps fuel stack memory (of-code j) (of-registers j) (machine .count)))
 
 code-of-requires : tie.Need-code-of-requires

@@ -52,7 +52,7 @@ use Rattle.machine.proofs.Machine as machine
 use Rattle.mechanism.proofs.Values.{machine-shut, machine-vals}
 use Rattle.mechanism.proofs.Fields.{next-id-is}
 use Rattle.storage.specs.Table.{sound-table}
-use Rattle.machine.specs.Sound.{tested, beside, sound-record, sound-world}
+use Rattle.machine.specs.Sound.{tested, record-tested, sound-record, sound-world}
 use Rattle.mechanism.proofs.VmFields.{count-fits, take-next-id, take-count}
 use Rattle.mechanism.proofs.Answers.{tests}
 use Rattle.table.proofs.slots.sound.Symbol.{name as #slots}
@@ -171,7 +171,7 @@ module _ {M : Type 1} (𝓤 : URA M) (H : Heap 𝓤) (A : Atoms 𝓤) (W : Given
           lent-some 4 All Beside (tt, (tt, (tt, (tt, tt)))) (machine.the-row ∷ bool ∷ []) bool 𝓤 (others.clauses 𝓤 H A at-mem run) ((z₁ .0), (x₁, (x₂, (x₃, (x₄, tt))))) (m, (r₁, tt)) (machine-val m ∷ [], (vbool r₁ ∷ [], tt)) ! (fmOf 𝓤 H (W .laws) 𝓣) known-others
           (g₁, (g₂, (tt, (g₄, tt)))) (refl, (refl, (tt, (refl, tt)))) (machine-makes 𝓤 H A m _ m-is, (bool-makes 𝓤 H A W r₁ _ refl, tt)) (λ αs δs. tt) (λ αs δs. id⊢ 𝓤 (emp 𝓤))
           (λ αs δs. (and-then ! (load ! (from ! (stop !)) (look ! 14 refl)) (and-then ! (load ! (from ! (stop !)) (look ! 10 refl)) (and-then ! (load ! (from ! (stop !)) (look ! 8 refl)) (and-then ! (load ! (from ! (stop !)) (look ! 4 refl)) (and-then ! (load ! (from ! (stop !)) (look ! 24 refl)) (and-then ! (load ! (from ! (stop !)) (look ! 22 refl)) (no-more !))))))))
-          (λ αs δs w₂ r₂ z₂ f₂. heard ! (beside r₂ (z₂ .0) (z₂ .1 .0) (z₂ .1 .1 .0) (z₂ .1 .1 .1 .0) ≡ beside (sound-record n₁ n₂ x₃ n₄ m r₁) x₁ x₂ x₃ x₄) (λ e₂. landed-by ! bool bool-vals bool-tells r₂ w₂ (λ is₂.
+          (λ αs δs w₂ r₂ z₂ f₂. heard ! (record-tested r₂ (z₂ .0) (z₂ .1 .0) (z₂ .1 .1 .0) (z₂ .1 .1 .1 .0) ≡ record-tested (sound-record n₁ n₂ x₃ n₄ m r₁) x₁ x₂ x₃ x₄) (λ e₂. landed-by ! bool bool-vals bool-tells r₂ w₂ (λ is₂.
           land ! (from ! (stop !)) (init ! 34 refl (tt, tt)) $
           returns ! (look ! 34 refl) $ emptied ! refl $
           ends r₂ (z₁ .0) (z₂ .0) (z₂ .1 .0) (z₂ .1 .1 .0) (z₂ .1 .1 .1 .0) (f₁ .0) (f₂ .0) (f₂ .1 .0) (f₂ .1 .1 .1 .0) (tests x₀ x₁ x₂ x₃ x₄ m e₁ e₂)))))))

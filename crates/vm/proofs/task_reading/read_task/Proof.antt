@@ -60,7 +60,7 @@ use Rattle.machine.specs.declared.TaskRead.{TaskRead}
 use Rattle.machine.proofs.TaskRead as task-read
 use Rattle.mechanism.proofs.VmValues.{task-read-shut, task-read-vals}
 use Rattle.machine.specs.Sound.{tested, sound-world}
-use Rattle.machine.specs.Reads.{read-to, task-at, task-read as task-read-of}
+use Rattle.machine.specs.Reads.{read-to, task-answer, task-read as task-read-of}
 use Rattle.mechanism.proofs.Answers.{reads-task}
 use Rattle.vm.proofs.sound.sound.Symbol.{name as #tests}
 use Rattle.storage.proofs.ids.slot_of.Symbol.{name as #slot}
@@ -189,7 +189,7 @@ module _ {M : Type 1} (𝓤 : URA M) (H : Heap 𝓤) (A : Atoms 𝓤) (W : Given
           lent-some 2 All Two (tt, (tt, tt)) (machine.the-row ∷ bool ∷ id.the-row ∷ R ∷ []) task-read.the-row 𝓤 (reads.clauses 𝓤 H A at-mem run) (us, (x₁, (me, (po, (en, (sv, tt)))))) (m, (good, (i, (task, tt)))) (machine-val m ∷ [], (vbool good ∷ [], (id-val i ∷ [], (task-val task ∷ [], tt)))) ! (fmOf 𝓤 H (W .laws) 𝓣) known-reads
           (g₃, (tt, tt)) (m₃, (tt, tt)) (machine-makes 𝓤 H A m _ m-is, (bool-makes 𝓤 H A W good _ refl, (id-makes 𝓤 H A i _ i-is, (makes 𝓤 H A task _ is, tt)))) (λ αs δs. tt) (λ αs δs. id⊢ 𝓤 (emp 𝓤))
           (λ αs δs. (and-then ! (load ! (from ! (stop !)) (look ! 6 refl)) (and-then ! (load ! (from ! (stop !)) (look ! 4 refl)) (and-then ! (load ! (from ! (stop !)) (look ! 40 refl)) (and-then ! (load ! (from ! (stop !)) (look ! 36 refl)) (and-then ! (load ! (from ! (stop !)) (look ! 38 refl)) (and-then ! (load ! (from ! (stop !)) (look ! 34 refl)) (no-more !))))))))
-          (λ αs δs w₁ r₁ z₁ f₁. heard ! (stepped r₁ (z₁ .0) (z₁ .1 .0) ≡ stepped (task-at en m good i task) po en) (λ e₁. landed-by ! task-read.the-row task-read-vals task-read-tells r₁ w₁ (λ is₁.
+          (λ αs δs w₁ r₁ z₁ f₁. heard ! (stepped r₁ (z₁ .0) (z₁ .1 .0) ≡ stepped (task-answer en m good i task) po en) (λ e₁. landed-by ! task-read.the-row task-read-vals task-read-tells r₁ w₁ (λ is₁.
           land ! (from ! (stop !)) (init ! 52 refl (task-read-typed 𝓤 H A W r₁ is₁)) $
           returns ! (look ! 52 refl) $ emptied ! refl $
           ends r₁ us x₁ me (z₁ .0) (z₁ .1 .0) sv is₁ m₀ m₂ (f₁ .0) m₅ (reads-task m x₀ x₁ x₂ x₃ x₄ x₅ e i found got e₁))))

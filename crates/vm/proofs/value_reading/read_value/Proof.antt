@@ -53,7 +53,7 @@ use Rattle.machine.specs.World.{world}
 use Rattle.mechanism.proofs.Values.{machine-shut, machine-vals}
 use Rattle.mechanism.proofs.VmValues.{return-shut, return-vals}
 use Rattle.machine.specs.Sound.{tested, sound-world}
-use Rattle.machine.specs.Reads.{beside, read-to, value-at, value-read}
+use Rattle.machine.specs.Reads.{value-on, read-to, value-at, value-read}
 use Rattle.mechanism.proofs.Answers.{reads-value}
 use Rattle.vm.proofs.sound.sound.Symbol.{name as #tests}
 use Rattle.vm.proofs.value_reading.value_at.Symbol.{name as #reads}
@@ -164,7 +164,7 @@ module _ {M : Type 1} (𝓤 : URA M) (H : Heap 𝓤) (A : Atoms 𝓤) (W : Given
           lent-some 3 All Three (tt, (tt, (tt, tt))) (machine.the-row ∷ bool ∷ usize ∷ []) return.the-row 𝓤 (reads.clauses 𝓤 H A at-mem run) (ts, (x₁, (me, (po, (en, (sv, tt)))))) (m, (good, (position, tt))) (machine-val m ∷ [], (vbool good ∷ [], (vint w64 position ∷ [], tt))) ! (fmOf 𝓤 H (W .laws) 𝓣) known-reads
           (tt, (g₂, (tt, tt))) (tt, (m₂, (tt, tt))) (machine-makes 𝓤 H A m _ m-is, (bool-makes 𝓤 H A W good _ refl, (uint-makes 𝓤 H A W w64 position _ (refl, position-is), tt))) (λ αs δs. tt) (λ αs δs. id⊢ 𝓤 (emp 𝓤))
           (λ αs δs. (and-then ! (load ! (from ! (stop !)) (look ! 10 refl)) (and-then ! (load ! (from ! (stop !)) (look ! 6 refl)) (and-then ! (load ! (from ! (stop !)) (look ! 4 refl)) (and-then ! (load ! (from ! (stop !)) (look ! 34 refl)) (and-then ! (load ! (from ! (stop !)) (look ! 30 refl)) (and-then ! (load ! (from ! (stop !)) (look ! 32 refl)) (no-more !))))))))
-          (λ αs δs w₁ r₁ z₁ f₁. heard ! (beside r₁ (z₁ .0) (z₁ .1 .0) (z₁ .1 .1 .0) ≡ beside (value-at x₁ me en m good position) x₁ me en) (λ e₁. landed-by ! return.the-row return-vals return-tells r₁ w₁ (λ is₁.
+          (λ αs δs w₁ r₁ z₁ f₁. heard ! (value-on r₁ (z₁ .0) (z₁ .1 .0) (z₁ .1 .1 .0) ≡ value-on (value-at x₁ me en m good position) x₁ me en) (λ e₁. landed-by ! return.the-row return-vals return-tells r₁ w₁ (λ is₁.
           land ! (from ! (stop !)) (init ! 46 refl (return-typed 𝓤 H A W r₁ is₁)) $
           returns ! (look ! 46 refl) $ emptied ! refl $
           ends r₁ ts (z₁ .0) (z₁ .1 .0) po (z₁ .1 .1 .0) sv is₁ m₀ (f₁ .1 .0) m₃ m₅ (reads-value m x₀ x₁ x₂ x₃ x₄ x₅ e position e₁))))

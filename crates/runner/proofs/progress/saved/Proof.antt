@@ -1,15 +1,15 @@
--- `runner::gone::saved` meets its contract.
+-- `runner::progress::saved` meets its contract.
 use Rattle.runner.specs.Behind.{save-answered, saved}
 use borrow.Author.Needs.{needs}
-use Rattle.runner.proofs.gone.saved.Statement.{statement}
-use Rattle.runner.proofs.gone.saved.Tie as tie
-use Rattle.runner.proofs.gone.saved.Reads as reads
-use Rattle.runner.proofs.gone.saved.Lts as lts
+use Rattle.runner.proofs.progress.saved.Statement.{statement}
+use Rattle.runner.proofs.progress.saved.Tie as tie
+use Rattle.runner.proofs.progress.saved.Reads as reads
+use Rattle.runner.proofs.progress.saved.Lts as lts
 use Rattle.mechanism.proofs.machines.registers_of.Reads as registers-of-reads
 use Rattle.mechanism.proofs.machines.settled.Reads as settled-reads
-use Rattle.runner.proofs.gone.turned.Reads as turned-reads
+use Rattle.runner.proofs.progress.turned.Reads as turned-reads
 use Rattle.mechanism.proofs.stack.moved.Reads as moved-reads
-use Rattle.runner.proofs.gone.next_of.Reads as next-of-reads
+use Rattle.runner.proofs.progress.next_of.Reads as next-of-reads
 
 enum-known-result : tie.Need-enum-known-result
 enum-known-result c = search needs

@@ -1,13 +1,13 @@
--- `runner::gone::returned` meets its contract.
+-- `runner::progress::returned` meets its contract.
 use borrow.Author.Needs.{needs}
 use Rattle.runner.specs.Going.{returned}
-use Rattle.runner.proofs.gone.returned.Statement.{statement}
-use Rattle.runner.proofs.gone.returned.Tie as tie
-use Rattle.runner.proofs.gone.returned.Reads as reads
-use Rattle.runner.proofs.gone.returned.Lts as lts
+use Rattle.runner.proofs.progress.returned.Statement.{statement}
+use Rattle.runner.proofs.progress.returned.Tie as tie
+use Rattle.runner.proofs.progress.returned.Reads as reads
+use Rattle.runner.proofs.progress.returned.Lts as lts
 use Rattle.stepper.proofs.entering.op_end_call.Reads as op-end-call-reads
-use Rattle.runner.proofs.gone.next_of.Reads as next-of-reads
-use Rattle.runner.proofs.gone.turned.Reads as turned-reads
+use Rattle.runner.proofs.progress.next_of.Reads as next-of-reads
+use Rattle.runner.proofs.progress.turned.Reads as turned-reads
 
 next-of-requires : tie.Need-next-of-requires
 next-of-requires c κs = search needs

@@ -1,10 +1,10 @@
--- `runner::gone::next_of` meets its contract.
+-- `runner::progress::next_of` meets its contract.
 use borrow.Author.Needs.{needs}
 use Rattle.runner.specs.Behind.{next-of}
-use Rattle.runner.proofs.gone.next_of.Statement.{statement}
-use Rattle.runner.proofs.gone.next_of.Tie as tie
-use Rattle.runner.proofs.gone.next_of.Reads as reads
-use Rattle.runner.proofs.gone.next_of.Lts as lts
+use Rattle.runner.proofs.progress.next_of.Statement.{statement}
+use Rattle.runner.proofs.progress.next_of.Tie as tie
+use Rattle.runner.proofs.progress.next_of.Reads as reads
+use Rattle.runner.proofs.progress.next_of.Lts as lts
 use Rattle.mechanism.proofs.machines.current.Reads as current-reads
 use Rattle.std.proofs.num.wrapping_add_usize.Reads as wrapping-add-usize-reads
 

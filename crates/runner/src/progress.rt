@@ -71,24 +71,30 @@ pub(crate) fn next_of(machine: Machine) -> usize
 }
 
 // After END_CALL, which needs no slot.
-pub(crate) fn returned(gone: Progress) -> Progress
-    ensures { λ r. ⌜ r ≡ returned gone ⌝ }
+pub(crate) fn returned(progress: Progress) -> Progress
+    ensures { λ r. ⌜ r ≡ returned progress ⌝ }
 {
-    let went = stepper::entering::op_end_call(gone.machine, next_of(gone.machine));
-    turned(gone.machine, gone.left, went)
+    let went = stepper::entering::op_end_call(progress.machine, next_of(progress.machine));
+    turned(progress.machine, progress.left, went)
 }
 
 // After CALL, which changes no slot.
 pub(crate) fn called(
     stack: &mut [u64; 1000],
     ends: &mut [u32; 1024],
-    gone: Progress,
+    progress: Progress,
     task: Task,
 ) -> Progress
-    ensures { λ r. ⌜ after (after r (now (stack .exit))) (now (ends .exit)) ≡ after (after (called (now (stack .entry)) (now (ends .entry)) gone task) (now (stack .entry))) (now (ends .entry)) ⌝ }
+    ensures { λ r. ⌜ after (after r (now (stack .exit))) (now (ends .exit)) ≡ after (after (called (now (stack .entry)) (now (ends .entry)) progress task) (now (stack .entry))) (now (ends .entry)) ⌝ }
 {
-    let went = stepper::entering::op_call(stack, ends, gone.machine, next_of(gone.machine), task);
-    turned(gone.machine, gone.left, went)
+    let went = stepper::entering::op_call(
+        stack,
+        ends,
+        progress.machine,
+        next_of(progress.machine),
+        task,
+    );
+    turned(progress.machine, progress.left, went)
 }
 
 // After S_SAVE: the length of the image is kept.
@@ -108,14 +114,14 @@ pub(crate) fn saved(machine: Machine, left: u64, result: SaveResult) -> Progress
 }
 
 // The end of a run.
-pub(crate) fn ran(gone: Progress) -> RunEnd
-    ensures { λ r. ⌜ r ≡ ran gone ⌝ }
+pub(crate) fn ran(progress: Progress) -> RunEnd
+    ensures { λ r. ⌜ r ≡ ran progress ⌝ }
 {
-    let machine = gone.machine;
-    let outcome = gone.outcome;
+    let machine = progress.machine;
+    let outcome = progress.outcome;
     RunEnd {
         machine,
-        left: gone.left,
+        left: progress.left,
         outcome,
     }
 }

@@ -1,11 +1,11 @@
--- `runner::gone::turned` meets its contract.
+-- `runner::progress::turned` meets its contract.
 use Rattle.mechanism.specs.Turns.{turned}
 use borrow.Author.Needs.{needs}
-use Rattle.runner.proofs.gone.turned.Statement.{statement}
-use Rattle.runner.proofs.gone.turned.Tie as tie
-use Rattle.runner.proofs.gone.turned.Reads as reads
-use Rattle.runner.proofs.gone.turned.Lts as lts
-use Rattle.runner.proofs.gone.spent.Reads as spent-reads
+use Rattle.runner.proofs.progress.turned.Statement.{statement}
+use Rattle.runner.proofs.progress.turned.Tie as tie
+use Rattle.runner.proofs.progress.turned.Reads as reads
+use Rattle.runner.proofs.progress.turned.Lts as lts
+use Rattle.runner.proofs.progress.spent.Reads as spent-reads
 
 enum-known-went : tie.Need-enum-known-went
 enum-known-went c = search needs

@@ -1,13 +1,13 @@
--- `runner::gone::called` meets its contract.
+-- `runner::progress::called` meets its contract.
 use borrow.Author.Needs.{needs}
 use Rattle.runner.specs.Going.{called}
-use Rattle.runner.proofs.gone.called.Statement.{statement}
-use Rattle.runner.proofs.gone.called.Tie as tie
-use Rattle.runner.proofs.gone.called.Reads as reads
-use Rattle.runner.proofs.gone.called.Lts as lts
+use Rattle.runner.proofs.progress.called.Statement.{statement}
+use Rattle.runner.proofs.progress.called.Tie as tie
+use Rattle.runner.proofs.progress.called.Reads as reads
+use Rattle.runner.proofs.progress.called.Lts as lts
 use Rattle.stepper.proofs.entering.op_call.Reads as op-call-reads
-use Rattle.runner.proofs.gone.next_of.Reads as next-of-reads
-use Rattle.runner.proofs.gone.turned.Reads as turned-reads
+use Rattle.runner.proofs.progress.next_of.Reads as next-of-reads
+use Rattle.runner.proofs.progress.turned.Reads as turned-reads
 
 next-of-requires : tie.Need-next-of-requires
 next-of-requires c κs = search needs
