@@ -1,4 +1,5 @@
 -- Lines and listings as document 01 and the decisions print them, computed from `text` and `listing`.
+use Prim.Native.Nat.{ℕ}
 use mathlib.Core.Bool.{true}
 use mathlib.Core.List.{[], _∷_}
 use mathlib.Core.Path.{_≡_, refl}
@@ -57,10 +58,10 @@ unfolding height-of
 paused-not-listed = refl
 
 -- the words that are listed are those at the bottom, and no more than there are
-pub words-listed : take 2 (7 ∷ 8 ∷ 9 ∷ []) ≡ 7 ∷ 8 ∷ []
+pub words-listed : take {A = ℕ} 2 (7 ∷ 8 ∷ 9 ∷ []) ≡ 7 ∷ 8 ∷ []
 words-listed = refl
 
-pub all-words-listed : take 4 (7 ∷ 8 ∷ []) ≡ 7 ∷ 8 ∷ []
+pub all-words-listed : take {A = ℕ} 4 (7 ∷ 8 ∷ []) ≡ 7 ∷ 8 ∷ []
 all-words-listed = refl
 
 -- details, one space before each
