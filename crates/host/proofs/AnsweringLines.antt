@@ -1,13 +1,13 @@
 -- Lines put from a place of a buffer on, one after the other, and the listing that they make.
-use Prim.Native.Nat.{ℕ, suc, _+_, _-_, _≤_, _<_}
+use Prim.Native.Nat.{ℕ, _+_, _-_, _≤_, _<_}
 use mathlib.Core.Bool.{Bool, true, false}
 use mathlib.Core.List.{List, [], _∷_}
 use mathlib.Core.Path.{_≡_, refl, sym, ap, _∙_}
 use native.Mathlib.Numerals.{add-one}
 use native.Mathlib.Omega.{arith}
 use lib.Dec.{leb, ltb}
-use lib.ListN.{length, take, drop, getD, drop-of-length-le}
-use lib.Seq.{sets, length-sets, drop-cons, take-all}
+use lib.ListN.{length, drop, getD, drop-of-length-le}
+use lib.Seq.{sets, length-sets, drop-cons}
 use borrow.Author.Tests.{le-leb, lt-leb, lt-ltb, le-ltb, leb-true, leb-false}
 use borrow.Rule.Slice.PartMut.{midOf, putMid, mid-len}
 use Rattle.slices.proofs.SlicesWrites.{put-tail}

@@ -1,7 +1,6 @@
 -- The line of a value that is read over memory of bytes, and over a pool whose entries have at most 65,536 bytes, fits into 196,608 bytes.
 use Prim.Native.Nat.{ℕ, zero, suc, _*_, min, _≤_, _<_}
 use mathlib.Core.List.{List, [], _∷_}
-use mathlib.Core.Path.{_≡_, refl, ap}
 use native.Mathlib.Omega.{arith}
 use lib.Dec.{ltb}
 use lib.ListN.{length, getD, take, drop, length-append, length-take}

@@ -26,10 +26,10 @@ fn low(number: usize) -> u8
 }
 
 // The first 14 bytes of a kind 2 record.
-fn opening(body: usize, task: TaskId, count: u8, state: u8, title: usize) -> [u8; 14]
-    ensures { λ r. ⌜ r ≡ little-endian 4 body ++ little-endian 2 2 ++ little-endian 4 (task .0) ++ count ∷ state ∷ little-endian 2 title ⌝ }
+fn opening(body: usize, id: TaskId, count: u8, state: u8, title: usize) -> [u8; 14]
+    ensures { λ r. ⌜ r ≡ little-endian 4 body ++ little-endian 2 2 ++ little-endian 4 (id .0) ++ count ∷ state ∷ little-endian 2 title ⌝ }
 {
-    let id = task.0 as usize;
+    let number = id.0 as usize;
     [
         low(body),
         low(body / 256),
@@ -37,10 +37,10 @@ fn opening(body: usize, task: TaskId, count: u8, state: u8, title: usize) -> [u8
         low(body / 256 / 256 / 256),
         2,
         0,
-        low(id),
-        low(id / 256),
-        low(id / 256 / 256),
-        low(id / 256 / 256 / 256),
+        low(number),
+        low(number / 256),
+        low(number / 256 / 256),
+        low(number / 256 / 256 / 256),
         count,
         state,
         low(title),
@@ -49,10 +49,10 @@ fn opening(body: usize, task: TaskId, count: u8, state: u8, title: usize) -> [u8
 }
 
 // A kind 1 record.
-fn heading(next: TaskId, count: usize) -> [u8; 14]
-    ensures { λ r. ⌜ r ≡ header (next .0) count ⌝ }
+fn heading(next_id: TaskId, count: usize) -> [u8; 14]
+    ensures { λ r. ⌜ r ≡ header («next_id» .0) count ⌝ }
 {
-    let next_id = next.0 as usize;
+    let number = next_id.0 as usize;
     [
         8,
         0,
@@ -60,10 +60,10 @@ fn heading(next: TaskId, count: usize) -> [u8; 14]
         0,
         1,
         0,
-        low(next_id),
-        low(next_id / 256),
-        low(next_id / 256 / 256),
-        low(next_id / 256 / 256 / 256),
+        low(number),
+        low(number / 256),
+        low(number / 256 / 256),
+        low(number / 256 / 256 / 256),
         low(count),
         low(count / 256),
         low(count / 256 / 256),

@@ -1,7 +1,7 @@
 // A line of the listing on standard output. What is printed is no part of a contract.
 ghost use mathlib.Core.Path.{_≡_};
 ghost use Rattle.text.specs.Lines.{lined, put-line};
-ghost use Rattle.printer.specs.Listed.{listed, call-line};
+ghost use Rattle.printer.specs.Listed.{values-listed, call-line};
 use crate::CallOutcome;
 use crate::emit;
 use errors::Refusal;
@@ -25,8 +25,8 @@ fn no_ends() -> [u32; 1024] {
 }
 
 // How many values are listed: no more than a stack has.
-pub(crate) fn listed(answered: CallOutcome) -> usize
-    ensures { λ r. ⌜ r ≡ listed answered ⌝ }
+pub(crate) fn values_listed(answered: CallOutcome) -> usize
+    ensures { λ r. ⌜ r ≡ values-listed answered ⌝ }
 {
     let head = answered.head;
     let height = height_of(head, answered.machine.height);
@@ -51,7 +51,7 @@ fn call_line<'a>(
     ensures { λ r. ⌜ lined r (now (room .exit)) ≡ put-line (now (room .entry)) (call-line answered (now (stack .entry)) (now (memory .entry)) (now (pool .entry)) (now (ends .entry)) living task number) ⌝ }
 {
     let head = answered.head;
-    let words = words_of(stack, listed(answered));
+    let words = words_of(stack, values_listed(answered));
     let used = slices::part(memory, 0, answered.machine.memory);
     line_at(
         room,

@@ -11,9 +11,9 @@ use crate::asked::ran;
 use crate::asked::saved;
 use crate::asked::verb_at;
 use crate::asked::verb_of;
-use crate::listing_lines::listed;
 use crate::listing_lines::show_creation;
 use crate::listing_lines::show_line;
+use crate::listing_lines::values_listed;
 use crate::machine_lines::show_call;
 use crate::machine_lines::show_machine;
 use listing::lines::line_count;
@@ -34,7 +34,7 @@ fn show_listing(
     ensures { λ _. ⌜ (now (table .exit) ≡ now (table .entry)) × (now (stack .exit) ≡ now (stack .entry)) × (now (memory .exit) ≡ now (memory .entry)) × (now (pool .exit) ≡ now (pool .entry)) × (now (ends .exit) ≡ now (ends .entry)) ⌝ }
 {
     let living = table::slots::living(table);
-    let values = listed(answered);
+    let values = values_listed(answered);
     let count = line_count(values, table.len());
     let mut number = 0;
     while number < count {

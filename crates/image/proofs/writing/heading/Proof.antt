@@ -5,8 +5,8 @@ use Rattle.image.specs.Image.{header, record-of}
 use Rattle.slices.specs.Numbers.{little-endian}
 use Rattle.image.proofs.writing.heading.Tie as tie
 
-cast-next-id : tie.Need-cast-next-id
-cast-next-id c = search needs
+cast-number : tie.Need-cast-number
+cast-number c = search needs
 
 low-requires : tie.Need-low-requires
 low-requires c κs = search needs
@@ -41,7 +41,7 @@ pub heading-spec : {M : Type 1} → statement M
 heading-spec =
     tie.close
     (tie.spec
-    cast-next-id
+    cast-number
     low-requires
     low-requires-2
     low-requires-3

@@ -4,8 +4,8 @@ use Rattle.image.proofs.writing.opening.Statement.{statement}
 use Rattle.slices.specs.Numbers.{little-endian}
 use Rattle.image.proofs.writing.opening.Tie as tie
 
-cast-id : tie.Need-cast-id
-cast-id c = search needs
+cast-number : tie.Need-cast-number
+cast-number c = search needs
 
 low-requires : tie.Need-low-requires
 low-requires c κs = search needs
@@ -46,7 +46,7 @@ pub opening-spec : {M : Type 1} → statement M
 opening-spec =
     tie.close
     (tie.spec
-    cast-id
+    cast-number
     low-requires
     low-requires-2
     low-requires-3

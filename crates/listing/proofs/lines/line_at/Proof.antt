@@ -5,13 +5,6 @@ use Rattle.listing.proofs.LineByLine.{past-two, past-all, by-first, by-
 use borrow.Author.Needs.{needs}
 use Rattle.listing.proofs.lines.line_at.Statement.{statement}
 use Rattle.listing.proofs.lines.line_at.Tie as tie
-use Rattle.listing.proofs.lines.line_at.Reads as reads
-use Rattle.listing.proofs.lines.line_at.Lts as lts
-use Rattle.listing.proofs.count_line.Reads as count-line-reads
-use Rattle.listing.proofs.head_line.head_line.Reads as head-line-reads
-use Rattle.listing.proofs.task_line.task_line.Reads as task-line-reads
-use Rattle.listing.proofs.value_line.value_line.Reads as value-line-reads
-use Rattle.memory.proofs.unbox.unbox_value.Reads as unbox-value-reads
 
 head-line-requires : tie.Need-head-line-requires
 head-line-requires c κs = search needs

@@ -4,9 +4,6 @@ use Rattle.listing.specs.Listing.{line-count}
 use borrow.Author.Needs.{needs}
 use Rattle.listing.proofs.lines.line_count.Statement.{statement}
 use Rattle.listing.proofs.lines.line_count.Tie as tie
-use Rattle.listing.proofs.lines.line_count.Reads as reads
-use Rattle.listing.proofs.lines.line_count.Lts as lts
-use Rattle.std.proofs.num.wrapping_add_usize.Reads as wrapping-add-usize-reads
 
 wrapping-add-usize-requires : tie.Need-wrapping-add-usize-requires
 wrapping-add-usize-requires c κs = search needs

@@ -4,8 +4,6 @@ use Rattle.listing.specs.Listing.{slot-shown}
 use borrow.Author.Needs.{needs}
 use Rattle.listing.proofs.lines.slot_shown.Statement.{statement}
 use Rattle.listing.proofs.lines.slot_shown.Tie as tie
-use Rattle.listing.proofs.lines.slot_shown.Reads as reads
-use Rattle.listing.proofs.lines.slot_shown.Lts as lts
 
 returns : tie.Need-returns
 unfolding slot-shown

@@ -2,15 +2,9 @@
 use borrow.Author.Needs.{needs}
 use Rattle.printer.proofs.listing_lines.call_line.Statement.{statement}
 use Rattle.printer.proofs.listing_lines.call_line.Tie as tie
-use Rattle.printer.proofs.listing_lines.call_line.Reads as reads
-use Rattle.printer.proofs.listing_lines.call_line.Lts as lts
-use Rattle.listing.proofs.lines.line_at.Reads as line-at-reads
-use Rattle.listing.proofs.lines.words_of.Reads as words-of-reads
-use Rattle.printer.proofs.listing_lines.listed.Reads as listed-reads
-use Rattle.slices.proofs.part.Reads as part-reads
 
-listed-requires : tie.Need-listed-requires
-listed-requires c κs = search needs
+values-listed-requires : tie.Need-values-listed-requires
+values-listed-requires c κs = search needs
 
 words-of-requires : tie.Need-words-of-requires
 words-of-requires c κs = search needs
@@ -26,10 +20,10 @@ same-length c = search needs
 
 returns : tie.Need-returns
 returns c =
-    rw (← c .before .before .before .before .part .ensures, ← c .before .before .before .before .before .before .listed .ensures, ← c .before .before .before .before .before .words-of .ensures)
+    rw (← c .before .before .before .before .part .ensures, ← c .before .before .before .before .before .before .values-listed .ensures, ← c .before .before .before .before .before .words-of .ensures)
     (c .before .before .line-at .ensures)
 
 pub call-line-spec : {M : Type 1} → statement M
 call-line-spec =
     tie.close
-    (tie.spec listed-requires words-of-requires part-requires line-at-requires same-length returns)
+    (tie.spec values-listed-requires words-of-requires part-requires line-at-requires same-length returns)

@@ -1,5 +1,5 @@
 -- `printer::shows::show_listing` meets its contract: a walk of its MIR by hand, with a loop that carries what is lent from line to line.
-use Prim.Native.Nat.{ℕ, _<_, _≤_, _-_, _+_, _%_, _^_}
+use Prim.Native.Nat.{ℕ, _<_, _≤_, _-_, _+_, _^_}
 use mathlib.Core.Path.{_≡_, _∙_, refl, ap}
 use mathlib.Core.Bool.{true, false}
 use mathlib.Core.WellFounded.{InvImage·wf}
@@ -54,7 +54,6 @@ use Rattle.storage.specs.Table.{living-of}
 use Rattle.storage.proofs.Task as task
 use Rattle.storage.proofs.Task.Laws as task-laws
 use Rattle.storage.proofs.Records.{R, table-ty, val, makes, typed}
-use Rattle.listing.specs.Listing.{line-count, slot-shown}
 use Rattle.printer.specs.declared.CallOutcome.{CallOutcome}
 use Rattle.printer.proofs.CallOutcome as answered
 use Rattle.printer.proofs.Values.{answered-shut, answered-vals}
@@ -62,10 +61,10 @@ use Rattle.table.proofs.slots.living.Symbol.{name as #counts}
 use Rattle.table.proofs.slots.living as counts
 use Rattle.table.proofs.slots.living.Symbol as counts-def
 use Rattle.table.proofs.slots.living.Met as counts-thm
-use Rattle.printer.proofs.listing_lines.listed.Symbol.{name as #lists}
-use Rattle.printer.proofs.listing_lines.listed as lists
-use Rattle.printer.proofs.listing_lines.listed.Symbol as lists-def
-use Rattle.printer.proofs.listing_lines.listed.Met as lists-thm
+use Rattle.printer.proofs.listing_lines.values_listed.Symbol.{name as #lists}
+use Rattle.printer.proofs.listing_lines.values_listed as lists
+use Rattle.printer.proofs.listing_lines.values_listed.Symbol as lists-def
+use Rattle.printer.proofs.listing_lines.values_listed.Met as lists-thm
 use Rattle.listing.proofs.lines.line_count.Symbol.{name as #counts-lines}
 use Rattle.listing.proofs.lines.line_count as counts-lines
 use Rattle.listing.proofs.lines.line_count.Symbol as counts-lines-def
@@ -312,7 +311,7 @@ show-listing-spec 𝓤 H 𝓜 𝓖 𝓡 =
     (tables 𝓤 H 𝓜 𝓡 code.env .C) (tables 𝓤 H 𝓜 𝓡 code.env .Λ) #this code.function (code.unfolded 𝓤 H 𝓜 𝓡)
     (meets 𝓤 H (𝓖 .A) (givenOf 𝓤 H 𝓜 𝓖) (𝓜 .mem) (𝓡 .run) (tablesOf 𝓤 H 𝓜 (tables 𝓤 H 𝓜 𝓡 code.env))
     (cited 𝓤 H (counts-con 𝓤 H (𝓖 .A) (𝓜 .mem) (𝓡 .run)) 𝓜 𝓡 code.env #counts counts-def.routine code.calls-table·slots·living (counts-thm.met 𝓤 H 𝓜 𝓖 𝓡))
-    (cited 𝓤 H (lists-con 𝓤 H (𝓖 .A) (𝓜 .mem) (𝓡 .run)) 𝓜 𝓡 code.env #lists lists-def.routine code.calls-printer·listing-lines·listed (lists-thm.met 𝓤 H 𝓜 𝓖 𝓡))
+    (cited 𝓤 H (lists-con 𝓤 H (𝓖 .A) (𝓜 .mem) (𝓡 .run)) 𝓜 𝓡 code.env #lists lists-def.routine code.calls-printer·listing-lines·values-listed (lists-thm.met 𝓤 H 𝓜 𝓖 𝓡))
     (cited 𝓤 H (counts-lines-con 𝓤 H (𝓖 .A) (𝓜 .mem) (𝓡 .run)) 𝓜 𝓡 code.env #counts-lines counts-lines-def.routine code.calls-listing·lines·line-count (counts-lines-thm.met 𝓤 H 𝓜 𝓖 𝓡))
     (cited 𝓤 H (finds-con 𝓤 H (𝓖 .A) (𝓜 .mem) (𝓡 .run)) 𝓜 𝓡 code.env #finds finds-def.routine code.calls-listing·lines·slot-shown (finds-thm.met 𝓤 H 𝓜 𝓖 𝓡))
     (cited 𝓤 H (gets-con 𝓤 H (𝓖 .A) (𝓜 .mem) (𝓡 .run)) 𝓜 𝓡 code.env #gets gets-def.routine code.calls-table·get (gets-thm.met 𝓤 H 𝓜 𝓖 𝓡))
