@@ -65,7 +65,7 @@ text-put-line-says met = met
 
 abbrev pub image-test-image : Line image.reading.test_image.ended
 image-test-image _ image r =
-    r ≡ Reading.tested (read-image (now (image .entry)))
+    r ≡ Reading.image-result (read-image (now (image .entry)))
 
 pub image-test-image-says : {M : Type 1} → image.reading.test_image.Statement.statement M → Answers M image.reading.test_image.ended image.reading.test_image.Symbol.routine image-test-image
 image-test-image-says met = met
@@ -212,7 +212,7 @@ host-rafenuma-admit-says met = met
 
 abbrev pub host-rafenuma-test-image : Line host.rafenuma_test_image.ended
 host-rafenuma-test-image _ image r =
-    r ≡ packed-image (Reading.tested (read-image (now (image .entry))))
+    r ≡ packed-image (Reading.image-result (read-image (now (image .entry))))
 
 pub host-rafenuma-test-image-says : {M : Type 1} → host.rafenuma_test_image.Statement.statement M → Answers M host.rafenuma_test_image.ended host.rafenuma_test_image.Symbol.routine host-rafenuma-test-image
 host-rafenuma-test-image-says met = met
