@@ -151,6 +151,26 @@ fn a_paused_run_is_saved() {
     }
 }
 
+/// Creates the task "Ab" with 3 states and no instructions, then pushes a number.
+const CREATES: &[u8] = &[0x1b, 0, 2, 4, 1, 0x41, 0x62, 0x06, 3, 0x04, 0, 0, 0x07, 0x03, 9];
+
+#[test]
+fn an_image_of_a_paused_run_creates_twice() {
+    let paused = go_with(&[], CREATES, 4, 65_536, 1_048_576, 4_096);
+    assert_eq!(paused.text(), "paused 4\nvalues 0\ntasks 1\ntask 0 0 Ab\n");
+    let twice = go(paused.image(), CREATES).text();
+    assert_eq!(twice, "done 5\nvalues 1\nu32 9\ntasks 2\ntask 0 0 Ab\ntask 1 0 Ab\n", "what docs/HOST.md warns of");
+    let once = go(&[], CREATES).text();
+    assert_eq!(once, "done 5\nvalues 1\nu32 9\ntasks 1\ntask 0 0 Ab\n", "the first image and the whole fuel");
+}
+
+#[test]
+fn a_done_run_may_list_a_value_that_cannot_be_read() {
+    let after = go(&[], &[0x1b, 0, 1, 4, 1, 0xff]);
+    assert_eq!((after.run.outcome, after.run.refusal), (Outcome::Done, None));
+    assert_eq!(after.text(), "done 1\nvalues 1\nbad 15\ntasks 0\n");
+}
+
 #[test]
 fn a_listing_without_room_is_measured() {
     let whole = go(I1, C1).text();
