@@ -105,12 +105,12 @@ mechanism-finish _ stack registers place height result r =
 pub mechanism-finish-says : {M : Type 1} → mechanism.stack.finish.Statement.statement M → Answers M mechanism.stack.finish.ended mechanism.stack.finish.Symbol.routine mechanism-finish
 mechanism-finish-says met = met
 
-abbrev pub stepper-store : Line stepper.store.store.ended
-stepper-store _ stack memory payload registers next height size tag r =
+abbrev pub mechanism-store : Line mechanism.store.store.ended
+mechanism-store _ stack memory payload registers next height size tag r =
     on-memory r (now (stack .exit)) (now (memory .exit)) ≡ store (now (stack .entry)) (now (memory .entry)) (now (payload .entry)) (registers .entry) (next .entry) (height .entry) (size .entry) (tag .entry)
 
-pub stepper-store-says : {M : Type 1} → stepper.store.store.Statement.statement M → Answers M stepper.store.store.ended stepper.store.store.Symbol.routine stepper-store
-stepper-store-says met = met
+pub mechanism-store-says : {M : Type 1} → mechanism.store.store.Statement.statement M → Answers M mechanism.store.store.ended mechanism.store.store.Symbol.routine mechanism-store
+mechanism-store-says met = met
 
 abbrev pub stepper-advance : Line stepper.advance.advance.ended
 stepper-advance _ stack memory pool ends machine fuel r =

@@ -2,6 +2,7 @@
 pub mod changes;
 pub mod machines;
 pub mod stack;
+pub mod store;
 
 use errors::Refusal;
 use inlinevec::Loops;

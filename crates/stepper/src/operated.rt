@@ -5,12 +5,12 @@ ghost use Rattle.mechanism.specs.Registers.{on-stack, on-memory};
 ghost use Rattle.mechanism.specs.Operated.{push-u8, m-st, m-sti-of, m-sti};
 use crate::pushes::op_push;
 use crate::store::op_m_st;
-use crate::store::store;
 use bytecode::OperandResult;
 use bytecode::operands::prepare_u8;
 use bytecode::operands::prepare_u16_from_be_checked;
 use mechanism::Registers;
 use mechanism::RegistersResult;
+use mechanism::store::store;
 
 // PUSH_STATE, PUSH_MAX_STATES, PUSH_TASK_FIELD.
 pub(crate) fn push_u8(

@@ -8,7 +8,7 @@ use Rattle.task_opcodes.proofs.t_fields.get_field.Tie as tie
 use Rattle.task_opcodes.proofs.t_fields.get_field.Reads as reads
 use Rattle.task_opcodes.proofs.t_fields.get_field.Lts as lts
 use Rattle.mechanism.proofs.stack.push_value.Reads as push-value-reads
-use Rattle.stepper.proofs.store.store.Reads as store-reads
+use Rattle.mechanism.proofs.store.store.Reads as store-reads
 use Rattle.slices.proofs.part.Reads as part-reads
 use Rattle.task_opcodes.proofs.titles.title_length.Reads as title-length-reads
 use Rattle.values.proofs.boxing.to_calldata_val.Reads as to-calldata-val-reads

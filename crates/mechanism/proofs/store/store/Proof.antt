@@ -1,9 +1,9 @@
--- `stepper::store::store` meets its contract.
+-- `mechanism::store::store` meets its contract.
 use borrow.Author.Needs.{needs}
 use borrow.Author.Tests.{le-leb, lt-leb}
-use Rattle.stepper.proofs.store.store.Statement.{statement}
+use Rattle.mechanism.proofs.store.store.Statement.{statement}
 use Rattle.mechanism.specs.Store.{placed, store}
-use Rattle.stepper.proofs.store.store.Tie as tie
+use Rattle.mechanism.proofs.store.store.Tie as tie
 
 full-requires : tie.Need-full-requires
 full-requires c κs = search needs

@@ -1,8 +1,8 @@
--- `stepper::store::full` meets its contract.
+-- `mechanism::store::full` meets its contract.
 use borrow.Author.Needs.{needs}
-use Rattle.stepper.proofs.store.full.Statement.{statement}
+use Rattle.mechanism.proofs.store.full.Statement.{statement}
 use Rattle.mechanism.specs.Store.{full-by, full}
-use Rattle.stepper.proofs.store.full.Tie as tie
+use Rattle.mechanism.proofs.store.full.Tie as tie
 
 vector-requires : tie.Need-vector-requires
 vector-requires c κs = search needs
