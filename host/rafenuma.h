@@ -35,7 +35,7 @@ enum rafenuma_answer {
  *   image      the tasks to begin with: a task image, of length 0 for none; never changed
  *   program    1 to 65,535 bytes (else 1 or 28); never changed
  *   new_image  where S_SAVE, and after a run that is done or paused the save by the host, write the tasks; bytes past the image stay
- *   listing    where the listing of document 01 is written, whole or not at all; bytes past it stay
+ *   listing    where the listing (docs/REFERENCE.md, 'The listing') is written, whole or not at all; bytes past it stay
  *   answer     eight numbers, all of them written (enum rafenuma_answer)
  *   fuel       the instructions that may be finished
  *
