@@ -2,7 +2,7 @@
  *
  * Each function answers for every input, reads and writes only inside what is lent, keeps nothing between two calls, and allocates
  * nothing. What is lent is lent for the call alone: no other thread touches it meanwhile, no two of the buffers overlap, and no pointer
- * is NULL, also where its length is 0. Calls with buffers of their own may run at the same time. A run needs 352 KB of stack and an
+ * is NULL, also where its length is 0. Calls with buffers of their own may run at the same time. A run needs 320 KB of stack and an
  * admission 1,040 KB, as measured (docs/HOST.md): a thread of 2 MB has room.
  *
  * docs/HOST.md says the same at length. The definitions that the functions are proved to meet stand in crates/host/specs.
@@ -35,7 +35,7 @@ enum rafenuma_answer {
  *   image      the tasks to begin with: a task image, of length 0 for none; never changed
  *   program    1 to 65,535 bytes (else 1 or 28); never changed
  *   new_image  where S_SAVE, and after a run that is done or paused the save by the host, write the tasks; bytes past the image stay
- *   listing    where the listing of document 01 is written, whole or not at all; bytes past it stay
+ *   listing    where the listing (docs/REFERENCE.md, 'The listing') is written, whole or not at all; bytes past it stay
  *   answer     eight numbers, all of them written (enum rafenuma_answer)
  *   fuel       the instructions that may be finished
  *

@@ -4,7 +4,7 @@
 // makes the machine anew and runs it up to the sum; and since a refused instruction of the Rust leaves popped values behind, a machine that
 // refused is made anew and run up to the instruction before. Images are handed to the Rust, and taken from it, as the file tasks.bin of its
 // own form, in a folder of this process's own. Where the Rust panics the first line of the call is `panic`, and the case ends there.
-// Images are taken to be sound, and no capacity is added: those answers are not the Rust's.
+// Images are taken to be sound, and the limits that this port adds are not tested: those answers are not the Rust's.
 //
 // The build `plain` has the Rust's own pool in place of counted.rs. It takes no fuel and counts nothing (`done 0`), and of a refusal it tells
 // the tasks and no more, and the case ends there.
@@ -83,7 +83,7 @@ pub(crate) fn forget_file() {
     let _ = std::fs::remove_file(FILE);
 }
 
-// Document 01's numbers and details of the Rust's errors.
+// The numbers and details that the Rust's errors have here (docs/REFERENCE.md, 'Refusals').
 fn refused(error: VMError) -> String {
     match error {
         VMError::EmptyInstructions => "1".into(),
@@ -131,7 +131,7 @@ impl<'a> Reader<'a> {
     }
 }
 
-// The tasks of document 01's image.
+// The tasks of an image (docs/REFERENCE.md, 'The task image').
 fn read_image(image: &[u8]) -> StorageData {
     let mut records = Reader(image);
     let mut data = StorageData { tasks: Vec::new(), next_id: 0 };
@@ -156,7 +156,7 @@ fn record(kind: u16, body: &[u8]) -> Vec<u8> {
     [&(body.len() as u32).to_le_bytes(), &kind.to_le_bytes()[..], body].concat()
 }
 
-// Document 01's image of these tasks.
+// The image of these tasks (docs/REFERENCE.md, 'The task image').
 fn write_image(data: &StorageData) -> Vec<u8> {
     let mut image = record(1, &[data.next_id.to_le_bytes(), (data.tasks.len() as u32).to_le_bytes()].concat());
     for task in &data.tasks {
@@ -229,7 +229,7 @@ impl Case<'_> {
         forget_file();
     }
 
-    // What the Rust has saved since the file was forgotten, as document 01's image.
+    // What the Rust has saved since the file was forgotten, as an image.
     fn take_file(&mut self) {
         if let Ok(bytes) = std::fs::read(FILE) {
             self.saved = write_image(&StorageData::decode(&mut &bytes[..]).unwrap_or_else(|_| panic!("the Rust wrote it")));

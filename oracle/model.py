@@ -1,10 +1,10 @@
 #!/usr/bin/env python3
-"""Document 01's machine as a plain interpreter, and the lines that `replay` prints for a batch: a second reading of the document.
+"""The machine of docs/REFERENCE.md as a plain interpreter, and the lines that `replay` prints for a batch: a second reading of the requirements.
 
     oracle/model.py < batch
 
-Written from document 01 and docs/DECISIONS.md; it shares nothing with the proved code, and oracle/compare holds it to the Rust. A scalar is the
-pair (tag, payload), a vector the triple (tag, offset, size). Every instruction makes its tests first, in the order of its refusals, and
+Written from the requirements and docs/DECISIONS.md; it shares nothing with the proved code, and oracle/compare holds it to the Rust. A scalar is
+the pair (tag, payload), a vector the triple (tag, offset, size). Every instruction makes its tests first, in the order of its refusals, and
 changes the machine only when all are passed.
 """
 import struct, sys

@@ -1,4 +1,4 @@
-"""Every outcome that document 01 gives an opcode, and a machine that notes which ones a case reaches."""
+"""Every outcome of an opcode (docs/REFERENCE.md, 'Instruction set'), and a machine that notes which ones a case reaches."""
 import model
 from model import FALSE, NUMBER, TEXT, TRUE, Refused, is_vector, number
 

@@ -95,13 +95,13 @@ fn answer(case: &[u8]) -> String {
             let end = m.len() as usize;
             let mut bytes = [0xEE; 32];
             match said {
-                // the lent memory of 32 bytes is added by the port: document 01's 23
+                // the lent memory of 32 bytes is a limit that the port adds: 23 (docs/REFERENCE.md, 'Refusals')
                 Ok(_) if end > 32 => format!("refused 23\n{}\n", hex(&bytes)),
                 Ok(v) => {
                     bytes[..end].copy_from_slice(m.get_slice_bytes(0, end as u16));
                     format!("used {end} value {v:016x}\n{}\n", hex(&bytes))
                 }
-                // a refused instruction leaves nothing behind: document 01
+                // a refused instruction leaves nothing behind: docs/REFERENCE.md, 'Control flow and fuel'
                 Err(e) => format!("{}\n{}\n", refused(e), hex(&bytes)),
             }
         }

@@ -1,4 +1,4 @@
-/* Runs document 01's case C1 over the image I1 and prints the listing, the eight numbers and the new image's length. */
+/* Runs case C1 over the image I1 (docs/REFERENCE.md, 'Cases') and prints the listing, the eight numbers and the new image's length. */
 #include "../rafenuma.h"
 #include <stdio.h>
 

@@ -29,7 +29,7 @@ pub enum Outcome {
     Refused,
 }
 
-/// A refusal of document 01: its number and its details, 0 for each that there is not.
+/// A refusal (docs/REFERENCE.md, 'Refusals'): its number and its details, 0 for each that there is not.
 #[derive(Clone, Copy, Debug, PartialEq, Eq)]
 pub struct Refusal {
     pub number: u8,

@@ -51,7 +51,7 @@ use Rattle.agreement.proofs.Run.{Same, run-same}
 
 -- ---- a report of a run
 
--- a capacity is met whatever the machine's phase is
+-- a limit that this port adds is reached whatever the machine's phase is
 over-same : (w : World) (machine : Machine) {number : Refusal} {vm : VM} → Over w number vm → Over (with-machine w machine) number vm
 over-same w machine (many-tasks over) = many-tasks over
 over-same w machine (long-title id task is over) = long-title id task is over
@@ -71,7 +71,7 @@ pub record Leaves (r : Reported) : Type 0 where
   pub bytes : Bytes (r .pool)
   pub phase : r .report .machine .phase ≡ phase-by (r .report .outcome)
 
--- an answer to the Rust's run, and what it leaves unless an added capacity is met
+-- an answer to the Rust's run, and what it leaves unless a limit that this port adds is reached
 pub data Told (r : Reported) : Ran → Type 0 where
   told-end : r .report .outcome ≡ outcome.Done → Leaves r → Told r (returned (values-of (r .report .machine .height) (r .stack)) (at-rest (world-after r)))
   told-pause : (stale : ℕ) → r .report .outcome ≡ outcome.Paused → Leaves r → Told r (running (view stale (world-after r)))

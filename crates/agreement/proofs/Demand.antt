@@ -102,7 +102,7 @@ init-agrees {program} fresh pool-bytes image-bytes program-bytes image read =
     let made = created-is fresh pool-bytes image-bytes program-bytes in
     ap (λ (i : Image). init program (stored i)) (sound-is (sym read ∙ made .read)) ∙ made .init-is
 
--- from creation on, any history of a host in which no added capacity is met
+-- from creation on, any history of a host in which no limit that this port adds is reached
 module _ {program image : List ℕ} {first : World} {vm : VM} (both : Beginning program image first vm) (calls : List HostCall) (none-met : NoneMet calls first) where
   -- the machine then, and the Rust
   abbrev later : World
@@ -117,11 +117,11 @@ module _ {program image : List ℕ} {first : World} {vm : VM} (both : Beginning 
       let made = created-is (both .fresh) (both .pool-bytes) (both .image-bytes) (both .program-bytes) in
       history-related calls none-met (subst (λ (v : VM). Related first (returned [] v)) (ok-is (sym shown ∙ both .is-initialised)) (first-related (both .fresh) made))
 
-  -- a start or a continue that the Rust takes answers the Rust's run of as many turns, or meets an added capacity with its reason
+  -- a start or a continue that the Rust takes answers the Rust's run of as many turns, or reaches a limit that this port adds, with its reason
   pub call-answers : (verb : Verb) (fuel : ℕ) → rust-takes verb rust-later ≡ true → Answers (call verb fuel later) (rust-call verb fuel rust-later)
   call-answers verb fuel takes = answers (told-call verb fuel related takes) (given-call verb fuel related takes)
 
-  -- demand 2: values, tasks, memory and refusals equal the Rust's wherever the Rust ends without a panic and no added capacity is met
+  -- demand 2: values, tasks, memory and refusals equal the Rust's wherever the Rust ends without a panic and no limit that this port adds is reached
   pub demand-2 : (verb : Verb) (fuel : ℕ) → rust-takes verb rust-later ≡ true → meets-added (call verb fuel later .report .outcome) ≡ false → RustEnds (rust-call verb fuel rust-later)
       → Equal (call verb fuel later) (rust-call verb fuel rust-later)
   demand-2 verb fuel takes not-met ends = equal (told-call verb fuel related takes) (given-call verb fuel related takes) not-met ends

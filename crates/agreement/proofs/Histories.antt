@@ -39,7 +39,7 @@ pub data Related (w : World) : Ran → Type 0 where
   it-failed : {error : VMError} {before : VM} (stale : ℕ) → Sound w → w .machine .phase ≡ Stopped → view stale w ≡ before → Related w (failed error before)
   it-panicked : Sound w → w .machine .phase ≡ Stopped → Related w panicked
 
--- ---- an added capacity
+-- ---- a limit that this port adds
 
 -- what is met is one of 20 to 24
 over-added : {w : World} {number : Refusal} {vm : VM} → Over w number vm → is-added number ≡ true

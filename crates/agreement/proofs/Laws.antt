@@ -69,7 +69,7 @@ module _ {w : World} where
   pub fails : {a : StepResult} (d : Bool) → d ≡ false → (o : Out VM) {p : Out VM} → Agree w a p → Agree w a (cond d o p)
   fails {a} d e o {p} agrees = subst (λ (t : Bool). Agree w a (cond t o p)) (sym e) agrees
 
-  -- a test of ours alone, which meets an added capacity
+  -- a test that only this machine makes, for a limit that this port adds
   pub room : {A : Type 0} (f : A → StepResult) (b : Bool) {x y : A} {vm : VM} {r : Refusal} → f x ≡ refused r → (b ≡ true → Over w r vm) → (b ≡ false → Agree w (f y) (ok vm))
       → Agree w (f (cond b x y)) (ok vm)
   room f true {x} {y} {vm} e over fits = subst (λ (a : StepResult). Agree w a (ok vm)) (sym e) (lacks (over refl))

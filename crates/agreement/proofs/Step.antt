@@ -309,7 +309,7 @@ module _ (w : World) (stale : ℕ) (h : Facts w) (bytes : Bytes (w .pool)) (insi
       either (eqb n END-CALL) (λ t. end-call (e ∙ eqb-true _ _ t)) (λ f26.
       unused n e (record { not-PUSH-U32 = f1; not-PUSH-CALLDATA = f2; not-PUSH-STATE = none-left (eqb n PUSH-STATE) (eqb n PUSH-MAX-STATES) (eqb n PUSH-TASK-FIELD) fg; not-PUSH-MAX-STATES = none-middle (eqb n PUSH-STATE) (eqb n PUSH-MAX-STATES) (eqb n PUSH-TASK-FIELD) fg; not-PUSH-TASK-FIELD = none-right (eqb n PUSH-STATE) (eqb n PUSH-MAX-STATES) (eqb n PUSH-TASK-FIELD) fg; not-MUL = f3; not-MULI = f4; not-T-CREATE = f5; not-T-GET-FIELD = f6; not-T-SET-FIELD = f7; not-T-DELETE = f8; not-S-SAVE = f9; not-S-LEN = f10; not-DO = f11; not-LOOP = f12; not-LOOP-INDEX = f13; not-JUMP-IF-FALSE = f14; not-DUP = f15; not-SWAP = f16; not-EQ = f17; not-NEQ = f18; not-LT = f19; not-GT = f20; not-M-STI = f21; not-M-ST = f22; not-M-MUTA = f23; not-DROP = f24; not-CALL = f25; not-END-CALL = f26 }))))))))))))))))))))))))))))
 
--- from a sound world before its code's end: on to the same view, an added capacity met with its reason, the error's refusal, or 2 for a panic
+-- from a sound world before its code's end: on to the same view, a limit that this port adds is reached with its reason, the error's refusal, or 2 for a panic
 pub agrees : (w : World) (stale : ℕ) → Sound w → Bytes (w .pool) → at-end w ≡ false → Agree w (step w) (rust.step (view stale w))
 unfolding at-end rust.step view code-of
 agrees w stale s bytes before =

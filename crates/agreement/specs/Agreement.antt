@@ -1,4 +1,4 @@
--- An instruction of ours beside the Rust's: which refusal an error is, when an added capacity is met, and what agrees.
+-- An instruction of ours beside the Rust's: which refusal an error is, when a limit that this port adds is reached, and what agrees.
 use Prim.Native.Nat.{ℕ, _+_, _<_, min}
 use mathlib.Core.Path.{_≡_}
 use mathlib.Core.List.{List, [], _∷_}
@@ -40,7 +40,7 @@ unfoldable pub total-length : List (List ℕ) → ℕ
 total-length [] = 0
 total-length (entry ∷ entries) = length entry + total-length entries
 
--- a task of the Rust as document 01's image holds it, its instructions taken from the pool
+-- a task of the Rust as the image holds it (docs/REFERENCE.md, 'The task image'), its instructions taken from the pool
 abbrev pub image-task : List (List ℕ) → TaskVM → ImageTask
 image-task pool task = record {
   id = task .id;
@@ -68,7 +68,7 @@ pub data Over (w : World) : Refusal → VM → Type 0 where
   long-memory : {vm : VM} → length (w .memory) < length (vm .memory) → Over w refusal.MemoryTooShort vm
   long-image : {vm : VM} → length (w .save) < length (written (image-of vm)) → Over w refusal.SaveBufferTooShort vm
 
--- from w: on to what the Rust goes on to, or an added capacity is met; where the Rust errs its error's refusal; where it panics 2
+-- from w: on to what the Rust goes on to, or a limit that this port adds is reached; where the Rust errs its error's refusal; where it panics 2
 pub data Agree (w : World) : StepResult → Out VM → Type 0 where
   goes-on : (stale : ℕ) {v : World} → Bytes (v .pool) → Agree w (next v) (ok (view stale v))
   lacks : {r : Refusal} {vm : VM} → Over w r vm → Agree w (refused r) (ok vm)

@@ -1,4 +1,4 @@
--- Demand 2, word by word: values, tasks, memory and refusals equal the Rust's wherever the Rust ends without a panic and no added capacity is met, call after call of a host until a refusal.
+-- Demand 2, word by word: values, tasks, memory and refusals equal the Rust's wherever the Rust ends without a panic and no limit that this port adds is reached, call after call of a host until a refusal.
 use Prim.Native.Nat.{ℕ}
 use mathlib.Core.Bool.{Bool, false, cond, _&&_}
 use mathlib.Core.Path.{_≡_}
@@ -50,7 +50,7 @@ pub data RustEnds : Ran → Type 0 where
   it-returns : {values : List ℕ} {vm : VM} → RustEnds (returned values vm)
   it-fails : {error : VMError} {before : VM} → RustEnds (failed error before)
 
--- the refusals of an added capacity: 20 to 24
+-- the refusals of the limits that this port adds: 20 to 24
 unfoldable pub is-added : Refusal → Bool
 is-added number = leb 20 (number-of number) && leb (number-of number) 24
 
@@ -67,7 +67,7 @@ call-meets saves w = false
 call-meets (reads-value position) w = false
 call-meets (reads-task id) w = false
 
--- no added capacity is met in a history
+-- no limit that this port adds is reached in a history
 pub data NoneMet : List HostCall → World → Type 0 where
   no-call : {w : World} → NoneMet [] w
   not-met : {one : HostCall} {others : List HostCall} {w : World} → call-meets one w ≡ false → NoneMet others (left-by one w) → NoneMet (one ∷ others) w

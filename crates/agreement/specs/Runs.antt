@@ -80,5 +80,5 @@ pub data Answers (r : Reported) : Ran → Type 0 where
       → Answers r (failed error (view stale (world-after r)))
   -- the Rust panics at the instruction that is refused with 2
   panics : (stale : ℕ) → r .report .outcome ≡ outcome.Refused refusal.UnexpectedEOB → step (view stale (world-after r)) ≡ panic → Answers r panicked
-  -- an added capacity is met: the Rust finishes that instruction with a machine that does not fit what is lent, and goes on
+  -- a limit that this port adds is reached: the Rust finishes that instruction with a machine that does not fit what is lent, and goes on
   meets : (stale : ℕ) {number : Refusal} {vm : VM} → r .report .outcome ≡ outcome.Refused number → step (view stale (world-after r)) ≡ ok vm → Over (world-after r) number vm → (ran : Ran) → Answers r ran

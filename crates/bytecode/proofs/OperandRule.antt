@@ -1,4 +1,4 @@
--- The table of operand sizes is document 01's rule: one computed test of the whole table, and the law that carries it to each entry.
+-- The table of operand sizes is the operand rule (docs/REFERENCE.md, 'Instruction set'): one computed test of the whole table, and the law that carries it to each entry.
 use Prim.Native.Nat.{ℕ, _<_}
 use mathlib.Core.Bool.{Bool}
 use mathlib.Core.List.{List, _∷_}

@@ -1,4 +1,4 @@
--- The opcodes under the Rust's names, and the operand rule of document 01.
+-- The opcodes under the Rust's names, and the operand rule (docs/REFERENCE.md, 'Instruction set').
 use Prim.Native.Nat.{ℕ}
 use mathlib.Core.Bool.{Bool, true, false, cond, _||_}
 use lib.Dec.{eqb}

@@ -1,4 +1,4 @@
--- The cases of document 01, C1 to C12, as one table, and beside it small programs for single instructions.
+-- The cases C1 to C12 (docs/REFERENCE.md, 'Cases') as one table, and beside it small programs for single instructions.
 use Prim.Native.Nat.{ℕ}
 use mathlib.Core.Bool.{true}
 use mathlib.Core.List.{List, [], _∷_, _++_}

@@ -1,4 +1,4 @@
--- The contract line of each exported function of the dear crates, said a second time: what is proved of the function is that it answers so.
+-- The contract line of each exported function of the crates that are slow to prove, said a second time: what is proved of the function is that it answers so.
 -- `statement` is what the function's crate proves of it. A proof here is the identity, so a contract that says less, or asks for something, is refused at its line. The first
 -- argument of a line, which none reads, is for the lifetimes of what is lent.
 use mathlib.Core.Path.{_≡_}

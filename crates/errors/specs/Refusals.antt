@@ -1,4 +1,4 @@
--- Document 01's table of refusal numbers: the number and the details of each refusal.
+-- The table of refusals (docs/REFERENCE.md, 'Refusals'): the number and the details of each refusal.
 use Prim.Native.Nat.{ℕ}
 use mathlib.Core.List.{List, [], _∷_}
 use Rattle.errors.specs.declared.Refusal.{Refusal}

@@ -1,4 +1,4 @@
-// The refusals of document 01, under the names of the Rust's errors.rs where it has them.
+// The refusals (docs/REFERENCE.md, 'Refusals'), under the names of the Rust's errors.rs where it has them.
 ghost use mathlib.Core.Path.{_≡_};
 ghost use Rattle.errors.specs.Refusals.{number-of, details-of, listed};
 
@@ -38,7 +38,7 @@ pub enum Details {
     Two(usize, usize),
 }
 
-// The number that document 01 gives a refusal.
+// The number of a refusal.
 pub fn number_of(refusal: Refusal) -> u32
     ensures { λ r. ⌜ r ≡ number-of refusal ⌝ }
 {
@@ -72,7 +72,7 @@ pub fn number_of(refusal: Refusal) -> u32
     }
 }
 
-// The details that document 01 gives a refusal.
+// The details of a refusal.
 pub fn details_of(refusal: Refusal) -> Details
     ensures { λ r. ⌜ listed r ≡ details-of refusal ⌝ }
 {

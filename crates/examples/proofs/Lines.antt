@@ -1,4 +1,4 @@
--- Lines and listings as document 01 and the decisions print them, computed from `text` and `listing`.
+-- Lines and listings as docs/REFERENCE.md, 'The listing', and docs/DECISIONS.md have them, computed from `text` and `listing`.
 use Prim.Native.Nat.{ℕ}
 use mathlib.Core.Bool.{true}
 use mathlib.Core.List.{[], _∷_}

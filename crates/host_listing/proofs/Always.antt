@@ -132,7 +132,7 @@ pub record Typed (p : RunSummaryIn) : Type 0 where
 abbrev pub values-left : RunSummaryIn → List ValueRead
 values-left p = values-read (take (p .answer .memory) (drop 0 (p .memory))) (p .pool) (p .ends) (p .answer .entries) (take (p .answer .height) (p .stack))
 
--- the listing of document 01
+-- the listing (docs/REFERENCE.md, 'The listing')
 abbrev pub whole : RunSummaryIn → List ℕ
 whole p = listing (p .answer .head) (values-left p) (p .table)
 
@@ -229,7 +229,7 @@ module _ (fuel : ℕ) (memory image program new-image lent : List ℕ) where
   unfolding rafenuma-run list-after own
   is-given answer = refl
 
-  -- every run's listing is that of document 01, whole from the lent buffer's start if the buffer holds it; else the buffer stays, and the length is told
+  -- every run's listing is that of docs/REFERENCE.md, 'The listing', whole from the lent buffer's start if the buffer holds it; else the buffer stays, and the length is told
   pub listed : Typed run → length lent ≤ 18446744073709551615
       → (length (whole run) ≤ length lent → given ≡ listing-of (with-lengths (length (whole run)) (length (whole run))) (sets lent 0 (whole run)))
       × (length lent < length (whole run) → given ≡ listing-of (with-lengths 0 (length (whole run))) lent)

@@ -1,4 +1,4 @@
--- The lines of the tasks, one behind the other, are those of document 01.
+-- The lines of the tasks, one behind the other, are those of the listing (docs/REFERENCE.md, 'The listing').
 use Prim.Native.Nat.{ℕ, _+_, _≤_}
 use mathlib.Core.List.{List, [], _∷_, _++_, append-nil, append-assoc}
 use mathlib.Core.Path.{_≡_, sym, ap, _∙_}

@@ -122,7 +122,7 @@ is-not-held lent l needed test = rw test
 -- ---- all lines
 
 module _ (head : Head) (values : List ValueRead) (tasks : List ℕ) where
-  -- the listing of document 01: how the run ended, how many values, the values, the lines of the tasks
+  -- the listing (docs/REFERENCE.md, 'The listing'): how the run ended, how many values, the values, the lines of the tasks
   abbrev pub text : List ℕ
   text = line-of-head head ++ (line-of-count Values (length values) ++ (lines-of-values values ++ tasks))
 
@@ -195,7 +195,7 @@ module _ (head : Head) (values : List ValueRead) (tasks : List ℕ) where
 
 -- ---- the listing of a run
 
--- the lines of a run, with those of its tasks, are the listing of document 01
+-- the lines of a run, with those of its tasks, are the listing (docs/REFERENCE.md, 'The listing')
 pub is-the-listing : (head : Head) (values : List ValueRead) (table : List Task) → text head values (text-of table) ≡ listing head values table
 unfolding listing
 is-the-listing head values table = refl

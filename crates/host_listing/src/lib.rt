@@ -1,1 +1,1 @@
-// Theorems alone: the listing that a host is given is the listing of document 01, whole or not at all.
+// Theorems alone: the listing that a host is given is the machine's listing (docs/REFERENCE.md, 'The listing'), whole or not at all.

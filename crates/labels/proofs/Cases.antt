@@ -10,7 +10,7 @@ use Rattle.labels.specs.Elements.{joined, element-end, tag-kind, field-k
 use Rattle.labels.specs.Labels.{exchanged, kinds-after, loops-after, bounded, rule, next-label}
 use Rattle.labels.specs.Check.{label-from, label-at, first-failing, first-without-rule, first-wrong-jump, admitted, refused, swept, admission}
 
--- document 01's C1: its LOOP has one kind more than its DO left
+-- case C1 (docs/REFERENCE.md, 'Cases'): its LOOP has one kind more than its DO left
 c1 : admission (1 ∷ 0 ∷ 0 ∷ 0 ∷ 0 ∷ 1 ∷ 0 ∷ 0 ∷ 0 ∷ 5 ∷ 14 ∷ 1 ∷ 0 ∷ 0 ∷ 0 ∷ 99 ∷ 15 ∷ []) ≡ refused (NotAdmitted 16)
 unfolding admission swept first-without-rule first-wrong-jump first-failing label-at label-from next-label rule bounded loops-after kinds-after exchanged element whole-element plain-element moving-element jump-element field-element with-kind field-kind tag-kind element-end joined behind data-size operand big-endian operand-size same
 c1 = refl

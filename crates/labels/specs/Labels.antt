@@ -15,7 +15,7 @@ use Rattle.labels.specs.declared.Element.{Element}
 use Rattle.labels.specs.declared.Element.the-variants.{NoRule, Kinds, Do, Loop, LoopIndex, JumpIfFalse}
 use Rattle.labels.specs.Elements.{element-end, element}
 
--- the letter that document 01 gives a kind
+-- the letter of a kind (docs/REFERENCE.md, 'Admission')
 abbrev pub letter : Kind → ℕ
 letter Number = 78
 letter Calldata = 67

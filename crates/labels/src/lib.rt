@@ -1,6 +1,6 @@
-// Document 01's admission rules: the kinds, the elements of a program, the labels, and when a program is admitted.
+// The admission rules (docs/REFERENCE.md, 'Admission'): the kinds, the elements of a program, the labels, and when a program is admitted.
 
-// The kinds, which document 01 writes N, C, B, S and V.
+// The kinds, whose letters are N, C, B, S and V.
 pub enum Kind {
     Number,
     Calldata,

@@ -129,7 +129,7 @@ module _ (table : List Task) (pool ends image program : List ℕ) where
   makes c _ (made machine also) = (machine, refl)
   makes c _ (not-made refusal n) = absurd (not-both refusal c n)
 
-  -- document 01: a machine is created exactly if the table has 256 slots, the program 1 to 65,535 bytes, the image is sound and program and instructions have room
+  -- docs/REFERENCE.md, 'Creation': a machine is created exactly if the table has 256 slots, the program 1 to 65,535 bytes, the image is sound and program and instructions have room
   pub creates-exactly : ((machine : Machine) × (create table pool ends image program .answer ≡ Created machine)) ↔ Creatable table pool image program
   creates-exactly = (
     (λ m. of-created (m .0) (subst Answered (m .1) answered)),

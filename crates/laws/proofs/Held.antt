@@ -156,7 +156,7 @@ module _ (bytes : List ℕ) (first w : World) (b : Begins bytes (first .machine)
   unfolding loaded-ids
   read-held = subst (λ (r : Parsed Image). Held (loaded-ids r ++ given) w) (sym (b .read)) both-held
 
--- document 01: no two tasks, loaded or created, have one id, and S_LEN pushes the greatest id held since creation plus 1, deleted ones included; 0 if none
+-- docs/REFERENCE.md, 'Memory, pool and tasks': no two tasks, loaded or created, have one id, and S_LEN pushes the greatest id held since creation plus 1, deleted ones included; 0 if none
 pub ids-always : (program image : List ℕ) (first : World) → FreshWorld program image first → (calls : List HostCall) → Held (held-ids image calls first) (history calls first)
 ids-always program image first fresh calls =
     read-held image first (history calls first) (fresh-ids program image first fresh) _

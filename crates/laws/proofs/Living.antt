@@ -61,7 +61,7 @@ pub living-after-call : (host-call : HostCall) (w : World) → Passes w
     → living-of (left-by host-call w .table) + total deletes (call-finished host-call w) ≡ living-of (w .table) + total creates (call-finished host-call w)
 living-after-call = along-call Balanced none one chain
 
--- document 01: the number of living tasks always equals those loaded plus finished T_CREATEs less finished T_DELETEs
+-- docs/REFERENCE.md, 'Memory, pool and tasks': the number of living tasks always equals those loaded plus finished T_CREATEs less finished T_DELETEs
 pub living-always : (program image : List ℕ) (first : World) → FreshWorld program image first → (calls : List HostCall)
     → living-of (history calls first .table) + total deletes (history-finished calls first) ≡ task-count image + total creates (history-finished calls first)
 living-always program image first fresh calls =

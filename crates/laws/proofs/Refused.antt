@@ -128,7 +128,7 @@ not-allowed-if-26 verb fuel w lent e true is =
     let refused : run fuel begins .outcome ≡ Refused WrongPhaseOrUnsound = sym (run-outcome fuel begins) ∙ ap (λ (r : Reported). r .report .outcome) (sym (call-allowed verb fuel w is)) ∙ e in
     absurd (true≢false (run-other fuel begins WrongPhaseOrUnsound passes refused))
 
--- document 01: a call that is refused outside an instruction writes nothing; 1,024 ends are what the type says
+-- docs/REFERENCE.md, 'The calls of a host': a call that is refused outside an instruction writes nothing; 1,024 ends are what the type says
 pub nothing-written : (w : World) → length (w .ends) ≡ 1024 → (host-call : HostCall) → RefusedOutside w host-call → left-by host-call w ≡ w
 unfolding left-by
 nothing-written w lent _ (not-run verb fuel e) = ap world-after (call-not-allowed verb fuel w (not-allowed-if-26 verb fuel w lent e (allowance verb w .allowed) refl))

@@ -174,7 +174,7 @@ ends-behind v = by (at-end v)
 -- ---- the statements
 
 module _ {program image : List ℕ} {w : World} (all : Bytes image) (fresh : FreshWorld program image w) where
-  -- document 01: saving after loading a non-empty image gives the same bytes, after a zero-length one a lone kind 1 of zeros; the machine keeps their length
+  -- docs/REFERENCE.md, 'The task image': saving after loading a non-empty image gives the same bytes, after a zero-length one a lone kind 1 of zeros; the machine keeps their length
   pub host-saves-first : length (saved-first image) ≤ length (w .save)
       → host-save w ≡ saved-to (record { machine = with-saved (w .machine) (length (saved-first image)); result = Saved (length (saved-first image)) })
       (w .table) (w .stack) (w .memory) (w .pool) (w .ends) (sets (w .save) 0 (saved-first image))

@@ -1,4 +1,4 @@
--- The listing of document 01, as the join of its lines.
+-- The listing (docs/REFERENCE.md, 'The listing'), as the join of its lines.
 use Prim.Native.Nat.{ℕ, zero, suc, _+_, _-_}
 use mathlib.Core.Bool.{Bool, true, false, cond}
 use mathlib.Core.List.{List, [], _∷_, _++_}

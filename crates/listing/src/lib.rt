@@ -1,4 +1,4 @@
-// The listing of document 01: what its first line tells, and its counts, a line at a time into a lent buffer.
+// The listing (docs/REFERENCE.md, 'The listing'): what its first line tells, and its counts, a line at a time into a lent buffer.
 pub mod head_line;
 pub mod lines;
 pub mod task_line;

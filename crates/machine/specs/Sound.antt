@@ -1,4 +1,4 @@
--- The unsound record, 26, clause by clause as document 01 lists it.
+-- The unsound record, 26, clause by clause (docs/REFERENCE.md, 'The unsound record').
 use Prim.Native.Nat.{ℕ}
 use mathlib.Core.Bool.{Bool, false, cond, _&&_}
 use mathlib.Core.List.{List}

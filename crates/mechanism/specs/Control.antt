@@ -1,4 +1,4 @@
--- Opcodes that choose where the run goes on, each a chain of tests in the order of document 01.
+-- Opcodes that choose where the run goes on, each a chain of tests in the order of docs/REFERENCE.md, 'Instruction set'.
 use Prim.Native.Nat.{ℕ, _+_}
 use mathlib.Core.Bool.{Bool, false, cond}
 use mathlib.Core.List.{List}

@@ -1,4 +1,4 @@
--- T_CREATE and T_DELETE, each a chain of tests in the order of document 01.
+-- T_CREATE and T_DELETE, each a chain of tests in the order of docs/REFERENCE.md, 'Instruction set'.
 use Prim.Native.Nat.{ℕ, _%_}
 use mathlib.Core.List.{List}
 use Rattle.inlinevec.specs.Stacks.{pop}

@@ -1,4 +1,4 @@
--- An instruction that the code's end cuts: 2, after the pops and tests that document 01 puts before it.
+-- An instruction that the code's end cuts: 2, after the pops and tests that stand before it in docs/REFERENCE.md, 'Instruction set'.
 use Prim.Native.Nat.{ℕ, _+_}
 use mathlib.Core.Bool.{Bool, false, cond}
 use mathlib.Core.List.{List}

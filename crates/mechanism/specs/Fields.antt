@@ -1,4 +1,4 @@
--- T_GET_FIELD and T_SET_FIELD, each a chain of tests in the order of document 01; field 0 is the title, 1 the state, 2 the instructions.
+-- T_GET_FIELD and T_SET_FIELD, each a chain of tests in the order of docs/REFERENCE.md, 'Instruction set'; field 0 is the title, 1 the state, 2 the instructions.
 use Prim.Native.Nat.{ℕ, _%_}
 use mathlib.Core.Bool.{cond}
 use mathlib.Core.List.{List}

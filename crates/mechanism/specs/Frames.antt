@@ -1,4 +1,4 @@
--- PUSH_CALLDATA, CALL and END_CALL, each a chain of tests in the order of document 01.
+-- PUSH_CALLDATA, CALL and END_CALL, each a chain of tests in the order of docs/REFERENCE.md, 'Instruction set'.
 use Prim.Native.Nat.{ℕ, _+_}
 use mathlib.Core.Bool.{Bool, true, false, cond}
 use mathlib.Core.List.{List}

@@ -1,4 +1,4 @@
--- Opcodes over the stack alone, each a chain of tests in the order of document 01; `next` is the place behind the instruction.
+-- Opcodes over the stack alone, each a chain of tests in the order of docs/REFERENCE.md, 'Instruction set'; `next` is the place behind the instruction.
 use Prim.Native.Nat.{ℕ, _+_}
 use mathlib.Core.Bool.{Bool}
 use mathlib.Core.List.{List}

@@ -165,7 +165,7 @@ module _ (pool ends : List ℕ) (bytes entries : ℕ) (calldata : List ℕ) wher
         let b = new in
         cc
 
-    -- document 01: the pool after an intern is the old list with one entry joined at its end
+    -- docs/REFERENCE.md, 'Memory, pool and tasks': the pool after an intern is the old list with one entry joined at its end
     pub joined : entries-of (after .pool) (after .ends) (entries + 1) ≡ entries-of pool ends entries ++ (calldata ∷ [])
     joined =
         let said = when-room pool ends bytes entries calldata (had-room entry used went) in

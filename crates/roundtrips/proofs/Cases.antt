@@ -1,4 +1,4 @@
--- Document 01's image I1, and small images that are refused, by computing.
+-- Image I1 (docs/REFERENCE.md, 'The task image'), and small images that are refused, by computing.
 use Prim.Native.Nat.{ℕ}
 use mathlib.Core.List.{List, [], _∷_, _++_}
 use mathlib.Core.Path.{_≡_, refl}

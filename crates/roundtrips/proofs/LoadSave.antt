@@ -173,14 +173,14 @@ module _ (bytes : List ℕ) (image : Image) (some : 0 < length bytes) (e : read-
         let l = loaded bytes image some e in
         record { few = rw (l .next-id-is) (l .head .few); tasks = rw (l .next-id-is) (again .rises) }
 
-    -- document 01: saving after loading a non-empty image gives the same bytes
+    -- docs/REFERENCE.md, 'The task image': saving after loading a non-empty image gives the same bytes
     pub load-save : written image ≡ bytes
     unfolding written
     load-save =
         let l = loaded bytes image some e in
         sym (head-again b (l .head) ∙ rw (l .next-id-is, l .count-is, ← again .same))
 
--- document 01: after a zero-length image, a save is a lone kind 1 of zeros
+-- docs/REFERENCE.md, 'The task image': after a zero-length image, a save is a lone kind 1 of zeros
 pub save-none : (image : Image) → read-image [] ≡ sound image → written image ≡ header 0 0
 unfolding read-image written records
 save-none image e =

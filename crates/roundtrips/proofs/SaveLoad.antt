@@ -140,7 +140,7 @@ module _ (image : Image) where
   unfolding written header record-of little-endian number-at
   head-kind = refl
 
--- document 01: sound tasks that are saved load again
+-- docs/REFERENCE.md, 'The task image': sound tasks that are saved load again
 pub save-load : (image : Image) → SoundImage image → read-image (written image) ≡ sound image
 unfolding read-image with-count
 save-load image s =

@@ -37,7 +37,7 @@ pub data Bad (bytes : List ℕ) : ℕ → Type 0 where
   bad-record : {place : ℕ} → Head bytes → Breaks (next-id-in bytes) 0 14 (drop 14 bytes) place → Bad bytes place
   bad-count : {tasks : List ImageTask} → Head bytes → read-from (length bytes) (next-id-in bytes) 0 14 (drop 14 bytes) ≡ sound tasks → (length tasks ≡ task-count bytes → ⊥) → Bad bytes 0
 
--- document 01: the place in 25 is the start of the first record that is cut or breaks a rule; a wrong next id and a wrong count are at 0
+-- docs/REFERENCE.md, 'The task image': the place in 25 is the start of the first record that is cut or breaks a rule; a wrong next id and a wrong count are at 0
 pub bad-image : (bytes : List ℕ) (place : ℕ) → Bytes bytes → 0 < length bytes → read-image bytes ≡ bad-at place → Bad bytes place
 unfolding with-count
 bad-image bytes place b some e = by-head (headed bytes) refl (sym (read-some bytes some) ∙ e)

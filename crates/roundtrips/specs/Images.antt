@@ -1,4 +1,4 @@
--- Document 01's image I1, and the task in it.
+-- Image I1 (docs/REFERENCE.md, 'The task image'), and the task in it.
 use Prim.Native.Nat.{ℕ}
 use mathlib.Core.List.{List, [], _∷_}
 use Rattle.image.specs.Image.{Image}

@@ -1,4 +1,4 @@
--- Which opcode a byte is: one of document 01's, or one that does nothing.
+-- Which opcode a byte is: one of docs/REFERENCE.md, 'Instruction set', or one that does nothing.
 use Prim.Native.Nat.{ℕ, suc, _≤_, _<_}
 use mathlib.Core.Path.{_≡_, refl, sym, subst}
 use mathlib.Core.Bool.{false}

@@ -1,4 +1,4 @@
--- Creation's tests in document 01's order: 26 for the table, then 1, 28, 25, 22.
+-- Creation's tests in their order (docs/REFERENCE.md, 'Creation'): 26 for the table, then 1, 28, 25, 22.
 use Prim.Native.Nat.{ℕ}
 use mathlib.Core.Bool.{cond}
 use mathlib.Core.List.{List}

@@ -25,7 +25,7 @@ fn program() -> [u8; 1] {
     [13u8]
 }
 
-// Document 01's case I1: one task, "Ab", without instructions.
+// Image I1 (docs/REFERENCE.md, 'The task image'): one task, "Ab", without instructions.
 fn one_task() -> [u8; 30] {
     [
         8u8,

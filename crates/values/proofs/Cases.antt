@@ -1,4 +1,4 @@
--- Document 01's cases C2 and C3.
+-- Cases C2 and C3 (docs/REFERENCE.md, 'Cases').
 use mathlib.Core.Path.{_≡_, refl}
 use Rattle.values.specs.Values.{make-scalar-tagged, make-vec-tagged, to-u32-val, to-vec-val}
 use Rattle.values.specs.declared.ValueResult.the-variants.{Value}
