@@ -117,7 +117,7 @@ pub record Examples : Type 0 where
   pub calldata-data : getD (stepped Calldata .pool) 4 0 ≡ 0x1d
   -- and ends behind it
   pub calldata-end : getD (stepped Calldata .ends) 1 0 ≡ 5
-  -- vm::calling::call: C1 finishes five instructions
+  -- runner::calling::call: C1 finishes five instructions
   pub start-finished : started C1 .report .finished ≡ 5
   -- and is done
   pub start-outcome : started C1 .report .outcome ≡ outcome.Done

@@ -36,7 +36,7 @@ use Rattle.table_image.proofs as tables
 use Rattle.runner.proofs as runner
 use Rattle.vm.proofs.sound as sound
 use Rattle.vm.proofs.creating as creating
-use Rattle.vm.proofs.calling as calling
+use Rattle.runner.proofs.calling as calling
 use Rattle.vm.proofs.saving as saving
 use Rattle.vm.proofs.value_reading as value-reading
 use Rattle.vm.proofs.task_reading as task-reading

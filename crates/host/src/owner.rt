@@ -26,7 +26,7 @@ fn perform(
 {
     let creation = vm::creating::create(table, pool, ends, image, program);
     let begun = machine_of(creation);
-    let report = vm::calling::call(
+    let report = runner::calling::call(
         table,
         stack,
         memory,

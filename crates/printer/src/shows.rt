@@ -61,7 +61,7 @@ fn act(
 {
     if verb < 2 {
         let asked = verb_of(verb);
-        let report = vm::calling::call(
+        let report = runner::calling::call(
             table,
             stack,
             memory,

@@ -1,5 +1,6 @@
-// The run of a machine over everything lent to it: the functions that carry the lent table of tasks from instruction to instruction.
+// A machine that runs: start and continue, and the run itself, whose functions carry the lent table of tasks from instruction to instruction.
 mod act;
+pub mod calling;
 mod progress;
 mod states;
 mod wanted;

@@ -232,7 +232,7 @@ fn attempt(
     table::put(table, slot, task);
     forge_end(ends, number);
     let fuel = fuel_of_a_start();
-    let report = vm::calling::call(
+    let report = runner::calling::call(
         table,
         stack,
         memory,

@@ -1,5 +1,4 @@
-// Vm.
-pub mod calling;
+// A machine between two runs: created, tested, read, saved.
 pub mod creating;
 pub mod saving;
 pub mod sound;

@@ -91,10 +91,10 @@ use Rattle.unsound.proofs.fuel_of_a_start.Symbol.{name as #fuels}
 use Rattle.unsound.proofs.fuel_of_a_start as fuels
 use Rattle.unsound.proofs.fuel_of_a_start.Symbol as fuels-def
 use Rattle.unsound.proofs.fuel_of_a_start.Met as fuels-thm
-use Rattle.vm.proofs.calling.call.Symbol.{name as #starts}
-use Rattle.vm.proofs.calling.call as starts
-use Rattle.vm.proofs.calling.call.Symbol as starts-def
-use Rattle.vm.proofs.calling.call.Met as starts-thm
+use Rattle.runner.proofs.calling.call.Symbol.{name as #starts}
+use Rattle.runner.proofs.calling.call as starts
+use Rattle.runner.proofs.calling.call.Symbol as starts-def
+use Rattle.runner.proofs.calling.call.Met as starts-thm
 use Rattle.unsound.proofs.show.Symbol.{name as #shows-answer}
 use Rattle.unsound.proofs.show as shows-answer
 use Rattle.unsound.proofs.show.Symbol as shows-answer-def

@@ -74,10 +74,10 @@ use Rattle.machine.proofs.new_machines.machine_of.Symbol.{name as #begins}
 use Rattle.machine.proofs.new_machines.machine_of as begins
 use Rattle.machine.proofs.new_machines.machine_of.Symbol as begins-def
 use Rattle.machine.proofs.new_machines.machine_of.Met as begins-thm
-use Rattle.vm.proofs.calling.call.Symbol.{name as #starts}
-use Rattle.vm.proofs.calling.call as starts
-use Rattle.vm.proofs.calling.call.Symbol as starts-def
-use Rattle.vm.proofs.calling.call.Met as starts-thm
+use Rattle.runner.proofs.calling.call.Symbol.{name as #starts}
+use Rattle.runner.proofs.calling.call as starts
+use Rattle.runner.proofs.calling.call.Symbol as starts-def
+use Rattle.runner.proofs.calling.call.Met as starts-thm
 use Rattle.host.proofs.outcomes.to_save.Symbol.{name as #chooses}
 use Rattle.host.proofs.outcomes.to_save as chooses
 use Rattle.host.proofs.outcomes.to_save.Symbol as chooses-def

@@ -66,10 +66,10 @@ use Rattle.printer.proofs.asked.verb_of.Symbol.{name as #asks}
 use Rattle.printer.proofs.asked.verb_of as asks
 use Rattle.printer.proofs.asked.verb_of.Symbol as asks-def
 use Rattle.printer.proofs.asked.verb_of.Met as asks-thm
-use Rattle.vm.proofs.calling.call.Symbol.{name as #calls}
-use Rattle.vm.proofs.calling.call as calls
-use Rattle.vm.proofs.calling.call.Symbol as calls-def
-use Rattle.vm.proofs.calling.call.Met as calls-thm
+use Rattle.runner.proofs.calling.call.Symbol.{name as #calls}
+use Rattle.runner.proofs.calling.call as calls
+use Rattle.runner.proofs.calling.call.Symbol as calls-def
+use Rattle.runner.proofs.calling.call.Met as calls-thm
 use Rattle.vm.proofs.saving.save.Symbol.{name as #saves}
 use Rattle.vm.proofs.saving.save as saves
 use Rattle.vm.proofs.saving.save.Symbol as saves-def

@@ -1,14 +1,14 @@
--- `vm::calling::rewound` meets its contract.
+-- `runner::calling::rewound` meets its contract.
 use Rattle.machine.specs.Machines.{rewound, placed}
 use Prim.Native.Nat.{ℕ}
 use mathlib.Core.Path.{_≡_, refl}
 use Rattle.machine.specs.declared.Machine.{Machine}
 use Rattle.mechanism.specs.Registers.{moved, registers-of, settled}
 use borrow.Author.Needs.{needs}
-use Rattle.vm.proofs.calling.rewound.Statement.{statement}
-use Rattle.vm.proofs.calling.rewound.Tie as tie
-use Rattle.vm.proofs.calling.rewound.Reads as reads
-use Rattle.vm.proofs.calling.rewound.Lts as lts
+use Rattle.runner.proofs.calling.rewound.Statement.{statement}
+use Rattle.runner.proofs.calling.rewound.Tie as tie
+use Rattle.runner.proofs.calling.rewound.Reads as reads
+use Rattle.runner.proofs.calling.rewound.Lts as lts
 use Rattle.mechanism.proofs.machines.registers_of.Reads as registers-of-reads
 use Rattle.mechanism.proofs.machines.settled.Reads as settled-reads
 use Rattle.mechanism.proofs.stack.moved.Reads as moved-reads

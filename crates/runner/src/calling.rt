@@ -3,7 +3,7 @@ ghost use mathlib.Core.Path.{_≡_};
 ghost use Rattle.machine.specs.Machines.{rewound};
 ghost use Rattle.machine.specs.Calls.{may-start, may-continue, fresh, beginning, allowed, phased, ended, spent, report, not-allowed, reported, call};
 ghost use Rattle.machine.specs.World.{world};
-use crate::sound::sound;
+use crate::run;
 use errors::Refusal;
 use machine::Machine;
 use machine::Outcome;
@@ -16,6 +16,7 @@ use mechanism::machines::registers_of;
 use mechanism::machines::settled;
 use mechanism::stack::moved;
 use storage::Task;
+use vm::sound::sound;
 
 // Whether a run may start: on a new machine, or after one that is done.
 fn may_start(phase: Phase) -> bool
@@ -171,7 +172,7 @@ pub fn call(
     let good = sound(table, memory, pool, ends, save, machine);
     let begun = allowed(machine, good, verb);
     if begun.allowed {
-        let ran = runner::run(table, stack, memory, pool, ends, save, begun.machine, fuel);
+        let ran = run(table, stack, memory, pool, ends, save, begun.machine, fuel);
         return report(fuel, ran);
     }
     not_allowed(machine)

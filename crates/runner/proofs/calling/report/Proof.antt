@@ -1,12 +1,12 @@
--- `vm::calling::report` meets its contract.
+-- `runner::calling::report` meets its contract.
 use Rattle.machine.specs.Calls.{report}
 use borrow.Author.Needs.{needs}
-use Rattle.vm.proofs.calling.report.Statement.{statement}
-use Rattle.vm.proofs.calling.report.Tie as tie
-use Rattle.vm.proofs.calling.report.Reads as reads
-use Rattle.vm.proofs.calling.report.Lts as lts
-use Rattle.vm.proofs.calling.ended.Reads as ended-reads
-use Rattle.vm.proofs.calling.spent.Reads as spent-reads
+use Rattle.runner.proofs.calling.report.Statement.{statement}
+use Rattle.runner.proofs.calling.report.Tie as tie
+use Rattle.runner.proofs.calling.report.Reads as reads
+use Rattle.runner.proofs.calling.report.Lts as lts
+use Rattle.runner.proofs.calling.ended.Reads as ended-reads
+use Rattle.runner.proofs.calling.spent.Reads as spent-reads
 
 ended-requires : tie.Need-ended-requires
 ended-requires c κs = search needs

@@ -1,4 +1,4 @@
--- `vm::calling::call` meets its contract: a walk of its MIR by hand, which lends five of the six on to `sound`, and all six to `run`.
+-- `runner::calling::call` meets its contract: a walk of its MIR by hand, which lends five of the six on to `sound`, and all six to `run`.
 use Prim.Native.Nat.{ℕ, _<_, _^_}
 use mathlib.Core.Path.{_≡_, refl}
 use mathlib.Core.Bool.{Bool, false}
@@ -64,31 +64,31 @@ use Rattle.machine.specs.Sound.{tested, sound-world}
 use Rattle.machine.specs.Calls.{allowed as allowed-of, report as report-of, not-allowed, reported, call as call-of}
 use Rattle.mechanism.proofs.VmFields.{begun-is, take-allowed, take-begun}
 use Rattle.mechanism.proofs.Answers.{calls-run, calls-none}
 use Rattle.vm.proofs.sound.sound.Symbol.{name as #tests}
-use Rattle.vm.proofs.calling.allowed.Symbol.{name as #allows}
+use Rattle.runner.proofs.calling.allowed.Symbol.{name as #allows}
 use Rattle.runner.proofs.run.Symbol.{name as #drives}
-use Rattle.vm.proofs.calling.report.Symbol.{name as #reports}
-use Rattle.vm.proofs.calling.not_allowed.Symbol.{name as #refuses}
-use Rattle.vm.proofs.calling.call.Key.{name as #this}
+use Rattle.runner.proofs.calling.report.Symbol.{name as #reports}
+use Rattle.runner.proofs.calling.not_allowed.Symbol.{name as #refuses}
+use Rattle.runner.proofs.calling.call.Key.{name as #this}
 use Rattle.vm.proofs.sound.sound as tests
 use Rattle.vm.proofs.sound.sound.Symbol as tests-def
 use Rattle.vm.proofs.sound.sound.Met as tests-thm
-use Rattle.vm.proofs.calling.allowed as allows
-use Rattle.vm.proofs.calling.allowed.Symbol as allows-def
-use Rattle.vm.proofs.calling.allowed.Met as allows-thm
+use Rattle.runner.proofs.calling.allowed as allows
+use Rattle.runner.proofs.calling.allowed.Symbol as allows-def
+use Rattle.runner.proofs.calling.allowed.Met as allows-thm
 use Rattle.runner.proofs.run as drives
 use Rattle.runner.proofs.run.Symbol as drives-def
 use Rattle.runner.proofs.run.Met as drives-thm
-use Rattle.vm.proofs.calling.report as reports
-use Rattle.vm.proofs.calling.report.Symbol as reports-def
-use Rattle.vm.proofs.calling.report.Met as reports-thm
-use Rattle.vm.proofs.calling.not_allowed as refuses
-use Rattle.vm.proofs.calling.not_allowed.Symbol as refuses-def
-use Rattle.vm.proofs.calling.not_allowed.Met as refuses-thm
-use Rattle.vm.proofs.calling.call as f
-use Rattle.vm.proofs.calling.call.Statement as stated
-use Rattle.vm.proofs.calling.call.Code as code
-use Rattle.vm.proofs.calling.call.Code.Mir as mir
+use Rattle.runner.proofs.calling.report as reports
+use Rattle.runner.proofs.calling.report.Symbol as reports-def
+use Rattle.runner.proofs.calling.report.Met as reports-thm
+use Rattle.runner.proofs.calling.not_allowed as refuses
+use Rattle.runner.proofs.calling.not_allowed.Symbol as refuses-def
+use Rattle.runner.proofs.calling.not_allowed.Met as refuses-thm
+use Rattle.runner.proofs.calling.call as f
+use Rattle.runner.proofs.calling.call.Statement as stated
+use Rattle.runner.proofs.calling.call.Code as code
+use Rattle.runner.proofs.calling.call.Code.Mir as mir
 open Shut machine-shut using (val as machine-val, ty as machine-ty, tells as machine-tells, makes as machine-makes, typed as machine-typed)
 open Shut ran-shut using (val as ran-val, ty as ran-ty, tells as ran-tells, makes as ran-makes, typed as ran-typed)
 open Shut report-shut using (val as report-val, ty as report-ty, tells as report-tells, makes as report-makes, typed as report-typed)

@@ -1,8 +1,8 @@
--- `vm::calling::allowed` meets its contract.
+-- `runner::calling::allowed` meets its contract.
 use Rattle.machine.specs.Calls.{allowed}
 use borrow.Author.Needs.{needs}
-use Rattle.vm.proofs.calling.allowed.Statement.{statement}
-use Rattle.vm.proofs.calling.allowed.Tie as tie
+use Rattle.runner.proofs.calling.allowed.Statement.{statement}
+use Rattle.runner.proofs.calling.allowed.Tie as tie
 
 beginning-requires : tie.Need-beginning-requires
 beginning-requires c κs = search needs

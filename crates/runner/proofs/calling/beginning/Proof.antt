@@ -1,7 +1,7 @@
--- `vm::calling::beginning` meets its contract.
+-- `runner::calling::beginning` meets its contract.
 use borrow.Author.Needs.{needs}
-use Rattle.vm.proofs.calling.beginning.Statement.{statement}
-use Rattle.vm.proofs.calling.beginning.Tie as tie
+use Rattle.runner.proofs.calling.beginning.Statement.{statement}
+use Rattle.runner.proofs.calling.beginning.Tie as tie
 
 enum-told : tie.Need-enum-told
 enum-told c = search needs

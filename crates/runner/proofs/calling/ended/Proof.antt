@@ -1,12 +1,12 @@
--- `vm::calling::ended` meets its contract.
+-- `runner::calling::ended` meets its contract.
 use Rattle.machine.specs.Calls.{ended}
 use borrow.Author.Needs.{needs}
-use Rattle.vm.proofs.calling.ended.Statement.{statement}
-use Rattle.vm.proofs.calling.ended.Tie as tie
-use Rattle.vm.proofs.calling.ended.Reads as reads
-use Rattle.vm.proofs.calling.ended.Lts as lts
-use Rattle.vm.proofs.calling.rewound.Reads as rewound-reads
-use Rattle.vm.proofs.calling.phased.Reads as phased-reads
+use Rattle.runner.proofs.calling.ended.Statement.{statement}
+use Rattle.runner.proofs.calling.ended.Tie as tie
+use Rattle.runner.proofs.calling.ended.Reads as reads
+use Rattle.runner.proofs.calling.ended.Lts as lts
+use Rattle.runner.proofs.calling.rewound.Reads as rewound-reads
+use Rattle.runner.proofs.calling.phased.Reads as phased-reads
 
 enum-told : tie.Need-enum-told
 enum-told c = search needs
