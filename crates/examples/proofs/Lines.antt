@@ -3,7 +3,7 @@ use Prim.Native.Nat.{ℕ}
 use mathlib.Core.Bool.{true}
 use mathlib.Core.List.{[], _∷_}
 use mathlib.Core.Path.{_≡_, refl}
-use lib.ListN.{take}
+use lib.ListN.{length, replicate, take}
 use Rattle.errors.specs.declared.Refusal.the-variants.{InvalidInstructionsIndex, MSliceOutOfBounds, SaveBufferTooShort}
 use Rattle.storage.specs.Table.{living-of}
 use Rattle.storage.specs.Tasks.{blank}
@@ -119,6 +119,18 @@ pub task : line-of-task (record {
 }) ≡ ascii "task 0 1 Ab\n"
 unfolding line-of-task line formed filled filled-in numbers-left decimal digits digit ascii
 task = refl
+
+-- the longest one, of 142 bytes
+pub longest-task : length (line-of-task (record {
+  living = true;
+  id = record { 0 = 255 };
+  state = record { len = 255; state = 254 };
+  «instructions_ref» = record { 0 = 0 };
+  «title_len» = 128;
+  title = replicate 128 65;
+})) ≡ 142
+unfolding line-of-task line formed filled filled-in numbers-left decimal digits digit ascii
+longest-task = refl
 
 -- a line goes to the buffer's start, and the bytes past it stay
 pub put : put-line (7 ∷ 7 ∷ 7 ∷ []) (65 ∷ 10 ∷ []) ≡ lined (Line 2) (65 ∷ 10 ∷ 7 ∷ [])
