@@ -361,5 +361,5 @@ attempt-spec 𝓤 H 𝓜 𝓖 𝓡 =
     (cited 𝓤 H (puts-con 𝓤 H (𝓖 .A) (𝓜 .mem) (𝓡 .run)) 𝓜 𝓡 code.env #puts puts-def.routine code.calls-table·put (puts-thm.met 𝓤 H 𝓜 𝓖 𝓡))
     (cited 𝓤 H (forges-end-con 𝓤 H (𝓖 .A) (𝓜 .mem) (𝓡 .run)) 𝓜 𝓡 code.env #forges-end forges-end-def.routine code.calls-unsound·forge-end (forges-end-thm.met 𝓤 H 𝓜 𝓖 𝓡))
     (cited 𝓤 H (fuels-con 𝓤 H (𝓖 .A) (𝓜 .mem) (𝓡 .run)) 𝓜 𝓡 code.env #fuels fuels-def.routine code.calls-unsound·fuel-of-a-start (fuels-thm.met 𝓤 H 𝓜 𝓖 𝓡))
-    (cited 𝓤 H (starts-con 𝓤 H (𝓖 .A) (𝓜 .mem) (𝓡 .run)) 𝓜 𝓡 code.env #starts starts-def.routine code.calls-vm·calling·call (starts-thm.met 𝓤 H 𝓜 𝓖 𝓡))
+    (cited 𝓤 H (starts-con 𝓤 H (𝓖 .A) (𝓜 .mem) (𝓡 .run)) 𝓜 𝓡 code.env #starts starts-def.routine code.calls-runner·calling·call (starts-thm.met 𝓤 H 𝓜 𝓖 𝓡))
     (cited 𝓤 H (shows-answer-con 𝓤 H (𝓖 .A) (𝓜 .mem) (𝓡 .run)) 𝓜 𝓡 code.env #shows-answer shows-answer-def.routine code.calls-unsound·show (shows-answer-thm.met 𝓤 H 𝓜 𝓖 𝓡)))

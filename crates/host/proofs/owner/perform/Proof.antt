@@ -325,7 +325,7 @@ perform-spec 𝓤 H 𝓜 𝓖 𝓡 =
     (meets 𝓤 H (𝓖 .A) (givenOf 𝓤 H 𝓜 𝓖) (𝓜 .mem) (𝓡 .run) (tablesOf 𝓤 H 𝓜 (tables 𝓤 H 𝓜 𝓡 code.env))
     (cited 𝓤 H (creates-con 𝓤 H (𝓖 .A) (𝓜 .mem) (𝓡 .run)) 𝓜 𝓡 code.env #creates creates-def.routine code.calls-vm·creating·create (creates-thm.met 𝓤 H 𝓜 𝓖 𝓡))
     (cited 𝓤 H (begins-con 𝓤 H (𝓖 .A) (𝓜 .mem) (𝓡 .run)) 𝓜 𝓡 code.env #begins begins-def.routine code.calls-machine·new-machines·machine-of (begins-thm.met 𝓤 H 𝓜 𝓖 𝓡))
-    (cited 𝓤 H (starts-con 𝓤 H (𝓖 .A) (𝓜 .mem) (𝓡 .run)) 𝓜 𝓡 code.env #starts starts-def.routine code.calls-vm·calling·call (starts-thm.met 𝓤 H 𝓜 𝓖 𝓡))
+    (cited 𝓤 H (starts-con 𝓤 H (𝓖 .A) (𝓜 .mem) (𝓡 .run)) 𝓜 𝓡 code.env #starts starts-def.routine code.calls-runner·calling·call (starts-thm.met 𝓤 H 𝓜 𝓖 𝓡))
     (cited 𝓤 H (chooses-con 𝓤 H (𝓖 .A) (𝓜 .mem) (𝓡 .run)) 𝓜 𝓡 code.env #chooses chooses-def.routine code.calls-host·outcomes·to-save (chooses-thm.met 𝓤 H 𝓜 𝓖 𝓡))
     (cited 𝓤 H (saves-con 𝓤 H (𝓖 .A) (𝓜 .mem) (𝓡 .run)) 𝓜 𝓡 code.env #saves saves-def.routine code.calls-vm·saving·save (saves-thm.met 𝓤 H 𝓜 𝓖 𝓡))
     (cited 𝓤 H (tells-con 𝓤 H (𝓖 .A) (𝓜 .mem) (𝓡 .run)) 𝓜 𝓡 code.env #tells tells-def.routine code.calls-host·lines·put-tasks (tells-thm.met 𝓤 H 𝓜 𝓖 𝓡))

@@ -273,7 +273,7 @@ act-spec 𝓤 H 𝓜 𝓖 𝓡 =
     (tables 𝓤 H 𝓜 𝓡 code.env .C) (tables 𝓤 H 𝓜 𝓡 code.env .Λ) #this code.function (code.unfolded 𝓤 H 𝓜 𝓡)
     (meets 𝓤 H (𝓖 .A) (givenOf 𝓤 H 𝓜 𝓖) (𝓜 .mem) (𝓡 .run) (tablesOf 𝓤 H 𝓜 (tables 𝓤 H 𝓜 𝓡 code.env))
     (cited 𝓤 H (asks-con 𝓤 H (𝓖 .A) (𝓜 .mem) (𝓡 .run)) 𝓜 𝓡 code.env #asks asks-def.routine code.calls-printer·asked·verb-of (asks-thm.met 𝓤 H 𝓜 𝓖 𝓡))
-    (cited 𝓤 H (calls-con 𝓤 H (𝓖 .A) (𝓜 .mem) (𝓡 .run)) 𝓜 𝓡 code.env #calls calls-def.routine code.calls-vm·calling·call (calls-thm.met 𝓤 H 𝓜 𝓖 𝓡))
+    (cited 𝓤 H (calls-con 𝓤 H (𝓖 .A) (𝓜 .mem) (𝓡 .run)) 𝓜 𝓡 code.env #calls calls-def.routine code.calls-runner·calling·call (calls-thm.met 𝓤 H 𝓜 𝓖 𝓡))
     (cited 𝓤 H (saves-con 𝓤 H (𝓖 .A) (𝓜 .mem) (𝓡 .run)) 𝓜 𝓡 code.env #saves saves-def.routine code.calls-vm·saving·save (saves-thm.met 𝓤 H 𝓜 𝓖 𝓡))
     (cited 𝓤 H (ran-con 𝓤 H (𝓖 .A) (𝓜 .mem) (𝓡 .run)) 𝓜 𝓡 code.env #ran ran-def.routine code.calls-printer·asked·ran (ran-thm.met 𝓤 H 𝓜 𝓖 𝓡))
     (cited 𝓤 H (saved-con 𝓤 H (𝓖 .A) (𝓜 .mem) (𝓡 .run)) 𝓜 𝓡 code.env #saved saved-def.routine code.calls-printer·asked·saved (saved-thm.met 𝓤 H 𝓜 𝓖 𝓡)))
