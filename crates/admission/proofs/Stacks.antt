@@ -194,7 +194,7 @@ module _ (cells others : List ℕ) where
   unfolding stacked
   agree node h = agree-within node node h
 
--- a cell that is replaced by another of the same letters
+-- a cell that is replaced by one of the same letter on the same letters
 module _ (cells : List ℕ) (at value : ℕ) (some : top cells at ≡ 0 → ⊥) (less : value / 256 < at) (letter : value % 256 ≡ top cells at) (rest : stacked cells (value / 256) ≡ stacked cells (below cells at)) where
   abbrev others : List ℕ
   others = set cells at value
@@ -252,13 +252,14 @@ module _ (cells : List ℕ) (at value : ℕ) (some : top cells at ≡ 0 → ⊥)
   put-kept : Kept cells others
   put-kept = record { stacks = λ n. kept-within n n (omega arith) }
 
+-- nothing changed; one change after another
 pub kept-all : (cells : List ℕ) → Kept cells cells
 kept-all cells = record { stacks = λ n. refl }
 
 pub kept-on : {cells others more : List ℕ} → Kept cells others → Kept others more → Kept cells more
 kept-on k l = record { stacks = λ n. l .stacks n ∙ k .stacks n }
 
--- a turn of the loop that merges two nodes of the same letters
+-- a turn of the loop that merges two nodes
 module _ (cells : List ℕ) (a b p q x : ℕ) (ep : p ≡ getD cells a 0) (eq : q ≡ getD cells b 0) (ux : x ≡ letter-of p a) (some : x ≡ 0 → ⊥) (alike : stacked cells a ≡ stacked cells b) where
   some-left : top cells a ≡ 0 → ⊥
   unfolding top

@@ -15,7 +15,7 @@ use crate::sweep::element_at;
 use crate::sweep::node_at;
 use labels::Element;
 
-// Whether an element starts at a place and has the label of another.
+// Whether an element starts at a place and has the label of another. Then the nodes of both are merged.
 fn same_label(cells: &mut [u32], nodes: &[u32], loops: &[u32], place: usize, other: usize) -> bool
     ensures { λ r. ⌜ (r ≡ same-label (now (cells .entry)) (now (nodes .entry)) (now (loops .entry)) place other) × Kept (now (cells .entry)) (now (cells .exit)) ⌝ }
 {

@@ -86,7 +86,7 @@ pub(crate) fn same(cells: &[u32], one: usize, other: usize) -> bool
     true
 }
 
-// Of two cells the lower replaces the other: under the same letter, it is the one with the lower node below it.
+// Of the cells of two nodes the lower replaces the other: with the same letter, that is the one with the lower node below it.
 fn replace(cells: &mut [u32], left: usize, right: usize, one: u32, other: u32)
     ensures { λ r. ⌜ now (cells .exit) ≡ replaced (now (cells .entry)) left right one other ⌝ }
 {
@@ -97,7 +97,7 @@ fn replace(cells: &mut [u32], left: usize, right: usize, one: u32, other: u32)
     put(cells, left, other);
 }
 
-// Two nodes that hold the same kinds are merged: from both down to where they meet, each two nodes get the same cell.
+// Two nodes that hold the same kinds are merged: on the way down, until they meet, both get the same cell.
 fn merge(cells: &mut [u32], one: usize, other: usize)
     requires { ⌜ stacked (now cells) one ≡ stacked (now cells) other ⌝ }
     ensures { λ r. ⌜ Kept (now (cells .entry)) (now (cells .exit)) ⌝ }
@@ -116,7 +116,7 @@ fn merge(cells: &mut [u32], one: usize, other: usize)
     }
 }
 
-// Whether two nodes hold the same kinds. They are merged then, so that no later walk goes the same way again.
+// Whether two nodes hold the same kinds. Then they are merged, so that no later walk goes their way again.
 pub(crate) fn compare_and_merge(cells: &mut [u32], one: usize, other: usize) -> bool
     ensures { λ r. ⌜ (r ≡ same (stacked (now (cells .entry)) one) (stacked (now (cells .entry)) other)) × Kept (now (cells .entry)) (now (cells .exit)) ⌝ }
 {
