@@ -66,6 +66,7 @@ const DROP: [u8; 1] = [0x13];
 const DUP: [u8; 1] = [0x14];
 const CALL: [u8; 1] = [0x11];
 const END_CALL: [u8; 1] = [0x12];
+const S_LEN: [u8; 1] = [0x0d];
 const LOOP_INDEX: [u8; 1] = [0x10];
 const EQ: [u8; 1] = [0x16];
 const GT: [u8; 1] = [0x19];
@@ -117,6 +118,33 @@ fn calls() -> Vec<u8> {
     let create = [text(b"Close"), STATES_3.to_vec(), calldata(&code), CREATE.to_vec()].concat();
     let body = [number(0), CALL.to_vec()].concat();
     [create, looped(0, 2000, &looped(0, 1000, &body))].concat()
+}
+
+// so many bytes: two stacks of 998 kinds that were made apart, and from the second one jumps back to the first
+fn apart(size: usize) -> Vec<u8> {
+    let mut code = [&S_LEN[..], &S_LEN, &GT, &DUP.repeat(997)].concat();
+    let first = code.len();
+    code.extend([DROP.repeat(997), DUP.repeat(997)].concat());
+    while code.len() + 6 <= size {
+        code.extend([&DUP[..], &jump_if_false(first)].concat());
+    }
+    code.resize(size, 0);
+    code
+}
+
+// so many bytes: instructions of one byte on numbers, in an order that no processor foresees
+fn mixed(size: usize) -> Vec<u8> {
+    let choices = [(0x0d, 0, 1), (0x14, 1, 2), (0x13, 1, 0), (0x15, 2, 2), (0x15, 2, 2), (0x1f, 2, 1), (0x0a, 1, 0), (0x00, 0, 0), (0x0b, 0, 0), (0x0c, 0, 0), (0x12, 0, 0)];
+    let (mut code, mut height, mut seed) = (vec![], 0, 1u32);
+    while code.len() < size {
+        seed = seed.wrapping_mul(1664525).wrapping_add(1013904223);
+        let (opcode, takes, gives) = choices[(seed >> 16) as usize % choices.len()];
+        if takes <= height && height - takes + gives <= 1000 {
+            code.push(opcode);
+            height = height - takes + gives;
+        }
+    }
+    code
 }
 
 // an image of so many tasks, each with a title and code
@@ -175,6 +203,17 @@ fn beside(name: &str, program: Vec<u8>, times: usize) {
     println!("{name}\t{}\t{best_rust:.2}\t{best_ours:.2}", l.answer[1] * times as u64);
 }
 
+fn admitted(name: &str, program: impl Fn(usize) -> Vec<u8>, sizes: &[usize]) {
+    for &size in sizes {
+        let code = program(size);
+        let mut kinds = [0u8; 1000];
+        let mut admit = || unsafe { rafenuma_admit(code.as_ptr(), size, kinds.as_mut_ptr()) };
+        assert!(admit() % 256 == 0, "{name}: refused");
+        let best = (0..TURNS).map(|_| milliseconds(|| { black_box(admit()); })).fold(f64::MAX, f64::min);
+        println!("{name}\t{size}\t{best:.3}");
+    }
+}
+
 fn main() {
     beside("a nested loop with MULI and DROP", products(), 1);
     beside("eight opcodes with a comparison and a jump", choices(), 1);
@@ -189,10 +228,7 @@ fn main() {
         assert!(l.new_image[..bytes.len()] == bytes[..]);
         println!("tasks loaded, listed and saved\t{count}\t{best:.3}");
     }
-    for size in [1023, 16383, 32767, 65535] {
-        let code = vec![0u8; size];
-        let mut kinds = [0u8; 1000];
-        let best = (0..TURNS).map(|_| milliseconds(|| { black_box(unsafe { rafenuma_admit(code.as_ptr(), size, kinds.as_mut_ptr()) }); })).fold(f64::MAX, f64::min);
-        println!("bytes without an opcode admitted\t{size}\t{best:.3}");
-    }
+    admitted("bytes without an opcode admitted", |size| vec![0; size], &[1023, 16383, 32767, 65535]);
+    admitted("instructions of one byte admitted, in no order", mixed, &[1023, 16383, 32767, 65535]);
+    admitted("two stacks made apart admitted, a jump every 6 bytes", apart, &[16383, 32767, 65535]);
 }

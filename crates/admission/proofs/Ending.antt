@@ -12,7 +12,7 @@ use Rattle.slices.proofs.SlicesWrites.{sets-append}
 use Rattle.labels.specs.declared.Kind.{Kind}
 use Rattle.labels.specs.declared.Kind.the-variants.{Number, Calldata, Boolean, Text, Numbers}
 use Rattle.labels.specs.Labels.{letter, letters, Open, opened, kinds-of, open-loops}
-use Rattle.admission.specs.Nodes.{top, below, stacked}
+use Rattle.admission.specs.Nodes.{top, below, stacked, Kept}
 use Rattle.labels.specs.Check.{admitted, admission}
 use Rattle.labels.specs.Faults.{WrongJump, Ended, Fault, without-rule, wrong-jump, open-loop}
 use Rattle.labels.proofs.Refused.{refused-at, passed}
@@ -24,7 +24,7 @@ use Rattle.admission.specs.declared.SweepResult.the-variants.{StuckAt, E
 use Rattle.admission.specs.declared.JumpsResult.the-variants.{AllRight, WrongAt}
 use Rattle.admission.specs.Noted.{Opens, no-loop, one-loop, two-loops, Noted, Tells, Fresh, Swept, stuck-at, ended, Jumps, all-right, first-wrong}
 use Rattle.admission.specs.Answer.{Zeros, written, answer, answered}
-use Rattle.admission.proofs.Landings.{noted-at}
+use Rattle.admission.proofs.Landings.{tells-kept, noted-at}
 use Rattle.admission.proofs.Turns.{letters-length}
 use Rattle.admission.proofs.Stacks.{top-is, below-is}
 
@@ -131,6 +131,9 @@ module _ {code cells nodes loops : List ℕ} {height : ℕ} where
 
 pub swept-as : {code cells nodes loops : List ℕ} {result other : SweepResult} → Swept code cells nodes loops result → result ≡ other → Swept code cells nodes loops other
 swept-as {code} {cells} {nodes} {loops} s e = subst (Swept code cells nodes loops) e s
+
+pub swept-kept : {code cells others nodes loops : List ℕ} {height : ℕ} → Kept cells others → Swept code cells nodes loops (EndedWith height) → Swept code others nodes loops (EndedWith height)
+swept-kept k (ended last h m t) = ended last h m (tells-kept k t)
 
 -- the answer on a program of 1 to 65,535 bytes
 module _ (code : List ℕ) (more : 1 ≤ length code) (short : length code ≤ 65535) (buffer : List ℕ) where

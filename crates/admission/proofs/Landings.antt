@@ -24,9 +24,10 @@ use Rattle.admission.specs.declared.elements.Found.{Found}
 use Rattle.admission.specs.declared.elements.Found.the-variants.{Whole, Cut}
 use Rattle.admission.specs.declared.JumpsResult.the-variants.{AllRight, WrongAt}
 use Rattle.admission.specs.Found.{found}
-use Rattle.admission.specs.Nodes.{stacked}
+use Rattle.admission.specs.Nodes.{stacked, Kept}
 use Rattle.admission.specs.Noted.{LoopAt, Opens, no-loop, one-loop, two-loops, Noted, Tells, nothing, this, Jumps, all-right, first-wrong}
 use Rattle.admission.specs.Jumps.{same-label, right-jump}
+use Rattle.admission.proofs.Turns.{tells-held}
 
 -- the test by the nodes that the code reads
 pub by-nodes : (cells nodes loops : List ℕ) (place other x y : ℕ) → (getD nodes place 0 ≡ 0 → ⊥) → getD loops place 0 ≡ getD loops other 0 → x ≡ getD nodes place 0 - 1 → y ≡ getD nodes other 0 - 1
@@ -90,6 +91,11 @@ pub record Looking (code : List ℕ) (at : ℕ) : Type 0 where
   pub reached : Reached code at now
   pub inside : at ≤ length code
   pub right : (place : ℕ) → place < at → WrongJump code place → ⊥
+
+-- merged nodes tell the same
+pub tells-kept : {code cells others nodes loops : List ℕ} → Kept cells others → ((place : ℕ) → Tells code cells nodes loops place) → (place : ℕ) → Tells code others nodes loops place
+tells-kept {code} {cells} {others} {nodes} {loops} k tells place =
+    tells-held cells others nodes nodes loops loops place (λ p near. k .stacks (getD nodes p 0 - 1)) (λ p near. refl) (λ p near. refl) (omega arith) (tells place)
 
 module _ (code cells nodes loops : List ℕ) (tells : (place : ℕ) → Tells code cells nodes loops place) where
   -- the label of a place that is reached is noted there

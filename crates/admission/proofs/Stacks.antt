@@ -5,13 +5,13 @@ use mathlib.Core.Bool.{Bool, true, false, cond}
 use mathlib.Core.List.{List, [], _∷_}
 use native.Mathlib.Omega.{arith}
 use lib.Dec.{eqb, ltb}
-use lib.ListN.{length, getD, set, drop, length-set}
+use lib.ListN.{length, getD, set, drop, length-set, List·getD-eq-default}
 use lib.Seq.{getD-set-same, getD-set-other, drop-nil}
-use borrow.Author.Tests.{eq-eqb, ne-eqb, eqb-true, eqb-false, lt-ltb, le-ltb, ltb-true}
+use borrow.Author.Tests.{eq-eqb, ne-eqb, eqb-true, eqb-false, lt-ltb, le-ltb, ltb-true, ltb-false}
 use Rattle.slices.specs.Same.{same}
 use Rattle.slices.proofs.Equality.{same-refl}
 use Rattle.labels.proofs.Ways.{cond-true, cond-false}
-use Rattle.admission.specs.Nodes.{letter-of, top, below, stacked-within, stacked, lowered, cell-of, given-node, given-cells}
+use Rattle.admission.specs.Nodes.{letter-of, top, below, stacked-within, stacked, lowered, Kept, replaced, cell-of, given-node, given-cells}
 
 module _ (cells : List ℕ) where
   some-below : (node : ℕ) → (top cells node ≡ 0 → ⊥) → getD cells node 0 / 256 < node
@@ -26,6 +26,10 @@ module _ (cells : List ℕ) where
   pub below-less : (node : ℕ) → (top cells node ≡ 0 → ⊥) → below cells node < node
   unfolding below
   below-less node some = subst (λ n. n < node) (sym (cond-false (eqb (top cells node) 0) 0 (getD cells node 0 / 256) (ne-eqb _ _ some))) (some-below node some)
+
+  top-some : (node : ℕ) → (top cells node ≡ 0 → ⊥) → top cells node ≡ getD cells node 0 % 256
+  unfolding top letter-of
+  top-some node some = cond-true (ltb (getD cells node 0 / 256) node) _ _ (lt-ltb _ _ (some-below node some))
 
   below-some : (node : ℕ) → (top cells node ≡ 0 → ⊥) → below cells node ≡ getD cells node 0 / 256
   unfolding below
@@ -189,6 +193,129 @@ module _ (cells others : List ℕ) where
   pub agree : (node : ℕ) → ((n : ℕ) → n ≤ node → getD others n 0 ≡ getD cells n 0) → stacked others node ≡ stacked cells node
   unfolding stacked
   agree node h = agree-within node node h
+
+-- a cell that is replaced by one of the same letter on the same letters
+module _ (cells : List ℕ) (at value : ℕ) (some : top cells at ≡ 0 → ⊥) (less : value / 256 < at) (letter : value % 256 ≡ top cells at) (rest : stacked cells (value / 256) ≡ stacked cells (below cells at)) where
+  abbrev others : List ℕ
+  others = set cells at value
+
+  inside : at < length cells
+  unfolding top letter-of
+  inside = by (ltb at (length cells)) refl
+    where
+      nothing : (b : Bool) → cond b (0 % 256) 0 ≡ 0
+      nothing true = refl
+      nothing false = refl
+
+      by : (b : Bool) → ltb at (length cells) ≡ b → at < length cells
+      by true e = ltb-true _ _ e
+      by false e =
+          let none : getD cells at 0 ≡ 0 = List·getD-eq-default cells 0 (ltb-false _ _ e) in
+          absurd (some (ap (λ x. cond (ltb (x / 256) at) (x % 256) 0) none ∙ nothing (ltb (0 / 256) at)))
+
+  other-top : top others at ≡ top cells at
+  unfolding top letter-of
+  other-top = rw (getD-set-same cells at value 0 inside) (cond-true (ltb (value / 256) at) _ _ (lt-ltb _ _ less) ∙ letter)
+
+  other-some : top others at ≡ 0 → ⊥
+  other-some z = some (sym other-top ∙ z)
+
+  other-below : below others at ≡ value / 256
+  other-below = below-some others at other-some ∙ ap (λ x. x / 256) (getD-set-same cells at value 0 inside)
+
+  elsewhere : (n : ℕ) → (n ≡ at → ⊥) → getD others n 0 ≡ getD cells n 0
+  elsewhere n ne = getD-set-other cells at n value 0 ne
+
+  kept-within : (most n : ℕ) → n ≤ most → stacked others n ≡ stacked cells n
+  kept-within zero n le = let e : n ≡ 0 = omega arith in subst (λ z. stacked others z ≡ stacked cells z) (sym e) (stack-bottom others ∙ sym (stack-bottom cells))
+  kept-within (suc most) n le = by (eqb n at) refl (eqb (top cells n) 0) refl (λ m lower. kept-within most m (omega arith))
+    where
+      by : (x : Bool) → eqb n at ≡ x → (y : Bool) → eqb (top cells n) 0 ≡ y → ((m : ℕ) → m < n → stacked others m ≡ stacked cells m) → stacked others n ≡ stacked cells n
+      by true ex y ey ih =
+          let e : n ≡ at = eqb-true n at ex in
+          subst (λ z. stacked others z ≡ stacked cells z) (sym e)
+          (stack-step others at other-some
+          ∙ ap₂ (λ x l. x ∷ l) other-top (ap (stacked others) other-below ∙ ih (value / 256) (omega arith) ∙ rest)
+          ∙ sym (stack-step cells at some))
+      by false ex true ey ih =
+          let ne = eqb-false n at ex in
+          let none : top cells n ≡ 0 = eqb-true _ _ ey in
+          stack-empty others n (top-same cells others n (elsewhere n ne) ∙ none) ∙ sym (stack-empty cells n none)
+      by false ex false ey ih =
+          let ne = eqb-false n at ex in
+          let more : top cells n ≡ 0 → ⊥ = eqb-false _ _ ey in
+          let tops : top others n ≡ top cells n = top-same cells others n (elsewhere n ne) in
+          stack-step others n (λ z. more (sym tops ∙ z))
+          ∙ ap₂ (λ x l. x ∷ l) tops (ap (stacked others) (below-same cells others n (elsewhere n ne)) ∙ ih (below cells n) (below-less cells n more))
+          ∙ sym (stack-step cells n more)
+
+  put-kept : Kept cells others
+  put-kept = record { stacks = λ n. kept-within n n (omega arith) }
+
+-- nothing changed; one change after another
+pub kept-all : (cells : List ℕ) → Kept cells cells
+kept-all cells = record { stacks = λ n. refl }
+
+pub kept-on : {cells others more : List ℕ} → Kept cells others → Kept others more → Kept cells more
+kept-on k l = record { stacks = λ n. l .stacks n ∙ k .stacks n }
+
+-- a turn of the loop that merges two nodes
+module _ (cells : List ℕ) (a b p q x : ℕ) (ep : p ≡ getD cells a 0) (eq : q ≡ getD cells b 0) (ux : x ≡ letter-of p a) (some : x ≡ 0 → ⊥) (alike : stacked cells a ≡ stacked cells b) where
+  some-left : top cells a ≡ 0 → ⊥
+  unfolding top
+  some-left z = some (ux ∙ ap (λ c. letter-of c a) ep ∙ z)
+
+  some-right : top cells b ≡ 0 → ⊥
+  some-right z =
+      let more : stacked cells a ≡ top cells a ∷ stacked cells (below cells a) = stack-step cells a some-left in
+      let none : stacked cells b ≡ [] = stack-empty cells b z in
+      absurd (let f : _≡_ {A = ℕ} 0 1 = cc in omega arith)
+
+  pub merge-less : p / 256 < a
+  merge-less = subst (λ c. c / 256 < a) (sym ep) (some-below cells a some-left)
+
+  less-right : q / 256 < b
+  less-right = subst (λ c. c / 256 < b) (sym eq) (some-below cells b some-right)
+
+  lower-left : p / 256 ≡ below cells a
+  lower-left = ap (λ c. c / 256) ep ∙ sym (below-some cells a some-left)
+
+  lower-right : q / 256 ≡ below cells b
+  lower-right = ap (λ c. c / 256) eq ∙ sym (below-some cells b some-right)
+
+  both : top cells a ∷ stacked cells (below cells a) ≡ top cells b ∷ stacked cells (below cells b)
+  both = sym (stack-step cells a some-left) ∙ alike ∙ stack-step cells b some-right
+
+  tops : top cells a ≡ top cells b
+  tops = let whole = both in cc
+
+  rests : stacked cells (p / 256) ≡ stacked cells (q / 256)
+  rests =
+      let whole = both in
+      let tails : stacked cells (below cells a) ≡ stacked cells (below cells b) = cc in
+      ap (stacked cells) lower-left ∙ tails ∙ sym (ap (stacked cells) lower-right)
+
+  kept-here : Kept cells (replaced cells a b p q)
+  unfolding replaced
+  kept-here = by (ltb p q) refl
+    where
+      by : (t : Bool) → ltb p q ≡ t → Kept cells (cond t (set cells b p) (set cells a q))
+      by true e =
+          let low : p < q = ltb-true p q e in
+          put-kept cells b p some-right (omega (arith, less-right)) (ap (λ c. c % 256) ep ∙ sym (top-some cells a some-left) ∙ tops) (rests ∙ ap (stacked cells) lower-right)
+      by false e =
+          let low : q ≤ p = ltb-false p q e in
+          put-kept cells a q some-left (omega (arith, merge-less)) (ap (λ c. c % 256) eq ∙ sym (top-some cells b some-right) ∙ sym tops) (sym rests ∙ ap (stacked cells) lower-left)
+
+  module _ {others : List ℕ} (is : others ≡ replaced cells a b p q) where
+    kept-turn : Kept cells others
+    kept-turn = subst (Kept cells) (sym is) kept-here
+
+    pub merge-kept : {first : List ℕ} → Kept first cells → Kept first others
+    merge-kept k = kept-on k kept-turn
+
+    pub merge-alike : stacked others (p / 256) ≡ stacked others (q / 256)
+    merge-alike = kept-turn .stacks (p / 256) ∙ rests ∙ sym (kept-turn .stacks (q / 256))
 
 -- a letter put on a node
 module _ (cells : List ℕ) (at node letter : ℕ) (inside : at < length cells) (higher : node < at) (small : at ≤ 16777216) where

@@ -122,12 +122,11 @@ rule-cut : (next : ℕ) (now : Label) → rule NoRule next now ≡ none
 unfolding rule kinds-after
 rule-cut next (label kinds loops) = refl
 
--- what was noted is held still, where the nodes below the free ones and the marks of before are
-module _ (cells others nodes marks loops words : List ℕ) (at free : ℕ) (same-cells : (n : ℕ) → n < free → getD others n 0 ≡ getD cells n 0) (lower : (place : ℕ) → getD nodes place 0 ≤ free)
-    (some-free : 1 ≤ free) (same-nodes : (p : ℕ) → p ≤ at → getD marks p 0 ≡ getD nodes p 0) (same-words : (p : ℕ) → p ≤ at → getD words p 0 ≡ getD loops p 0) where
+-- what was noted is held still, where the letters and the marks of before are
+module _ (cells others nodes marks loops words : List ℕ) (at : ℕ) (same-letters : (place : ℕ) → place ≤ at → stacked others (getD nodes place 0 - 1) ≡ stacked cells (getD nodes place 0 - 1))
+    (same-nodes : (p : ℕ) → p ≤ at → getD marks p 0 ≡ getD nodes p 0) (same-words : (p : ℕ) → p ≤ at → getD words p 0 ≡ getD loops p 0) where
   held : (place : ℕ) → place ≤ at → stacked others (getD marks place 0 - 1) ≡ stacked cells (getD nodes place 0 - 1)
-  held place near =
-      ap (λ m. stacked others (m - 1)) (same-nodes place near) ∙ agree cells others (getD nodes place 0 - 1) (λ n le. same-cells n (omega (arith, lower place)))
+  held place near = ap (λ m. stacked others (m - 1)) (same-nodes place near) ∙ same-letters place near
 
   loop-held : {place bound wider : ℕ} {left : List Kind} → bound ≤ at → bound ≤ wider → LoopAt cells nodes bound place left → LoopAt others marks wider place left
   loop-held {place} {bound} near wide l =
@@ -261,6 +260,9 @@ module _ (places : ℕ) (code cells nodes loops : List ℕ) (at height free : �
     same-cells : (n : ℕ) → n < free → getD cells₂ n 0 ≡ getD cells n 0
     same-cells n less = given-before cells₁ second-free middle high n (omega arith) ∙ given-before cells free base low n less
 
+    same-letters : (place : ℕ) → place ≤ at → stacked cells₂ (getD nodes place 0 - 1) ≡ stacked cells (getD nodes place 0 - 1)
+    same-letters place near = agree cells cells₂ (getD nodes place 0 - 1) (λ n le. same-cells n (omega (arith, s .marks place, some-free)))
+
     other-mark : (p : ℕ) → (p ≡ next → ⊥) → getD marks p 0 ≡ getD nodes p 0
     other-mark p ne = getD-set-other nodes next p (last % 131072 + 1) 0 ne
 
@@ -282,7 +284,7 @@ module _ (places : ℕ) (code cells nodes loops : List ℕ) (at height free : �
     holds-next = ap (stacked cells₂) (let e : getD marks next 0 - 1 ≡ last = omega (arith, mark-is) in e) ∙ stands
 
     wider : {w : ℕ} {others : List Open} → Opens cells nodes at w others → Opens cells₂ marks next w others
-    wider o = opens-held cells cells₂ nodes marks loops words at free same-cells (s .marks) some-free same-nodes same-words (omega arith) (omega (arith, far)) o
+    wider o = opens-held cells cells₂ nodes marks loops words at same-letters same-nodes same-words (omega arith) (omega (arith, far)) o
 
     this-loop : LoopAt cells₂ marks next next left
     this-loop = record { some-place = omega (arith, far); near = omega arith; small = omega arith; holds = holds-next }
@@ -290,7 +292,7 @@ module _ (places : ℕ) (code cells nodes loops : List ℕ) (at height free : �
     add-loop : {w : ℕ} (others : List Open) → Opens cells nodes at w others → w < 65536 → Opens cells₂ marks next (w * 65536 + next) (opened next left ∷ others)
     add-loop [] (no-loop e) few = one-loop {inner = next} (omega arith) this-loop
     add-loop (opened inner first ∷ []) (one-loop e l) few =
-        two-loops {inner = next} {outer = inner} (omega arith) this-loop (loop-held cells cells₂ nodes marks loops words at free same-cells (s .marks) some-free same-nodes same-words (omega arith) (omega (arith, far)) l)
+        two-loops {inner = next} {outer = inner} (omega arith) this-loop (loop-held cells cells₂ nodes marks loops words at same-letters same-nodes same-words (omega arith) (omega (arith, far)) l)
     add-loop (opened inner first ∷ opened outer second ∷ []) (two-loops e l m) few = absurd (omega (arith, m .some-place))
 
     opens-next : Later cells nodes at next word left list → Opens cells₂ marks next word list
@@ -312,10 +314,10 @@ module _ (places : ℕ) (code cells nodes loops : List ℕ) (at height free : �
         by : (x : Bool) → ltb place at ≡ x → (y : Bool) → eqb place at ≡ y → Tells code cells₂ marks words place
         by true ex y ey =
             let before : place < at = ltb-true place at ex in
-            tells-held cells cells₂ nodes marks loops words at free same-cells (s .marks) some-free same-nodes same-words (omega arith) (s .past place before)
+            tells-held cells cells₂ nodes marks loops words at same-letters same-nodes same-words (omega arith) (s .past place before)
         by false ex true ey =
             subst (Tells code cells₂ marks words) (sym (eqb-true place at ey))
-            (this (s .reached) (noted-held cells cells₂ nodes marks loops words at free same-cells (s .marks) some-free same-nodes same-words (omega arith) (s .noted)))
+            (this (s .reached) (noted-held cells cells₂ nodes marks loops words at same-letters same-nodes same-words (omega arith) (s .noted)))
         by false ex false ey =
             let behind : at < place = omega (arith, ltb-false place at ex, eqb-false place at ey) in
             nothing (other-mark place (λ e. omega arith) ∙ s .later place behind)

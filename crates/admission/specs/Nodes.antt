@@ -1,5 +1,6 @@
 -- Stacks of kinds as nodes: a cell holds the node below it times 256 and the letter that lies on that; node 0 is the empty stack.
 use Prim.Native.Nat.{ℕ, zero, suc, _+_, _*_, _/_, _%_}
+use mathlib.Core.Path.{_≡_}
 use mathlib.Core.Bool.{cond}
 use mathlib.Core.List.{List, [], _∷_}
 use lib.Dec.{eqb, ltb}
@@ -30,6 +31,14 @@ stacked cells node = stacked-within node cells node
 unfoldable pub lowered : ℕ → List ℕ → ℕ → ℕ
 lowered zero cells node = node
 lowered (suc taken) cells node = lowered taken cells (below cells node)
+
+-- the same letters from each node down
+pub record Kept (cells others : List ℕ) : Type 0 where
+  pub stacks : (node : ℕ) → stacked others node ≡ stacked cells node
+
+-- of two nodes' cells the lower replaces the other
+unfoldable pub replaced : List ℕ → ℕ → ℕ → ℕ → ℕ → List ℕ
+replaced cells left right one other = cond (ltb one other) (set cells right one) (set cells left other)
 
 -- the cell of a letter on a node
 unfoldable pub cell-of : ℕ → ℕ → ℕ

@@ -63,7 +63,7 @@ fn write_kinds(kinds: &mut [u8; 1000], cells: &[u32], node: usize, height: usize
 // The answer on a program whose elements all have a rule.
 fn finish(
     kinds: &mut [u8; 1000],
-    cells: &[u32],
+    cells: &mut [u32],
     nodes: &[u32],
     loops: &[u32],
     sizes: &[u8; 256],
@@ -79,7 +79,7 @@ fn finish(
             if number_at(loops, program.len()) != 0 {
                 return Admission::Refused(Refusal::NotAdmitted(program.len()));
             }
-            write_kinds(kinds, cells, node_at(nodes, program.len()), height);
+            write_kinds(kinds, &*cells, node_at(nodes, program.len()), height);
             Admission::Admitted(height)
         }
     }
@@ -101,7 +101,7 @@ fn over(
         SweepResult::StuckAt(at) => Admission::Refused(Refusal::NotAdmitted(at)),
         SweepResult::EndedWith(height) => finish(
             kinds,
-            &*cells,
+            cells,
             &*nodes,
             &*loops,
             &sizes,

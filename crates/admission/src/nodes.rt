@@ -3,7 +3,7 @@ ghost use mathlib.Core.Path.{_≡_};
 ghost use Prim.Native.Nat.{_+_, _*_, _-_, _/_, _%_, _<_};
 ghost use lib.ListN.{getD, set};
 ghost use Rattle.slices.specs.Same.{same};
-ghost use Rattle.admission.specs.Nodes.{letter-of, top, below, stacked, lowered, cell-of, given-cells, given-node};
+ghost use Rattle.admission.specs.Nodes.{letter-of, top, below, stacked, lowered, Kept, replaced, cell-of, given-cells, given-node};
 
 // The number at a place, 0 past the end.
 pub(crate) fn number_at(numbers: &[u32], at: usize) -> u32
@@ -83,6 +83,47 @@ pub(crate) fn same(cells: &[u32], one: usize, other: usize) -> bool
         left = (one / 256) as usize;
         right = (other / 256) as usize;
     }
+    true
+}
+
+// Of the cells of two nodes the lower replaces the other: with the same letter, that is the one with the lower node below it.
+fn replace(cells: &mut [u32], left: usize, right: usize, one: u32, other: u32)
+    ensures { λ r. ⌜ now (cells .exit) ≡ replaced (now (cells .entry)) left right one other ⌝ }
+{
+    if one < other {
+        put(cells, right, one);
+        return;
+    }
+    put(cells, left, other);
+}
+
+// Two nodes that hold the same kinds are merged: on the way down, until they meet, both get the same cell.
+fn merge(cells: &mut [u32], one: usize, other: usize)
+    requires { ⌜ stacked (now cells) one ≡ stacked (now cells) other ⌝ }
+    ensures { λ r. ⌜ Kept (now (cells .entry)) (now (cells .exit)) ⌝ }
+{
+    let mut left = one;
+    let mut right = other;
+    while left != right {
+        let one = number_at(&*cells, left);
+        let other = number_at(&*cells, right);
+        if letter_of(one, left) == 0 {
+            return;
+        }
+        replace(cells, left, right, one, other);
+        left = (one / 256) as usize;
+        right = (other / 256) as usize;
+    }
+}
+
+// Whether two nodes hold the same kinds. Then they are merged, so that no later walk goes their way again.
+pub(crate) fn compare_and_merge(cells: &mut [u32], one: usize, other: usize) -> bool
+    ensures { λ r. ⌜ (r ≡ same (stacked (now (cells .entry)) one) (stacked (now (cells .entry)) other)) × Kept (now (cells .entry)) (now (cells .exit)) ⌝ }
+{
+    if !same(&*cells, one, other) {
+        return false;
+    }
+    merge(cells, one, other);
     true
 }
 
