@@ -1,4 +1,4 @@
-// The admission check: document 01's admission rules in code, in time that grows with the program's length.
+// The admission check: the admission rules (docs/REFERENCE.md, 'Admission') in code, in time that grows with the program's length.
 pub mod changes;
 mod decision;
 pub mod elements;
