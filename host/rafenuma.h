@@ -1,9 +1,9 @@
 /* The library for a host: a run with its listing and its new image, the admission of a program, the test of an image.
  *
  * Each function answers for every input, reads and writes only inside what is lent, keeps nothing between two calls, and allocates
- * nothing. What is lent is lent for the call alone: no other thread touches it meanwhile, no two of the buffers overlap, and no pointer
- * is NULL, also where its length is 0. Calls with buffers of their own may run at the same time. A run needs 320 KB of stack and an
- * admission 1,040 KB, as measured (docs/HOST.md): a thread of 2 MB has room.
+ * nothing. What is lent is lent for the call alone: no other thread touches a buffer that is written, or writes to one that is read, and
+ * a buffer that is written overlaps no other. No pointer is NULL, also where its length is 0. Calls that write to buffers of their own
+ * may run at the same time. A run needs 320 KB of stack and an admission 1,040 KB, as measured (docs/HOST.md): a thread of 2 MB has room.
  *
  * docs/HOST.md says the same at length. The definitions that the functions are proved to meet stand in crates/host/specs.
  */
@@ -32,8 +32,8 @@ enum rafenuma_answer {
 /* Runs a program on a fresh machine over the tasks of an image.
  *
  *   memory     the machine's memory: read and written; 65,536 bytes as in runone, or any other length (23 where it is too short)
- *   image      the tasks to begin with: a task image, of length 0 for none; never changed
- *   program    1 to 65,535 bytes (else 1 or 28); never changed
+ *   image      the tasks to begin with: a task image, of length 0 for none; only read
+ *   program    1 to 65,535 bytes (else 1 or 28); only read
  *   new_image  where S_SAVE, and after a run that is done or paused the save by the host, write the tasks; bytes past the image stay
  *   listing    where the listing (docs/REFERENCE.md, 'The listing') is written, whole or not at all; bytes past it stay
  *   answer     eight numbers, all of them written (enum rafenuma_answer)
@@ -41,9 +41,9 @@ enum rafenuma_answer {
  *
  * Answers outcome + 256 * refusal + 65,536 * listing, where listing is 24 if the listing was not written and else 0.
  * So 0 means: done, saved and listed. */
-uint64_t rafenuma_run(uint8_t *memory, size_t memory_length, uint8_t *image, size_t image_length, uint8_t *program,
-                      size_t program_length, uint8_t *new_image, size_t new_image_length, uint8_t *listing,
-                      size_t listing_length, uint64_t answer[8], uint64_t fuel);
+uint64_t rafenuma_run(uint8_t *memory, size_t memory_length, const uint8_t *image, size_t image_length,
+                      const uint8_t *program, size_t program_length, uint8_t *new_image, size_t new_image_length,
+                      uint8_t *listing, size_t listing_length, uint64_t answer[8], uint64_t fuel);
 
 /* Whether a program is admitted.
  *

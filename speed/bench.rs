@@ -28,7 +28,7 @@ const TURNS: usize = 15;
 
 unsafe extern "C" {
     fn rafenuma_run(
-        memory: *mut u8, memory_length: usize, image: *mut u8, image_length: usize, program: *mut u8, program_length: usize,
+        memory: *mut u8, memory_length: usize, image: *const u8, image_length: usize, program: *const u8, program_length: usize,
         new_image: *mut u8, new_image_length: usize, listing: *mut u8, listing_length: usize, answer: *mut u64, fuel: u64,
     ) -> u64;
     fn rafenuma_admit(program: *const u8, program_length: usize, kinds: *mut u8) -> u64;
@@ -170,10 +170,10 @@ fn lent() -> Lent {
     Lent { memory: vec![0; 32 << 20], new_image: vec![0; 1 << 20], listing: vec![0; 1 << 20], answer: [0; 8] }
 }
 
-fn ours(l: &mut Lent, image: &mut [u8], program: &mut [u8]) -> u64 {
+fn ours(l: &mut Lent, image: &[u8], program: &[u8]) -> u64 {
     unsafe {
         rafenuma_run(
-            l.memory.as_mut_ptr(), l.memory.len(), image.as_mut_ptr(), image.len(), program.as_mut_ptr(), program.len(),
+            l.memory.as_mut_ptr(), l.memory.len(), image.as_ptr(), image.len(), program.as_ptr(), program.len(),
             l.new_image.as_mut_ptr(), l.new_image.len(), l.listing.as_mut_ptr(), l.listing.len(), l.answer.as_mut_ptr(), u64::MAX,
         )
     }
@@ -192,13 +192,12 @@ fn milliseconds(run: impl FnOnce()) -> f64 {
 
 fn beside(name: &str, program: Vec<u8>, times: usize) {
     let mut l = lent();
-    let mut code = program.clone();
     let (mut best_rust, mut best_ours) = (f64::MAX, f64::MAX);
     assert!(rust(&program), "{name}: the Rust refuses");
-    assert!(ours(&mut l, &mut [], &mut code) == 0, "{name}: this machine refuses: {:?}", l.answer);
+    assert!(ours(&mut l, &[], &program) == 0, "{name}: this machine refuses: {:?}", l.answer);
     for _ in 0..TURNS {
         best_rust = best_rust.min(milliseconds(|| (0..times).for_each(|_| assert!(rust(&program)))));
-        best_ours = best_ours.min(milliseconds(|| (0..times).for_each(|_| assert!(ours(&mut l, &mut [], &mut code) == 0))));
+        best_ours = best_ours.min(milliseconds(|| (0..times).for_each(|_| assert!(ours(&mut l, &[], &program) == 0))));
     }
     println!("{name}\t{}\t{best_rust:.2}\t{best_ours:.2}", l.answer[1] * times as u64);
 }
@@ -223,8 +222,8 @@ fn main() {
     beside("calls of a task", calls(), 1);
     let mut l = lent();
     for count in [32, 64, 128, 256] {
-        let mut bytes = image(count);
-        let best = (0..TURNS * 20).map(|_| milliseconds(|| assert!(ours(&mut l, &mut bytes, &mut [0]) == 0))).fold(f64::MAX, f64::min);
+        let bytes = image(count);
+        let best = (0..TURNS * 20).map(|_| milliseconds(|| assert!(ours(&mut l, &bytes, &[0]) == 0))).fold(f64::MAX, f64::min);
         assert!(l.new_image[..bytes.len()] == bytes[..]);
         println!("tasks loaded, listed and saved\t{count}\t{best:.3}");
     }

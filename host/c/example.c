@@ -5,8 +5,8 @@
 static uint8_t memory[65536], new_image[1048576], listing[65536];
 
 int main(void) {
-    uint8_t program[] = {0x01, 0, 0, 0, 0, 0x01, 0, 0, 0, 5, 0x0e, 0x01, 0, 0, 0, 0x63, 0x0f};
-    uint8_t image[] = {8, 0, 0, 0, 1, 0, 1, 0, 0, 0, 1, 0, 0, 0, 10, 0, 0, 0, 2, 0, 0, 0, 0, 0, 3, 0, 2, 0, 0x41, 0x62};
+    static const uint8_t program[] = {0x01, 0, 0, 0, 0, 0x01, 0, 0, 0, 5, 0x0e, 0x01, 0, 0, 0, 0x63, 0x0f};
+    static const uint8_t image[] = {8, 0, 0, 0, 1, 0, 1, 0, 0, 0, 1, 0, 0, 0, 10, 0, 0, 0, 2, 0, 0, 0, 0, 0, 3, 0, 2, 0, 0x41, 0x62};
     uint8_t kinds[1000];
     uint64_t answer[8];
     uint64_t packed = rafenuma_run(memory, sizeof memory, image, sizeof image, program, sizeof program, new_image,

@@ -6,15 +6,15 @@ fn main() {
         eprintln!("usage: example PROGRAM IMAGE");
         std::process::exit(2);
     };
-    let mut code = std::fs::read(program).expect("the program can be read");
-    let mut tasks = std::fs::read(image).unwrap_or_default();
+    let code = std::fs::read(program).expect("the program can be read");
+    let tasks = std::fs::read(image).unwrap_or_default();
     let mut memory = vec![0; 65_536];
     let mut new_image = vec![0; 1_048_576];
     let mut listing = vec![0; 4_096];
-    let mut ran = rafenuma::run(&mut memory, &mut tasks, &mut code, &mut new_image, &mut listing, 1_000_000);
+    let mut ran = rafenuma::run(&mut memory, &tasks, &code, &mut new_image, &mut listing, 1_000_000);
     if let Err(needed) = ran.listing {
         listing = vec![0; needed];
-        ran = rafenuma::run(&mut memory, &mut tasks, &mut code, &mut new_image, &mut listing, 1_000_000);
+        ran = rafenuma::run(&mut memory, &tasks, &code, &mut new_image, &mut listing, 1_000_000);
     }
     print!("{}", String::from_utf8_lossy(&listing[..ran.listing.unwrap_or(0)]));
     if ran.outcome == rafenuma::Outcome::Done && ran.refusal.is_none() {

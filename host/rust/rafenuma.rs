@@ -5,9 +5,9 @@ mod c {
         pub fn rafenuma_run(
             memory: *mut u8,
             memory_length: usize,
-            image: *mut u8,
+            image: *const u8,
             image_length: usize,
-            program: *mut u8,
+            program: *const u8,
             program_length: usize,
             new_image: *mut u8,
             new_image_length: usize,
@@ -50,24 +50,24 @@ pub struct Run {
     pub new_image: usize,
 }
 
-/// Runs a program on a fresh machine over the tasks of an image. The image and the program come back as they were.
+/// Runs a program on a fresh machine over the tasks of an image. The image and the program are only read.
 pub fn run(
     memory: &mut [u8],
-    image: &mut [u8],
-    program: &mut [u8],
+    image: &[u8],
+    program: &[u8],
     new_image: &mut [u8],
     listing: &mut [u8],
     fuel: u64,
 ) -> Run {
     let mut answer = [0u64; 8];
-    // The six slices are lent by `&mut`, so they do not overlap and nobody else touches them; the function is proved to stay inside.
+    // What is written is lent by `&mut`, so it overlaps nothing and nobody else touches it; the function is proved to stay inside.
     unsafe {
         c::rafenuma_run(
             memory.as_mut_ptr(),
             memory.len(),
-            image.as_mut_ptr(),
+            image.as_ptr(),
             image.len(),
-            program.as_mut_ptr(),
+            program.as_ptr(),
             program.len(),
             new_image.as_mut_ptr(),
             new_image.len(),

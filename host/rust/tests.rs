@@ -27,14 +27,14 @@ impl After {
 
 /// Runs, and sees that the image and the program stay and that nothing is written past what was said to be written.
 fn go_with(image: &[u8], program: &[u8], fuel: u64, memory: usize, new_image: usize, listing: usize) -> After {
-    let (mut tasks, mut code) = (image.to_vec(), program.to_vec());
+    let (tasks, code) = (image.to_vec(), program.to_vec());
     let mut after = After {
         run: Run { outcome: Outcome::Done, finished: 0, refusal: None, listing: Ok(0), new_image: 0 },
         memory: vec![0xAA; memory],
         new_image: vec![0xAA; new_image],
         listing: vec![0xAA; listing],
     };
-    after.run = run(&mut after.memory, &mut tasks, &mut code, &mut after.new_image, &mut after.listing, fuel);
+    after.run = run(&mut after.memory, &tasks, &code, &mut after.new_image, &mut after.listing, fuel);
     assert_eq!(tasks, image, "the image stays");
     assert_eq!(code, program, "the program stays");
     let written = after.run.listing.unwrap_or(0);
@@ -94,6 +94,14 @@ fn case_i1() {
     assert_eq!(after.text(), "done 1\nvalues 1\nu32 1\ntasks 1\ntask 0 0 Ab\n");
     assert_eq!(after.image(), I1, "saving after loading gives the same bytes");
     assert_eq!(test_image(after.image()), Ok(()));
+}
+
+#[test]
+fn the_image_and_the_program_may_be_the_same_bytes() {
+    let (mut memory, mut new_image, mut listing) = (vec![0xAA; 65_536], vec![0xAA; 1_048_576], vec![0xAA; 1 << 20]);
+    let once = run(&mut memory, I1, I1, &mut new_image, &mut listing, 1_000_000);
+    let apart = go(I1, I1);
+    assert_eq!((once, memory, new_image, listing), (apart.run, apart.memory, apart.new_image, apart.listing));
 }
 
 #[test]

@@ -194,20 +194,20 @@ loaded-all table pool ends image program count = load-records count image 14 (wi
 
 data Creates (table : List Task) (pool ends image program : List ℕ) : Made → Type 0 where
   creates : (next-id count len : ℕ) → Fits (length table) (length pool) (length program) image next-id count len
-      → Creates table pool ends image program (loaded-from (new-machine (0 + length program) 1 next-id len) image program (loaded-all table pool ends image program count))
-  not-creates : (number : Refusal) (t : List Task) (p e i q : List ℕ) → Creates table pool ends image program (made (NotCreated number) t p e i q)
+      → Creates table pool ends image program (loaded-from (new-machine (0 + length program) 1 next-id len) (loaded-all table pool ends image program count))
+  not-creates : (number : Refusal) (t : List Task) (p e : List ℕ) → Creates table pool ends image program (made (NotCreated number) t p e)
 
 module _ (table : List Task) (pool ends image program : List ℕ) where
   first-room : (next-id count len : ℕ) → Fits (length table) (length pool) (length program) image next-id count len → has-room (length pool) 0 0 (length program) ≡ true
   unfolding has-room
   first-room next-id count len f = rw (le-leb (0 + length program) (min 65536 (length pool)) (omega (arith, f .room .small, f .room .there)))
 
-  by-tests : (result : CreationResult) → creation-tests (length table) (length pool) (length program) image ≡ result → Creates table pool ends image program (create-as table (prepare-fit pool ends image program result))
+  by-tests : (result : CreationResult) → creation-tests (length table) (length pool) (length program) image ≡ result → Creates table pool ends image program (create-as table image (prepare-fit pool ends program result))
   unfolding create-as prepare-fit with-program unfit
   by-tests (Fit next-id count len) e =
       let f = fits (length table) (length pool) (length program) image (next-id .0) count len e in
       rw (when-room pool ends 0 0 program (first-room (next-id .0) count len f)) (creates (next-id .0) count len f)
-  by-tests (Unfit number) e = not-creates number table pool ends image program
+  by-tests (Unfit number) e = not-creates number table pool ends
 
   creating : Creates table pool ends image program (create table pool ends image program)
   unfolding create-by-parts prepare
@@ -325,7 +325,7 @@ module _ (table : List Task) (pool ends bytes program : List ℕ) (lent : length
         init-is = init-made table pool ends bytes program next-id count len f lent image-all stack memory save;
         pool-bytes = bytes-records count bytes 14 (with-first table pool ends program) image-all (bytes-sets 0 pool-all program-all);
       })
-  core machine _ (not-creates number t p e i q) is = absurd (let z : _≡_ {A = ℕ} 0 1 = ap is-created is in omega arith)
+  core machine _ (not-creates number t p e) is = absurd (let z : _≡_ {A = ℕ} 0 1 = ap is-created is in omega arith)
 
   -- a created machine, with any stack of 1,000 words, any memory and any save buffer
   pub created-agrees : (machine : Machine) → create table pool ends bytes program .answer ≡ Created machine → length stack ≡ 1000

@@ -43,14 +43,14 @@ height-of : CreateResult → ℕ
 height-of (Created machine) = machine .height
 height-of (NotCreated refusal) = 0
 
-behind-empty : (table : List Task) (image program : List ℕ) (next-id s-len : ℕ) (pool ends : List ℕ) (i : InternResult) → height-of (create-behind table image program next-id s-len pool ends i .answer) ≡ 0
+behind-empty : (table : List Task) (image : List ℕ) (next-id s-len : ℕ) (pool ends : List ℕ) (i : InternResult) → height-of (create-behind table image next-id s-len pool ends i .answer) ≡ 0
 unfolding create-behind height-of
-behind-empty table image program next-id s-len pool ends (Interned entry bytes) = refl
-behind-empty table image program next-id s-len pool ends (NotInterned refusal) = refl
+behind-empty table image next-id s-len pool ends (Interned entry bytes) = refl
+behind-empty table image next-id s-len pool ends (NotInterned refusal) = refl
 
 fit-empty : (table : List Task) (pool ends image program : List ℕ) (result : CreationResult) → height-of (create-fit table pool ends image program result .answer) ≡ 0
 unfolding create-fit height-of
-fit-empty table pool ends image program (Fit next-id count s-len) = behind-empty table image program _ s-len _ _ _
+fit-empty table pool ends image program (Fit next-id count s-len) = behind-empty table image _ s-len _ _ _
 fit-empty table pool ends image program (Unfit refusal) = refl
 
 created-empty : (table : List Task) (pool ends image program : List ℕ) → height-of (create table pool ends image program .answer) ≡ 0

@@ -32,7 +32,7 @@ module _ (save program : List ℕ) (some : 1 ≤ length program) (short : length
   written : sets pool 0 program ≡ pool
   written = sets-eq program pool 0 (omega (arith, roomy)) ∙ ap (λ (rest : List ℕ). program ++ rest) (drop-at program (replicate 16 0) (0 + length program) (omega arith))
 
-  created : create (replicate 256 blank) pool ends [] program ≡ made (Created (new-machine (length program) 1 0 0)) (replicate 256 blank) pool ends [] program
+  created : create (replicate 256 blank) pool ends [] program ≡ made (Created (new-machine (length program) 1 0 0)) (replicate 256 blank) pool ends
   unfolding create create-fit create-behind creation-tests image-tests image-result read-image has-room interned load-table load-read load-tasks s-len-of instruction-bytes
   created =
       let none-more : length program + 0 ≡ length program = omega arith in

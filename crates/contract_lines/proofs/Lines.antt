@@ -128,7 +128,7 @@ sound-sound-says met = met
 
 abbrev pub creating-create : Line creating.create.ended
 creating-create _ table pool ends image program r =
-    made r (now (table .exit)) (now (pool .exit)) (now (ends .exit)) (now (image .exit)) (now (program .exit)) ≡ create (now (table .entry)) (now (pool .entry)) (now (ends .entry)) (now (image .entry)) (now (program .entry))
+    made r (now (table .exit)) (now (pool .exit)) (now (ends .exit)) ≡ create (now (table .entry)) (now (pool .entry)) (now (ends .entry)) (now (image .entry)) (now (program .entry))
 
 pub creating-create-says : {M : Type 1} → creating.create.Statement.statement M → Answers M creating.create.ended creating.create.Symbol.routine creating-create
 creating-create-says met = met
@@ -184,21 +184,21 @@ admission-admit-says met = met
 
 abbrev pub hosting-own : Line hosting-owner.own.ended
 hosting-own _ stack memory pool ends save image program lines fuel r =
-    owned r (now (stack .exit)) (now (memory .exit)) (now (pool .exit)) (now (ends .exit)) (now (save .exit)) (now (image .exit)) (now (program .exit)) (now (lines .exit)) ≡ Hosting.own (fuel .entry) (now (stack .entry)) (now (memory .entry)) (now (pool .entry)) (now (ends .entry)) (now (save .entry)) (now (image .entry)) (now (program .entry)) (now (lines .entry))
+    owned r (now (stack .exit)) (now (memory .exit)) (now (pool .exit)) (now (ends .exit)) (now (save .exit)) (now (lines .exit)) ≡ Hosting.own (fuel .entry) (now (stack .entry)) (now (memory .entry)) (now (pool .entry)) (now (ends .entry)) (now (save .entry)) (now (image .entry)) (now (program .entry)) (now (lines .entry))
 
 pub hosting-own-says : {M : Type 1} → hosting-owner.own.Statement.statement M → Answers M hosting-owner.own.ended hosting-owner.own.Symbol.routine hosting-own
 hosting-own-says met = met
 
 abbrev pub answering-run : Line answering.run.ended
 answering-run _ memory image program new-image listing answer fuel r =
-    ran r (now (memory .exit)) (now (image .exit)) (now (program .exit)) (now (new-image .exit)) (now (listing .exit)) (now (answer .exit)) ≡ rafenuma-run (fuel .entry) (now (memory .entry)) (now (image .entry)) (now (program .entry)) (now (new-image .entry)) (now (listing .entry)) (now (answer .entry))
+    ran r (now (memory .exit)) (now (new-image .exit)) (now (listing .exit)) (now (answer .exit)) ≡ rafenuma-run (fuel .entry) (now (memory .entry)) (now (image .entry)) (now (program .entry)) (now (new-image .entry)) (now (listing .entry)) (now (answer .entry))
 
 pub answering-run-says : {M : Type 1} → answering.run.Statement.statement M → Answers M answering.run.ended answering.run.Symbol.routine answering-run
 answering-run-says met = met
 
 abbrev pub host-rafenuma-run : Line host.rafenuma_run.ended
 host-rafenuma-run _ memory image program new-image listing answer fuel r =
-    ran r (now (memory .exit)) (now (image .exit)) (now (program .exit)) (now (new-image .exit)) (now (listing .exit)) (now (answer .exit)) ≡ rafenuma-run (fuel .entry) (now (memory .entry)) (now (image .entry)) (now (program .entry)) (now (new-image .entry)) (now (listing .entry)) (now (answer .entry))
+    ran r (now (memory .exit)) (now (new-image .exit)) (now (listing .exit)) (now (answer .exit)) ≡ rafenuma-run (fuel .entry) (now (memory .entry)) (now (image .entry)) (now (program .entry)) (now (new-image .entry)) (now (listing .entry)) (now (answer .entry))
 
 pub host-rafenuma-run-says : {M : Type 1} → host.rafenuma_run.Statement.statement M → Answers M host.rafenuma_run.ended host.rafenuma_run.Symbol.routine host-rafenuma-run
 host-rafenuma-run-says met = met
@@ -219,7 +219,7 @@ host-rafenuma-test-image-says met = met
 
 abbrev pub shows-own : Line shows.own.ended
 shows-own _ stack memory pool ends save image program calls from count everything _ =
-    lent (now (stack .exit)) (now (memory .exit)) (now (pool .exit)) (now (ends .exit)) (now (save .exit)) (now (image .exit)) (now (program .exit)) (now (calls .exit)) ≡ Shows.own (from .entry) (count .entry) (now (stack .entry)) (now (memory .entry)) (now (pool .entry)) (now (ends .entry)) (now (save .entry)) (now (image .entry)) (now (program .entry)) (now (calls .entry))
+    lent (now (stack .exit)) (now (memory .exit)) (now (pool .exit)) (now (ends .exit)) (now (save .exit)) (now (calls .exit)) ≡ Shows.own (from .entry) (count .entry) (now (stack .entry)) (now (memory .entry)) (now (pool .entry)) (now (ends .entry)) (now (save .entry)) (now (image .entry)) (now (program .entry)) (now (calls .entry))
 
 pub shows-own-says : {M : Type 1} → shows.own.Statement.statement M → Answers M shows.own.ended shows.own.Symbol.routine shows-own
 shows-own-says met = met

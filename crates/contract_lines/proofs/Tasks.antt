@@ -165,7 +165,7 @@ table-image-creation-tests-says met = met
 
 abbrev pub table-image-load-table : Line table-image.loading.load_table.ended
 table-image-load-table _ table pool ends image bytes entries count r =
-    after (loading (now (table .exit)) (now (pool .exit)) (now (ends .exit)) r) (now (image .exit)) ≡ after (load-records (count .entry) (now (image .entry)) 14 (loading (replicate (length (now (table .entry))) blank) (now (pool .entry)) (now (ends .entry)) (in-use (bytes .entry) (entries .entry)))) (now (image .entry))
+    loading (now (table .exit)) (now (pool .exit)) (now (ends .exit)) r ≡ load-records (count .entry) (now (image .entry)) 14 (loading (replicate (length (now (table .entry))) blank) (now (pool .entry)) (now (ends .entry)) (in-use (bytes .entry) (entries .entry)))
 
 pub table-image-load-table-says : {M : Type 1} → table-image.loading.load_table.Statement.statement M → Answers M table-image.loading.load_table.ended table-image.loading.load_table.Symbol.routine table-image-load-table
 table-image-load-table-says met = met

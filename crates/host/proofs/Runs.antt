@@ -11,16 +11,16 @@ use Rattle.host.specs.AnsweringNumbers.{Told, told, answers}
 use Rattle.host.specs.Answering.{new-stack, new-ends, new-pool, new-lines, new-scratch, ran, with-numbers, with-listing, with-owned, rafenuma-run}
 
 pub runs-it : (fuel : ℕ) (memory image program new-image listing answer : List ℕ)
-    {stack ends pool lines scratch : List ℕ} {performed : RunSummary} {stack′ memory′ pool′ ends′ new-image′ image′ program′ lines′ : List ℕ} {listed : ListingLengths} {listing′ : List ℕ} {r : ℕ} {answer′ : List ℕ}
+    {stack ends pool lines scratch : List ℕ} {performed : RunSummary} {stack′ memory′ pool′ ends′ new-image′ lines′ : List ℕ} {listed : ListingLengths} {listing′ : List ℕ} {r : ℕ} {answer′ : List ℕ}
     → stack ≡ new-stack → ends ≡ new-ends → pool ≡ new-pool → lines ≡ new-lines
-    → owned performed stack′ memory′ pool′ ends′ new-image′ image′ program′ lines′ ≡ own fuel stack memory pool ends new-image image program lines
+    → owned performed stack′ memory′ pool′ ends′ new-image′ lines′ ≡ own fuel stack memory pool ends new-image image program lines
     → scratch ≡ new-scratch
     → listing-of listed listing′ ≡ list-run listing scratch stack′ memory′ pool′ ends′ lines′ performed
     → told r answer′ ≡ answers answer performed listed
-    → ran r memory′ image′ program′ new-image′ listing′ answer′ ≡ rafenuma-run fuel memory image program new-image listing answer
+    → ran r memory′ new-image′ listing′ answer′ ≡ rafenuma-run fuel memory image program new-image listing answer
 unfolding rafenuma-run with-owned
-runs-it fuel memory image program new-image listing answer {stack} {ends} {pool} {lines} {scratch} {performed} {stack′} {memory′} {pool′} {ends′} {new-image′} {image′} {program′} {lines′} {listed} {listing′} {r} {answer′} stacks endings pools lining owns scratches lists tells =
-    let after : Owned = owned performed stack′ memory′ pool′ ends′ new-image′ image′ program′ lines′ in
+runs-it fuel memory image program new-image listing answer {stack} {ends} {pool} {lines} {scratch} {performed} {stack′} {memory′} {pool′} {ends′} {new-image′} {lines′} {listed} {listing′} {r} {answer′} stacks endings pools lining owns scratches lists tells =
+    let after : Owned = owned performed stack′ memory′ pool′ ends′ new-image′ lines′ in
     ap (λ (t : Told). with-numbers after (listing-of listed listing′) t) tells
     ∙ ap (λ (l : Listing). with-listing answer after l) lists
     ∙ ap (λ (s : List ℕ). with-listing answer after (list-run listing s stack′ memory′ pool′ ends′ lines′ performed)) scratches

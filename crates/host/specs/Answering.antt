@@ -1,4 +1,4 @@
--- The call that runs a program for a host: a fresh machine with buffers of its own, and what is lent after it.
+-- The call that runs a program for a host: a fresh machine with buffers of its own, and what is lent to be written, after it.
 use Prim.Native.Nat.{ℕ}
 use mathlib.Core.List.{List}
 use lib.ListN.{replicate}
@@ -22,23 +22,21 @@ new-lines = replicate 36864 0
 unfoldable pub new-scratch : List ℕ
 new-scratch = replicate 196608 0
 
--- the packed number, and everything lent after it
+-- the packed number, and everything lent to be written, after it; the image and the program are only read
 pub record RunOn : Type 0 where
   pub answer : ℕ
   pub memory : List ℕ
-  pub image : List ℕ
-  pub program : List ℕ
   pub new-image : List ℕ
   pub listing : List ℕ
   pub numbers : List ℕ
 
-abbrev pub ran : ℕ → List ℕ → List ℕ → List ℕ → List ℕ → List ℕ → List ℕ → RunOn
-ran answer memory image program new-image listing numbers =
-    record { answer = answer; memory = memory; image = image; program = program; new-image = new-image; listing = listing; numbers = numbers }
+abbrev pub ran : ℕ → List ℕ → List ℕ → List ℕ → List ℕ → RunOn
+ran answer memory new-image listing numbers =
+    record { answer = answer; memory = memory; new-image = new-image; listing = listing; numbers = numbers }
 
 -- the numbers come last
 abbrev pub with-numbers : Owned → Listing → Told → RunOn
-with-numbers o l t = ran (t .answer) (o .memory) (o .image) (o .program) (o .save) (l .listing) (t .numbers)
+with-numbers o l t = ran (t .answer) (o .memory) (o .save) (l .listing) (t .numbers)
 
 -- before them the listing
 abbrev pub with-listing : List ℕ → Owned → Listing → RunOn

@@ -62,7 +62,7 @@ performed creation report saved lines = record {
 
 -- ---- one call after the other
 
--- what came of it, and everything lent after it
+-- what came of it, and everything lent to be written, after it
 pub record RunSummaryIn : Type 0 where
   pub answer : RunSummary
   pub table : List Task
@@ -71,33 +71,31 @@ pub record RunSummaryIn : Type 0 where
   pub pool : List ℕ
   pub ends : List ℕ
   pub save : List ℕ
-  pub image : List ℕ
-  pub program : List ℕ
   pub lines : List ℕ
 
-abbrev pub performed-in : RunSummary → List Task → List ℕ → List ℕ → List ℕ → List ℕ → List ℕ → List ℕ → List ℕ → List ℕ → RunSummaryIn
-performed-in answer table stack memory pool ends save image program lines =
-    record { answer = answer; table = table; stack = stack; memory = memory; pool = pool; ends = ends; save = save; image = image; program = program; lines = lines }
+abbrev pub performed-in : RunSummary → List Task → List ℕ → List ℕ → List ℕ → List ℕ → List ℕ → List ℕ → RunSummaryIn
+performed-in answer table stack memory pool ends save lines =
+    record { answer = answer; table = table; stack = stack; memory = memory; pool = pool; ends = ends; save = save; lines = lines }
 
 -- the lines of the tasks come last
-unfoldable pub with-lines : CreateResult → Report → List ℕ → List ℕ → SavedTo → Lined → RunSummaryIn
-with-lines creation report image program s l =
-    performed-in (performed creation report (s .report) (l .answer)) (s .table) (s .stack) (s .memory) (s .pool) (s .ends) (s .save) image program (l .out)
+unfoldable pub with-lines : CreateResult → Report → SavedTo → Lined → RunSummaryIn
+with-lines creation report s l =
+    performed-in (performed creation report (s .report) (l .answer)) (s .table) (s .stack) (s .memory) (s .pool) (s .ends) (s .save) (l .out)
 
 -- before them the save
-unfoldable pub with-saved-image : CreateResult → Report → List ℕ → List ℕ → List ℕ → SavedTo → RunSummaryIn
-with-saved-image creation report image program lines s = with-lines creation report image program s (task-lines (s .table) lines)
+unfoldable pub with-saved-image : CreateResult → Report → List ℕ → SavedTo → RunSummaryIn
+with-saved-image creation report lines s = with-lines creation report s (task-lines (s .table) lines)
 
 -- before it the run
-unfoldable pub with-run : CreateResult → List ℕ → List ℕ → List ℕ → Reported → RunSummaryIn
-with-run creation image program lines r =
-    with-saved-image creation (r .report) image program lines
+unfoldable pub with-run : CreateResult → List ℕ → Reported → RunSummaryIn
+with-run creation lines r =
+    with-saved-image creation (r .report) lines
     (host-save (world (to-save (r .report)) (r .table) (r .stack) (r .memory) (r .pool) (r .ends) (r .save)))
 
 -- before it the creation
 unfoldable pub with-creation : ℕ → List ℕ → List ℕ → List ℕ → List ℕ → Made → RunSummaryIn
 with-creation fuel stack memory save lines m =
-    with-run (m .answer) (m .image) (m .program) lines
+    with-run (m .answer) lines
     (start fuel (world (machine-of (m .answer)) (m .table) stack memory (m .pool) (m .ends) save))
 
 unfoldable pub perform : ℕ → List Task → List ℕ → List ℕ → List ℕ → List ℕ → List ℕ → List ℕ → List ℕ → List ℕ → RunSummaryIn
@@ -106,7 +104,7 @@ perform fuel table stack memory pool ends save image program lines =
 
 -- ---- over a table of its own
 
--- what came of it, and everything lent but the table
+-- what came of it, and everything lent to be written but the table
 pub record Owned : Type 0 where
   pub answer : RunSummary
   pub stack : List ℕ
@@ -114,16 +112,14 @@ pub record Owned : Type 0 where
   pub pool : List ℕ
   pub ends : List ℕ
   pub save : List ℕ
-  pub image : List ℕ
-  pub program : List ℕ
   pub lines : List ℕ
 
-abbrev pub owned : RunSummary → List ℕ → List ℕ → List ℕ → List ℕ → List ℕ → List ℕ → List ℕ → List ℕ → Owned
-owned answer stack memory pool ends save image program lines =
-    record { answer = answer; stack = stack; memory = memory; pool = pool; ends = ends; save = save; image = image; program = program; lines = lines }
+abbrev pub owned : RunSummary → List ℕ → List ℕ → List ℕ → List ℕ → List ℕ → List ℕ → Owned
+owned answer stack memory pool ends save lines =
+    record { answer = answer; stack = stack; memory = memory; pool = pool; ends = ends; save = save; lines = lines }
 
 abbrev pub without-table : RunSummaryIn → Owned
-without-table p = owned (p .answer) (p .stack) (p .memory) (p .pool) (p .ends) (p .save) (p .image) (p .program) (p .lines)
+without-table p = owned (p .answer) (p .stack) (p .memory) (p .pool) (p .ends) (p .save) (p .lines)
 
 unfoldable pub own : ℕ → List ℕ → List ℕ → List ℕ → List ℕ → List ℕ → List ℕ → List ℕ → List ℕ → Owned
 own fuel stack memory pool ends save image program lines =

@@ -46,14 +46,14 @@ fn new_scratch() -> [u8; 196608]
 // Runs a program on a fresh machine over the tasks of an image; writes the listing and the new image.
 pub fn run(
     memory: &mut [u8],
-    image: &mut [u8],
-    program: &mut [u8],
+    image: &[u8],
+    program: &[u8],
     new_image: &mut [u8],
     listing: &mut [u8],
     answer: &mut [u64; 8],
     fuel: u64,
 ) -> u64
-    ensures { λ r. ⌜ ran r (now (memory .exit)) (now (image .exit)) (now (program .exit)) (now («new_image» .exit)) (now (listing .exit)) (now (answer .exit)) ≡ rafenuma-run fuel (now (memory .entry)) (now (image .entry)) (now (program .entry)) (now («new_image» .entry)) (now (listing .entry)) (now (answer .entry)) ⌝ }
+    ensures { λ r. ⌜ ran r (now (memory .exit)) (now («new_image» .exit)) (now (listing .exit)) (now (answer .exit)) ≡ rafenuma-run fuel (now (memory .entry)) (now (image .entry)) (now (program .entry)) (now («new_image» .entry)) (now (listing .entry)) (now (answer .entry)) ⌝ }
 {
     let mut stack = new_stack();
     let mut ends = new_ends();

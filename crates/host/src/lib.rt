@@ -25,14 +25,14 @@ use image::reading::test_image;
 #[no_mangle]
 pub extern "C" fn rafenuma_run(
     memory: &mut [u8],
-    image: &mut [u8],
-    program: &mut [u8],
+    image: &[u8],
+    program: &[u8],
     new_image: &mut [u8],
     listing: &mut [u8],
     answer: &mut [u64; 8],
     fuel: u64,
 ) -> u64
-    ensures { λ r. ⌜ ran r (now (memory .exit)) (now (image .exit)) (now (program .exit)) (now («new_image» .exit)) (now (listing .exit)) (now (answer .exit)) ≡ rafenuma-run fuel (now (memory .entry)) (now (image .entry)) (now (program .entry)) (now («new_image» .entry)) (now (listing .entry)) (now (answer .entry)) ⌝ }
+    ensures { λ r. ⌜ ran r (now (memory .exit)) (now («new_image» .exit)) (now (listing .exit)) (now (answer .exit)) ≡ rafenuma-run fuel (now (memory .entry)) (now (image .entry)) (now (program .entry)) (now («new_image» .entry)) (now (listing .entry)) (now (answer .entry)) ⌝ }
 {
     crate::answering::run(memory, image, program, new_image, listing, answer, fuel)
 }

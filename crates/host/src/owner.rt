@@ -17,12 +17,12 @@ fn perform(
     pool: &mut [u8],
     ends: &mut [u32; 1024],
     save: &mut [u8],
-    image: &mut [u8],
-    program: &mut [u8],
+    image: &[u8],
+    program: &[u8],
     lines: &mut [u8],
     fuel: u64,
 ) -> RunSummary
-    ensures { λ r. ⌜ performed-in r (now (table .exit)) (now (stack .exit)) (now (memory .exit)) (now (pool .exit)) (now (ends .exit)) (now (save .exit)) (now (image .exit)) (now (program .exit)) (now (lines .exit)) ≡ perform fuel (now (table .entry)) (now (stack .entry)) (now (memory .entry)) (now (pool .entry)) (now (ends .entry)) (now (save .entry)) (now (image .entry)) (now (program .entry)) (now (lines .entry)) ⌝ }
+    ensures { λ r. ⌜ performed-in r (now (table .exit)) (now (stack .exit)) (now (memory .exit)) (now (pool .exit)) (now (ends .exit)) (now (save .exit)) (now (lines .exit)) ≡ perform fuel (now (table .entry)) (now (stack .entry)) (now (memory .entry)) (now (pool .entry)) (now (ends .entry)) (now (save .entry)) (now (image .entry)) (now (program .entry)) (now (lines .entry)) ⌝ }
 {
     let creation = vm::creating::create(table, pool, ends, image, program);
     let begun = machine_of(creation);
@@ -50,12 +50,12 @@ pub fn own(
     pool: &mut [u8],
     ends: &mut [u32; 1024],
     save: &mut [u8],
-    image: &mut [u8],
-    program: &mut [u8],
+    image: &[u8],
+    program: &[u8],
     lines: &mut [u8],
     fuel: u64,
 ) -> RunSummary
-    ensures { λ r. ⌜ owned r (now (stack .exit)) (now (memory .exit)) (now (pool .exit)) (now (ends .exit)) (now (save .exit)) (now (image .exit)) (now (program .exit)) (now (lines .exit)) ≡ own fuel (now (stack .entry)) (now (memory .entry)) (now (pool .entry)) (now (ends .entry)) (now (save .entry)) (now (image .entry)) (now (program .entry)) (now (lines .entry)) ⌝ }
+    ensures { λ r. ⌜ owned r (now (stack .exit)) (now (memory .exit)) (now (pool .exit)) (now (ends .exit)) (now (save .exit)) (now (lines .exit)) ≡ own fuel (now (stack .entry)) (now (memory .entry)) (now (pool .entry)) (now (ends .entry)) (now (save .entry)) (now (image .entry)) (now (program .entry)) (now (lines .entry)) ⌝ }
 {
     let blank = storage::task_types::blank();
     let mut table = [blank; 256];

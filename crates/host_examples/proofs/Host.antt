@@ -100,8 +100,6 @@ pub record Examples : Type 0 where
   pub run-done : called 9 C1 40 ≡ record {
     answer = 0;
     memory = replicate 16 0;
-    image = [];
-    program = C1;
     new-image = No-tasks ++ replicate 2 255;
     listing = ascii "done 5\nvalues 1\nu32 99\ntasks 0\n" ++ replicate 9 0;
     numbers = 0 ∷ 5 ∷ 0 ∷ 0 ∷ 0 ∷ 31 ∷ 14 ∷ 31 ∷ [];
@@ -110,8 +108,6 @@ pub record Examples : Type 0 where
   pub run-paused : called 2 C1 40 ≡ record {
     answer = 1;
     memory = replicate 16 0;
-    image = [];
-    program = C1;
     new-image = No-tasks ++ replicate 2 255;
     listing = ascii "paused 2\nvalues 0\ntasks 0\n" ++ replicate 14 0;
     numbers = 1 ∷ 2 ∷ 0 ∷ 0 ∷ 0 ∷ 26 ∷ 14 ∷ 26 ∷ [];
@@ -120,8 +116,6 @@ pub record Examples : Type 0 where
   pub run-refused : called 9 [] 40 ≡ record {
     answer = 2 + 256 * 1;
     memory = replicate 16 0;
-    image = [];
-    program = [];
     new-image = replicate 16 255;
     listing = ascii "refused 1\nvalues 0\ntasks 0\n" ++ replicate 13 0;
     numbers = 2 ∷ 0 ∷ 1 ∷ 0 ∷ 0 ∷ 27 ∷ 0 ∷ 27 ∷ [];
@@ -130,8 +124,6 @@ pub record Examples : Type 0 where
   pub run-unlisted : called 9 C1 30 ≡ record {
     answer = 65536 * 24;
     memory = replicate 16 0;
-    image = [];
-    program = C1;
     new-image = No-tasks ++ replicate 2 255;
     listing = replicate 30 0;
     numbers = 0 ∷ 5 ∷ 0 ∷ 0 ∷ 0 ∷ 0 ∷ 14 ∷ 31 ∷ [];

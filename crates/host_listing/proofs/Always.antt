@@ -85,9 +85,9 @@ record Left (p : RunSummaryIn) (lines : List ℕ) : Type 0 where
   told : lined (p .answer .lines) (p .lines) ≡ task-lines (p .table) lines
 
 -- the save and the lines of the tasks leave what the run left
-after-run : (creation : CreateResult) (image program lines : List ℕ) (r : Reported) → Bounded (r .table) (r .ends) (r .report .machine) → Left (with-run creation image program lines r) lines
+after-run : (creation : CreateResult) (lines : List ℕ) (r : Reported) → Bounded (r .table) (r .ends) (r .report .machine) → Left (with-run creation lines r) lines
 unfolding with-run with-saved-image with-lines performed
-after-run creation image program lines r bounded = record {
+after-run creation lines r bounded = record {
   machine = r .report .machine;
   bounded =
       subst (λ (s : SavedTo). Bounded (s .table) (s .ends) (r .report .machine))
@@ -118,7 +118,7 @@ module _ (fuel : ℕ) (stack memory pool ends save image program lines : List �
   -- and so does all that is performed
   leaves : Left (perform fuel blank-table stack memory pool ends save image program lines) lines
   unfolding perform with-creation
-  leaves = after-run (made .answer) (made .image) (made .program) lines (reported (made .answer)) (started (made .answer) refl)
+  leaves = after-run (made .answer) lines (reported (made .answer)) (started (made .answer) refl)
 
 -- ---- its lines
 

@@ -91,7 +91,7 @@ module _ (table : List Task) (pool ends image program : List ℕ) where
   abbrev pub with-first : Loading
   with-first = program-first table (sets pool 0 program) (set ends 0 (0 + length program)) (0 + length program)
 
-  pub created-as : (c : Creatable table pool image program) → create table pool ends image program ≡ loaded (c .found .next-id) (s-len-of (c .found .tasks)) image program (load-table image with-first)
+  pub created-as : (c : Creatable table pool image program) → create table pool ends image program ≡ loaded (c .found .next-id) (s-len-of (c .found .tasks)) (load-table image with-first)
   unfolding create create-fit create-behind interned
   created-as c = rw (tests-fit c, first-room c)
 

@@ -153,8 +153,8 @@ record Fresh (image : List ℕ) (machine : Machine) (table : List Task) (pool en
   ids : Begins image machine
 
 data Creates (image : List ℕ) : Made → Type 0 where
-  creates : (machine : Machine) (table : List Task) (pool ends i p : List ℕ) → Fresh image machine table pool ends → Creates image (made (Created machine) table pool ends i p)
-  not-creates : (refusal : Refusal) (table : List Task) (pool ends i p : List ℕ) → Creates image (made (NotCreated refusal) table pool ends i p)
+  creates : (machine : Machine) (table : List Task) (pool ends : List ℕ) → Fresh image machine table pool ends → Creates image (made (Created machine) table pool ends)
+  not-creates : (refusal : Refusal) (table : List Task) (pool ends : List ℕ) → Creates image (made (NotCreated refusal) table pool ends)
 
 -- no entry yet
 pub none-joined : (ends : List ℕ) → end-to-end ends 0 0 ≡ true
@@ -163,12 +163,12 @@ none-joined ends = refl
 
 module _ (table : List Task) (pool ends image program : List ℕ) (lent : length ends ≡ 1024) where
   with-entry : (next-id count len : ℕ) (p : Pooled) → Fits (length table) (length pool) (length program) image next-id count len → Interns pool ends 0 p
-      → Creates image (create-as table (interned-program next-id count len image program p))
+      → Creates image (create-as table image (interned-program next-id count len p))
   unfolding create-as with-program unfit
   with-entry next-id count len _ f (interns used new-pool new-ends s grows) =
       let some : 0 < 1 = omega arith in
       let l : Loaded _ _ len count = loaded table (length pool) (length program) image next-id count len f new-pool new-ends (in-use used 1) s some in
-      creates _ _ _ _ image program (record {
+      creates _ _ _ _ (record {
         is-sound = λ stack memory save stack-long. kept-sound _ (record {
           machine-kept = new-machined (length memory) _ (length save) stack _ used _ _ next-id len stack-long (l .loads .pool) (l .loads .some);
           table-kept = all-tabled table (length pool) (length program) image next-id count len f new-pool new-ends (in-use used 1) s some;
@@ -177,13 +177,13 @@ module _ (table : List Task) (pool ends image program : List ℕ) (lent : length
         new = refl;
         ids = begins-with table (length pool) (length program) image next-id count len f _ refl refl;
       })
-  with-entry next-id count len _ f (not-interns refusal) = not-creates refusal table pool ends image program
+  with-entry next-id count len _ f (not-interns refusal) = not-creates refusal table pool ends
 
-  by-tests : (result : CreationResult) → creation-tests (length table) (length pool) (length program) image ≡ result → Creates image (create-as table (prepare-fit pool ends image program result))
+  by-tests : (result : CreationResult) → creation-tests (length table) (length pool) (length program) image ≡ result → Creates image (create-as table image (prepare-fit pool ends program result))
   unfolding create-as prepare-fit unfit
   by-tests (Fit next-id count len) e =
       with-entry (next-id .0) count len _ (fits (length table) (length pool) (length program) image (next-id .0) count len e) (intern-keeps pool ends 0 0 program lent (none-joined ends))
-  by-tests (Unfit refusal) e = not-creates refusal table pool ends image program
+  by-tests (Unfit refusal) e = not-creates refusal table pool ends
 
   creating : Creates image (create table pool ends image program)
   unfolding create-by-parts prepare
@@ -199,8 +199,8 @@ is-created (NotCreated refusal) = 0
 
 fresh-by : (image : List ℕ) (machine : Machine) (m : Made) → Creates image m → m .answer ≡ Created machine → Fresh image machine (m .table) (m .pool) (m .ends)
 unfolding machine-of is-created
-fresh-by image machine _ (creates other table pool ends i p fresh) e = subst (λ (c : Machine). Fresh image c table pool ends) (ap (machine-of machine) e) fresh
-fresh-by image machine _ (not-creates refusal table pool ends i p) e = absurd (let z : _≡_ {A = ℕ} 0 1 = ap is-created e in omega arith)
+fresh-by image machine _ (creates other table pool ends fresh) e = subst (λ (c : Machine). Fresh image c table pool ends) (ap (machine-of machine) e) fresh
+fresh-by image machine _ (not-creates refusal table pool ends) e = absurd (let z : _≡_ {A = ℕ} 0 1 = ap is-created e in omega arith)
 
 module _ (table : List Task) (pool ends image program : List ℕ) (machine : Machine) (lent : length ends ≡ 1024) (is : create table pool ends image program .answer ≡ Created machine) where
   abbrev after : Made

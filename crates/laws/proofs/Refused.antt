@@ -140,29 +140,29 @@ nothing-written w lent _ (no-task id refusal e) = task-leaves id w
 
 module _ (table : List Task) (pool ends image program : List ℕ) (refusal : Refusal) where
   abbrev Nothing : Made → Type 0
-  Nothing m = m .answer ≡ NotCreated refusal → m ≡ made (NotCreated refusal) table pool ends image program
+  Nothing m = m .answer ≡ NotCreated refusal → m ≡ made (NotCreated refusal) table pool ends
 
-  full : (next-id s-len : ℕ) (other : Refusal) → Nothing (create-behind table image program next-id s-len pool ends (NotInterned other))
+  full : (next-id s-len : ℕ) (other : Refusal) → Nothing (create-behind table image next-id s-len pool ends (NotInterned other))
   unfolding create-behind
-  full next-id s-len other e = ap (λ (r : CreateResult). made r table pool ends image program) e
+  full next-id s-len other e = ap (λ (r : CreateResult). made r table pool ends) e
 
-  fits : (next-id s-len : ℕ) (after more : List ℕ) (result : InternResult) → result ≡ new-entry 0 (0 + length program) → Nothing (create-behind table image program next-id s-len after more result)
+  fits : (next-id s-len : ℕ) (after more : List ℕ) (result : InternResult) → result ≡ new-entry 0 (0 + length program) → Nothing (create-behind table image next-id s-len after more result)
   unfolding create-behind
   fits next-id s-len after more (Interned entry bytes) is e = absurd (let z : _≡_ {A = ℕ} 0 1 = cc in omega arith)
   fits next-id s-len after more (NotInterned other) is e = absurd (let z : _≡_ {A = ℕ} 0 1 = cc in omega arith)
 
   behind : (next-id s-len : ℕ) (test : Bool) → has-room (length pool) 0 0 (length program) ≡ test
-      → Nothing (create-behind table image program next-id s-len (interned pool ends 0 0 program .pool) (interned pool ends 0 0 program .ends) (interned pool ends 0 0 program .answer))
+      → Nothing (create-behind table image next-id s-len (interned pool ends 0 0 program .pool) (interned pool ends 0 0 program .ends) (interned pool ends 0 0 program .answer))
   behind next-id s-len true held = fits next-id s-len _ _ _ (ap (λ (p : Pooled). p .answer) (when-room pool ends 0 0 program held))
   behind next-id s-len false failed =
-      subst (λ (p : Pooled). Nothing (create-behind table image program next-id s-len (p .pool) (p .ends) (p .answer))) (sym (when-full pool ends 0 0 program failed)) (full next-id s-len _)
+      subst (λ (p : Pooled). Nothing (create-behind table image next-id s-len (p .pool) (p .ends) (p .answer))) (sym (when-full pool ends 0 0 program failed)) (full next-id s-len _)
 
   by-tests : (result : CreationResult) → Nothing (create-fit table pool ends image program result)
   unfolding create-fit
   by-tests (Fit next-id count s-len) = behind (next-id .0) s-len (has-room (length pool) 0 0 (length program)) refl
-  by-tests (Unfit other) = λ e. ap (λ (r : CreateResult). made r table pool ends image program) e
+  by-tests (Unfit other) = λ e. ap (λ (r : CreateResult). made r table pool ends) e
 
   -- whatever it is refused for, creation writes nothing
-  pub creation-not-created : create table pool ends image program .answer ≡ NotCreated refusal → create table pool ends image program ≡ made (NotCreated refusal) table pool ends image program
+  pub creation-not-created : create table pool ends image program .answer ≡ NotCreated refusal → create table pool ends image program ≡ made (NotCreated refusal) table pool ends
   unfolding create
   creation-not-created e = by-tests (creation-tests (length table) (length pool) (length program) image) e

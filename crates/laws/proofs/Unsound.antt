@@ -50,6 +50,6 @@ other-slots w other = simp (other)
 
 -- and creation over one is refused before anything is written
 pub creation-refused : (table : List Task) (pool ends image program : List ℕ) → eqb (length table) 256 ≡ false
-    → create table pool ends image program ≡ made (NotCreated WrongPhaseOrUnsound) table pool ends image program
+    → create table pool ends image program ≡ made (NotCreated WrongPhaseOrUnsound) table pool ends
 unfolding create create-fit creation-tests
 creation-refused table pool ends image program other = simp (other)

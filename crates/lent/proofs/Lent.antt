@@ -1,5 +1,5 @@
--- A call whose first arguments are things that the caller holds by `&mut` and uses again: any number of `&mut [X]` and `&mut R`, then plain data.
--- Each is lent again for a lifetime that is made for the call, and comes back at the last value that the callee's contract says.
+-- A call whose first arguments are things that the caller holds by reference and uses again: any number of `&mut [X]`, `&mut R` and `&[u8]`, then plain data.
+-- Each is lent again for a lifetime that is made for the call, and comes back at the last value that the callee's contract says; a `&[u8]` as it was.
 -- Assumes `Given`.
 use Prim.Native.Nat.{ℕ, zero, suc}
 use mathlib.Core.Path.{_≡_, _∙_, sym, subst}
@@ -19,11 +19,12 @@ use types.Run.{Opds}
 use types.Tokens.{lft-new, lft-end}
 use sound.WpLaws.{FmC}
 use denote.RattleType.{RattleType, Denots, Valss, flat, owns}
+use denote.Builtin.{u8}
 use denote.Exit.{yes, Last, left}
 use denote.Ref.{MutRef, now}
-use denote.Slice.{sliceVal, MutSlice, Room, finally}
+use denote.Slice.{sliceVal, MutSlice, ShrSlice, Room, finally}
 use denote.Lend.{LentAgain as LentRefAgain, lends-again as lends-ref-again, comes-back as ref-comes-back}
-use denote.Signature.{Slot, Signature, plain, mutRef, mutSlice, typesAt}
+use denote.Signature.{Slot, Signature, plain, mutRef, mutSlice, shrSlice, typesAt}
 use denote.Steps.{nothing}
 use denote.Triple.End.{all, Fins, lastsOf}
 use denote.Triple.Statement.{Contract, Triple}
@@ -31,6 +32,7 @@ use denote.Triple.Spec.{tripleOf}
 use denote.Triple.Call.{calls-at}
 use denote.Triple.Clauses.{Ended, Clauses, Lasts, atExit, lasts, ensured, closing}
 use Rattle.lent.proofs.Again.{LentAgain, lends-again, comes-back}
+use Rattle.lent.proofs.Seen.{SeenAgain, seen-again, seen-back}
 
 -- ---- one lent thing
 
@@ -38,58 +40,69 @@ use Rattle.lent.proofs.Again.{LentAgain, lends-again, comes-back}
 pub data Thing : Type 2 where
   part : (X : RattleType) (b o n : ℕ) (κ : Lft) (q : Share) (γ : GName) → Thing  -- a `&κ mut [X]` of n elements
   whole : (R : RattleType) (b o : ℕ) (κ : Lft) (q : Share) (γ : GName) → Thing  -- a `&κ mut R`
+  seen : (b o n : ℕ) (κ : Lft) (q : Share) (γ : GName) → Thing  -- a `&κ [u8]` of n bytes
 
 -- its value
 abbrev pub Now : Thing → Type 0
 Now (part X b o n κ q γ) = List (X .Denot)
 Now (whole R b o κ q γ) = R .Denot
+Now (seen b o n κ q γ) = List ℕ
 
 -- what is known of it for good
 abbrev pub Fits : Thing → Type 0
 Fits (part X b o n κ q γ) = Room X n
 Fits (whole R b o κ q γ) = Unit {0}
+Fits (seen b o n κ q γ) = Unit {0}
 
 -- what is known of its value
 abbrev pub Fit : (t : Thing) → Now t → Type 0
 Fit (part X b o n κ q γ) ys = length ys ≡ n
 Fit (whole R b o κ q γ) x = Unit {0}
+Fit (seen b o n κ q γ) ys = length ys ≡ n
 
 -- its machine value
 abbrev pub val : Thing → Val
 val (part X b o n κ q γ) = sliceVal (b, o) n
 val (whole R b o κ q γ) = vptr b o
+val (seen b o n κ q γ) = sliceVal (b, o) n
 
 -- what its holder owns
 abbrev pub has : (t : Thing) → Now t → Fml
 has (part X b o n κ q γ) ys = MutSlice (named 0) κ X .own (record { ptr = (b, o); name = γ; now = ys }) (sliceVal (b, o) n ∷ [])
 has (whole R b o κ q γ) x = MutRef (named 0) κ R .own (record { ptr = (b, o); name = γ; now = x }) (vptr b o ∷ [])
+has (seen b o n κ q γ) ys = ShrSlice (named 0) κ u8 .own (record { ptr = (b, o); name = γ; now = ys }) (sliceVal (b, o) n ∷ [])
 
 -- a share of its lifetime
 abbrev pub token : Thing → Fml
 token (part X b o n κ q γ) = flft κ q
 token (whole R b o κ q γ) = flft κ q
+token (seen b o n κ q γ) = flft κ q
 
 -- what its holder keeps while it is lent again
 abbrev pub kept : (t : Thing) → Lft → GName → Now t → Fml
 kept (part X b o n κ q γ) κ′ δ ys = LentAgain X κ κ′ q γ b o δ ys
 kept (whole R b o κ q γ) κ′ δ x = LentRefAgain R κ κ′ q γ b o δ x
+kept (seen b o n κ q γ) κ′ δ ys = SeenAgain κ κ′ q γ b o ys
 
 module _ (n : ℕ) where
   -- its parameter, at the j-th of n lifetimes
   abbrev pub slot : Thing → (j : ℕ) → Within n j → Slot n
   slot (part X b o m κ q γ) j ok = mutSlice j ok (λ _. X)
   slot (whole R b o κ q γ) j ok = mutRef j ok (λ _. R)
+  slot (seen b o m κ q γ) j ok = shrSlice j ok (λ _. u8)
 
   module _ (κs : Lfts n) where
     -- its argument, under a new name
     abbrev pub arg : (t : Thing) (j : ℕ) (ok : Within n j) → GName → Now t → slot t j ok .row κs .Denot
     arg (part X b o m κ q γ) j ok δ ys = record { ptr = (b, o); name = δ; now = ys }
     arg (whole R b o κ q γ) j ok δ x = record { ptr = (b, o); name = δ; now = x }
+    arg (seen b o m κ q γ) j ok δ ys = record { ptr = (b, o); name = δ; now = ys }
 
     -- its last value, of what the contract binds
     abbrev pub new : (t : Thing) (j : ℕ) (ok : Within n j) (δ : GName) (x : Now t) → Last (slot t j ok .row κs .exit yes) (arg t j ok δ x) → Now t
     new (part X b o m κ q γ) j ok δ ys w = w
     new (whole R b o κ q γ) j ok δ x w = w
+    new (seen b o m κ q γ) j ok δ ys w = ys
 
     module _ {M : Type 1} (𝓤 : URA M) (H : Heap 𝓤) (A : Atoms 𝓤) (W : Given 𝓤 H A) where
       -- it is lent again
@@ -100,6 +113,9 @@ module _ (n : ℕ) where
           (H .⇛ (ex 𝓤 (λ (δ : GName). sep 𝓤 (sem 𝓤 H A (MutSlice (named j) (lftAt n j ok κs) X .own (record { ptr = (b, o); name = δ; now = ys }) (sliceVal (b, o) i ∷ []))) (sem 𝓤 H A (LentAgain X κ (lftAt n j ok κs) q γ b o δ ys)))))) e
           (lends-again X κ (lftAt n j ok κs) q γ b o 𝓤 H A W (named 0) (named j) ys)
       lends (whole R b o κ q γ) j ok x e = lends-ref-again 𝓤 H A W R (named 0) κ (lftAt n j ok κs) q γ b o (named j) x
+      lends (seen b o m κ q γ) j ok ys e = subst (λ (i : ℕ). ent 𝓤 (sep 𝓤 (sem 𝓤 H A (ShrSlice (named 0) κ u8 .own (record { ptr = (b, o); name = γ; now = ys }) (sliceVal (b, o) i ∷ []))) (A .lft κ q))
+          (H .⇛ (ex 𝓤 (λ (δ : GName). sep 𝓤 (sem 𝓤 H A (ShrSlice (named j) (lftAt n j ok κs) u8 .own (record { ptr = (b, o); name = δ; now = ys }) (sliceVal (b, o) i ∷ []))) (sem 𝓤 H A (SeenAgain κ (lftAt n j ok κs) q γ b o ys)))))) e
+          (seen-again κ (lftAt n j ok κs) q γ b o 𝓤 H A W ys (named j))
 
       -- it comes back
       backs : (t : Thing) (j : ℕ) (ok : Within n j) (δ : GName) (x : Now t) (w : Last (slot t j ok .row κs .exit yes) (arg t j ok δ x)) → Fits t → Fit t x
@@ -119,6 +135,15 @@ module _ (n : ℕ) where
           qed W (‵ (fdead (lftAt n j ok κs)) ∷ ‵ (LentRefAgain R κ (lftAt n j ok κs) q γ b o δ x) ∷ ‵ (left (mutRef {n = n} j ok (λ _. R) .row κs .exit yes) (record { ptr = (b, o); name = δ; now = x }) y) ∷ []) ∵ updating ! $
           use3 W (later (‵ (MutRef (named 0) κ R .own (record { ptr = (b, o); name = γ; now = y }) (vptr b o ∷ [])) ⊛ ‵ (flft κ q))) (ref-comes-back 𝓤 H A W R (named 0) κ (lftAt n j ok κs) q γ b o δ x y) $
           await ! tt $ split ! $ at-once ! $ check ! tt $ done !
+      backs (seen b o m κ q γ) j ok δ ys w room e =
+          qed W (‵ (fdead (lftAt n j ok κs)) ∷ ‵ (SeenAgain κ (lftAt n j ok κs) q γ b o ys) ∷ ‵ ftrue ∷ []) ∵ updating ! $
+          use2 W (later (‵ (ShrSlice (named 0) κ u8 .own (record { ptr = (b, o); name = γ; now = ys }) (sliceVal (b, o) m ∷ [])) ⊛ ‵ (flft κ q))) at-count $ await ! tt $ split ! $ at-once ! $ check ! e $ keep ! (0 ∷ 1 ∷ []) $ done !
+        where
+          at-count : ent 𝓤 (sep 𝓤 (A .dead (lftAt n j ok κs)) (sem 𝓤 H A (SeenAgain κ (lftAt n j ok κs) q γ b o ys)))
+              (H .⇛ (sep 𝓤 (sem 𝓤 H A (ShrSlice (named 0) κ u8 .own (record { ptr = (b, o); name = γ; now = ys }) (sliceVal (b, o) m ∷ []))) (A .lft κ q)))
+          at-count = subst (λ (i : ℕ). ent 𝓤 (sep 𝓤 (A .dead (lftAt n j ok κs)) (sem 𝓤 H A (SeenAgain κ (lftAt n j ok κs) q γ b o ys)))
+              (H .⇛ (sep 𝓤 (sem 𝓤 H A (ShrSlice (named 0) κ u8 .own (record { ptr = (b, o); name = γ; now = ys }) (sliceVal (b, o) i ∷ []))) (A .lft κ q)))) e
+              (seen-back κ (lftAt n j ok κs) q γ b o 𝓤 H A W ys)
 
 -- ---- a list of them
 

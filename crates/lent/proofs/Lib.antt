@@ -6,5 +6,6 @@ pub mod Landed
 pub mod Lent
 pub mod Opened
 pub mod Rest
+pub mod Seen
 pub mod Shut
 pub mod Slots

@@ -41,42 +41,37 @@ new-machine bytes entries next-id count = record {
   saved = 0;
 }
 
--- an answer, and the table, the pool, its ends, the image and the program after it
+-- an answer, and the table, the pool and its ends after it; the image and the program are only read
 pub record Made : Type 0 where
   pub answer : CreateResult
   pub table : List Task
   pub pool : List ℕ
   pub ends : List ℕ
-  pub image : List ℕ
-  pub program : List ℕ
 
-abbrev pub made : CreateResult → List Task → List ℕ → List ℕ → List ℕ → List ℕ → Made
-made answer table pool ends image program =
-    record { answer = answer; table = table; pool = pool; ends = ends; image = image; program = program }
+abbrev pub made : CreateResult → List Task → List ℕ → List ℕ → Made
+made answer table pool ends = record { answer = answer; table = table; pool = pool; ends = ends }
 
 -- the program stands in the pool as its only entry
 abbrev pub program-first : List Task → List ℕ → List ℕ → ℕ → Loading
 program-first table pool ends bytes = record { table = table; pool = pool; ends = ends; bytes = bytes; entries = 1 }
 
 -- the machine, once the image's tasks are loaded
-abbrev pub loaded : ℕ → ℕ → List ℕ → List ℕ → Loading → Made
-loaded next-id s-len image program l =
-    made (Created (new-machine (l .bytes) (l .entries) next-id s-len)) (l .table) (l .pool) (l .ends) image program
+abbrev pub loaded : ℕ → ℕ → Loading → Made
+loaded next-id s-len l = made (Created (new-machine (l .bytes) (l .entries) next-id s-len)) (l .table) (l .pool) (l .ends)
 
 -- the program is entry 0, and behind it come the image's tasks, in a table whose other slots are blank
-unfoldable pub create-behind : List Task → List ℕ → List ℕ → ℕ → ℕ → List ℕ → List ℕ → InternResult → Made
-create-behind table image program next-id s-len pool ends (Interned entry bytes) =
-    loaded next-id s-len image program (load-table image (program-first table pool ends bytes))
-create-behind table image program next-id s-len pool ends (NotInterned refusal) = made (NotCreated refusal) table pool ends image program
+unfoldable pub create-behind : List Task → List ℕ → ℕ → ℕ → List ℕ → List ℕ → InternResult → Made
+create-behind table image next-id s-len pool ends (Interned entry bytes) = loaded next-id s-len (load-table image (program-first table pool ends bytes))
+create-behind table image next-id s-len pool ends (NotInterned refusal) = made (NotCreated refusal) table pool ends
 
 -- the same, from the pool that interning leaves
-abbrev pub entered : List Task → List ℕ → List ℕ → ℕ → ℕ → Pooled → Made
-entered table image program next-id s-len p = create-behind table image program next-id s-len (p .pool) (p .ends) (p .answer)
+abbrev pub entered : List Task → List ℕ → ℕ → ℕ → Pooled → Made
+entered table image next-id s-len p = create-behind table image next-id s-len (p .pool) (p .ends) (p .answer)
 
 -- what fits is created; where a test refuses, nothing is written
 unfoldable pub create-fit : List Task → List ℕ → List ℕ → List ℕ → List ℕ → CreationResult → Made
-create-fit table pool ends image program (Fit next-id count s-len) = entered table image program (next-id .0) s-len (interned pool ends 0 0 program)
-create-fit table pool ends image program (Unfit refusal) = made (NotCreated refusal) table pool ends image program
+create-fit table pool ends image program (Fit next-id count s-len) = entered table image (next-id .0) s-len (interned pool ends 0 0 program)
+create-fit table pool ends image program (Unfit refusal) = made (NotCreated refusal) table pool ends
 
 -- creation: 26 for the table, then 1, 28, 25, 22; then the program and the tasks
 unfoldable pub create : List Task → List ℕ → List ℕ → List ℕ → List ℕ → Made

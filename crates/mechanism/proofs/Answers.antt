@@ -10,7 +10,7 @@ use Rattle.storage.specs.Storage.{slot-of}
 use Rattle.storage.specs.Tasks.{blank, After, after}
 use Rattle.storage.specs.Table.{sound-table}
 use Rattle.image.specs.declared.SaveResult.{SaveResult}
-use Rattle.image.specs.Table.{SavedTable, saved-table, save-table, Loading}
+use Rattle.image.specs.Table.{SavedTable, saved-table, save-table}
 use Rattle.image.specs.Writing.{Stepped, stepped}
 use Rattle.table_image.specs.Loops.{load-records}
 use Rattle.table_image.specs.Tables.{Held, held, in-use, loading}
@@ -50,22 +50,22 @@ tests table memory pool ends save machine {good} {answer} {table′} e f =
 
 -- ---- creation
 
-module _ (table : List Task) (pool ends image program : List ℕ) {ready : Preparation} {pool′ ends′ image′ program′ : List ℕ}
-    (e : prepared ready pool′ ends′ image′ program′ ≡ prepare pool ends image program (length table)) where
+module _ (table : List Task) (pool ends image program : List ℕ) {ready : Preparation} {pool′ ends′ : List ℕ}
+    (e : prepared ready pool′ ends′ ≡ prepare pool ends image program (length table)) where
   -- it goes on to the image's tasks
-  pub creates : {used : InUse} {r : CreateResult} {table″ : List Task} {pool″ ends″ image″ : List ℕ} → ready .fits ≡ true
-      → after (loading table″ pool″ ends″ used) image″ ≡ after (load-records (ready .count) image′ 14 (loading (replicate (length table) blank) pool′ ends′ (in-use (ready .machine .pool) (ready .machine .entries)))) image′
-      → r ≡ created-with (ready .machine) used → made r table″ pool″ ends″ image″ program′ ≡ create table pool ends image program
+  pub creates : {used : InUse} {r : CreateResult} {table″ : List Task} {pool″ ends″ : List ℕ} → ready .fits ≡ true
+      → loading table″ pool″ ends″ used ≡ load-records (ready .count) image 14 (loading (replicate (length table) blank) pool′ ends′ (in-use (ready .machine .pool) (ready .machine .entries)))
+      → r ≡ created-with (ready .machine) used → made r table″ pool″ ends″ ≡ create table pool ends image program
   unfolding create-by-parts create-as
-  creates {used} {r} {table″} {pool″} {ends″} {image″} fits f g =
-      ap (λ (a : CreateResult). made a table″ pool″ ends″ image″ program′) g
-      ∙ ap (λ (a : After Loading (List ℕ)). loaded-from (ready .machine) (a .lent) program′ (a .answer)) f
-      ∙ sym (simp (fits)) ∙ ap (create-as table) e ∙ create-is table pool ends image program
+  creates {used} {r} {table″} {pool″} {ends″} fits f g =
+      ap (λ (a : CreateResult). made a table″ pool″ ends″) g
+      ∙ ap (loaded-from (ready .machine)) f
+      ∙ sym (simp (fits)) ∙ ap (create-as table image) e ∙ create-is table pool ends image program
 
   -- it is refused
-  pub creates-none : {r : CreateResult} → ready .fits ≡ false → r ≡ NotCreated (ready .refusal) → made r table pool′ ends′ image′ program′ ≡ create table pool ends image program
+  pub creates-none : {r : CreateResult} → ready .fits ≡ false → r ≡ NotCreated (ready .refusal) → made r table pool′ ends′ ≡ create table pool ends image program
   unfolding create-by-parts create-as
-  creates-none fits g = ap (λ (a : CreateResult). made a table pool′ ends′ image′ program′) g ∙ sym (simp (fits)) ∙ ap (create-as table) e ∙ create-is table pool ends image program
+  creates-none fits g = ap (λ (a : CreateResult). made a table pool′ ends′) g ∙ sym (simp (fits)) ∙ ap (create-as table image) e ∙ create-is table pool ends image program
 
 -- ---- what follows a test
 

@@ -19,12 +19,12 @@ use Rattle.mechanism.specs.Creating.{unfit, with-program, prepared, prep
 module _ (table : List Task) (pool ends image program : List ℕ) where
   -- behind the program, as many records as the image counts are its tasks
   behind : (next-id count s-len : ℕ) → Fits (length table) (length pool) (length program) image next-id count s-len → (after new : List ℕ) (answer : InternResult)
-      → create-as table (prepared (with-program next-id count s-len answer) after new image program) ≡ create-behind table image program next-id s-len after new answer
+      → create-as table image (prepared (with-program next-id count s-len answer) after new) ≡ create-behind table image next-id s-len after new answer
   unfolding create-as with-program unfit create-behind
-  behind next-id count s-len f after new (Interned entry bytes) = ap (loaded next-id s-len image program) (records-told f table after new (in-use bytes 1))
+  behind next-id count s-len f after new (Interned entry bytes) = ap (loaded next-id s-len) (records-told f table after new (in-use bytes 1))
   behind next-id count s-len f after new (NotInterned refusal) = refl
 
-  by-tests : (result : CreationResult) → creation-tests (length table) (length pool) (length program) image ≡ result → create-as table (prepare-fit pool ends image program result) ≡ create-fit table pool ends image program result
+  by-tests : (result : CreationResult) → creation-tests (length table) (length pool) (length program) image ≡ result → create-as table image (prepare-fit pool ends program result) ≡ create-fit table pool ends image program result
   unfolding create-as prepare-fit unfit create-fit
   by-tests (Fit next-id count s-len) e =
       behind (next-id .0) count s-len (fits (length table) (length pool) (length program) image (next-id .0) count s-len e) (interned pool ends 0 0 program .pool) (interned pool ends 0 0 program .ends)

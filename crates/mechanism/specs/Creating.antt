@@ -24,16 +24,14 @@ use Rattle.machine.specs.declared.CreateResult.{CreateResult}
 use Rattle.machine.specs.declared.CreateResult.the-variants.{Created, NotCreated}
 use Rattle.machine.specs.declared.Preparation.{Preparation}
 
--- what is prepared, and the pool, its ends, the image and the program after it
+-- what is prepared, and the pool and its ends after it
 pub record PreparedIn : Type 0 where
   pub ready : Preparation
   pub pool : List ℕ
   pub ends : List ℕ
-  pub image : List ℕ
-  pub program : List ℕ
 
-abbrev pub prepared : Preparation → List ℕ → List ℕ → List ℕ → List ℕ → PreparedIn
-prepared ready pool ends image program = record { ready = ready; pool = pool; ends = ends; image = image; program = program }
+abbrev pub prepared : Preparation → List ℕ → List ℕ → PreparedIn
+prepared ready pool ends = record { ready = ready; pool = pool; ends = ends }
 
 -- a creation that is refused, and one that goes on
 unfoldable pub unfit : Refusal → Preparation
@@ -47,34 +45,33 @@ unfoldable pub with-program : ℕ → ℕ → ℕ → InternResult → Preparati
 with-program next-id count s-len (Interned entry bytes) = fit (new-machine bytes 1 next-id s-len) count
 with-program next-id count s-len (NotInterned refusal) = unfit refusal
 
-abbrev pub interned-program : ℕ → ℕ → ℕ → List ℕ → List ℕ → Pooled → PreparedIn
-interned-program next-id count s-len image program p = prepared (with-program next-id count s-len (p .answer)) (p .pool) (p .ends) image program
+abbrev pub interned-program : ℕ → ℕ → ℕ → Pooled → PreparedIn
+interned-program next-id count s-len p = prepared (with-program next-id count s-len (p .answer)) (p .pool) (p .ends)
 
-unfoldable pub prepare-fit : List ℕ → List ℕ → List ℕ → List ℕ → CreationResult → PreparedIn
-prepare-fit pool ends image program (Fit next-id count s-len) = interned-program (next-id .0) count s-len image program (interned pool ends 0 0 program)
-prepare-fit pool ends image program (Unfit refusal) = prepared (unfit refusal) pool ends image program
+unfoldable pub prepare-fit : List ℕ → List ℕ → List ℕ → CreationResult → PreparedIn
+prepare-fit pool ends program (Fit next-id count s-len) = interned-program (next-id .0) count s-len (interned pool ends 0 0 program)
+prepare-fit pool ends program (Unfit refusal) = prepared (unfit refusal) pool ends
 
 -- 26 for the table, then 1, 28, 25, 22, before anything is written
 unfoldable pub prepare : List ℕ → List ℕ → List ℕ → List ℕ → ℕ → PreparedIn
-prepare pool ends image program slots = prepare-fit pool ends image program (creation-tests slots (length pool) (length program) image)
+prepare pool ends image program slots = prepare-fit pool ends program (creation-tests slots (length pool) (length program) image)
 
 -- the machine, once its tasks are loaded
 abbrev pub created-with : Machine → InUse → CreateResult
 created-with machine used = Created (with-pool machine (used .bytes) (used .entries))
 
 -- the tasks of the image in a table whose other slots are blank
-abbrev pub loaded-from : Machine → List ℕ → List ℕ → Loading → Made
-loaded-from machine image program l =
-    made (created-with machine (in-use (l .bytes) (l .entries))) (l .table) (l .pool) (l .ends) image program
+abbrev pub loaded-from : Machine → Loading → Made
+loaded-from machine l = made (created-with machine (in-use (l .bytes) (l .entries))) (l .table) (l .pool) (l .ends)
 
-unfoldable pub create-as : List Task → PreparedIn → Made
-create-as table p =
+unfoldable pub create-as : List Task → List ℕ → PreparedIn → Made
+create-as table image p =
     cond (p .ready .fits)
-    (loaded-from (p .ready .machine) (p .image) (p .program)
-    (load-records (p .ready .count) (p .image) 14
+    (loaded-from (p .ready .machine)
+    (load-records (p .ready .count) image 14
     (loading (replicate (length table) blank) (p .pool) (p .ends) (in-use (p .ready .machine .pool) (p .ready .machine .entries)))))
-    (made (NotCreated (p .ready .refusal)) table (p .pool) (p .ends) (p .image) (p .program))
+    (made (NotCreated (p .ready .refusal)) table (p .pool) (p .ends))
 
 -- creation, a part after the other
 unfoldable pub create-by-parts : List Task → List ℕ → List ℕ → List ℕ → List ℕ → Made
-create-by-parts table pool ends image program = create-as table (prepare pool ends image program (length table))
+create-by-parts table pool ends image program = create-as table image (prepare pool ends image program (length table))

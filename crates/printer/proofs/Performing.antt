@@ -97,15 +97,15 @@ all-called calls start number count w {at-last} {c} inside past so-far same =
 
 -- ---- over a table of blank slots
 
-pub owns-it : (start count : ℕ) (stack memory pool ends save image program calls : List ℕ) {slot : Task} {creation : CreateResult} {t₁ : List Task} {p₁ e₁ i₁ g₁ : List ℕ} {begun : Machine} {allowed : ℕ}
+pub owns-it : (start count : ℕ) (stack memory pool ends save image program calls : List ℕ) {slot : Task} {creation : CreateResult} {t₁ : List Task} {p₁ e₁ : List ℕ} {begun : Machine} {allowed : ℕ}
     {at-last : Machine} {t₂ : List Task} {s₂ m₂ p₂ e₂ v₂ c₂ : List ℕ} → slot ≡ blank
-    → made creation t₁ p₁ e₁ i₁ g₁ ≡ create (replicate 256 slot) pool ends image program → begun ≡ machine-of creation → allowed ≡ count-of creation count
+    → made creation t₁ p₁ e₁ ≡ create (replicate 256 slot) pool ends image program → begun ≡ machine-of creation → allowed ≡ count-of creation count
     → after (world at-last t₂ s₂ m₂ p₂ e₂ v₂) c₂ ≡ after (after-calls calls start allowed (world begun t₁ stack memory p₁ e₁ save)) calls
-    → lent s₂ m₂ p₂ e₂ v₂ i₁ g₁ c₂ ≡ own start count stack memory pool ends save image program calls
+    → lent s₂ m₂ p₂ e₂ v₂ c₂ ≡ own start count stack memory pool ends save image program calls
 unfolding own played blank-table
-owns-it start count stack memory pool ends save image program calls {slot} {creation} {t₁} {p₁} {e₁} {i₁} {g₁} {begun} {allowed} blanks creates begins allows plays =
-    ap (λ (x : After World (List ℕ)). without-table i₁ g₁ (x .lent) (x .answer)) plays
-    ∙ ap (λ (n : ℕ). without-table i₁ g₁ calls (after-calls calls start n (world begun t₁ stack memory p₁ e₁ save))) allows
-    ∙ ap (λ (m : Machine). without-table i₁ g₁ calls (after-calls calls start (count-of creation count) (world m t₁ stack memory p₁ e₁ save))) begins
+owns-it start count stack memory pool ends save image program calls {slot} {creation} {t₁} {p₁} {e₁} {begun} {allowed} blanks creates begins allows plays =
+    ap (λ (x : After World (List ℕ)). without-table (x .lent) (x .answer)) plays
+    ∙ ap (λ (n : ℕ). without-table calls (after-calls calls start n (world begun t₁ stack memory p₁ e₁ save))) allows
+    ∙ ap (λ (m : Machine). without-table calls (after-calls calls start (count-of creation count) (world m t₁ stack memory p₁ e₁ save))) begins
     ∙ ap (played start count stack memory save calls) creates
     ∙ ap (λ (t : Task). played start count stack memory save calls (create (replicate 256 t) pool ends image program)) blanks

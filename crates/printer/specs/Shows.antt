@@ -54,28 +54,25 @@ after-calls calls from (suc number) w = after-call calls from number (after-call
 
 -- ---- over a table of its own
 
--- everything lent but the table
+-- everything lent to be written but the table
 pub record Lent : Type 0 where
   pub stack : List ℕ
   pub memory : List ℕ
   pub pool : List ℕ
   pub ends : List ℕ
   pub save : List ℕ
-  pub image : List ℕ
-  pub program : List ℕ
   pub calls : List ℕ
 
-abbrev pub lent : List ℕ → List ℕ → List ℕ → List ℕ → List ℕ → List ℕ → List ℕ → List ℕ → Lent
-lent stack memory pool ends save image program calls =
-    record { stack = stack; memory = memory; pool = pool; ends = ends; save = save; image = image; program = program; calls = calls }
+abbrev pub lent : List ℕ → List ℕ → List ℕ → List ℕ → List ℕ → List ℕ → Lent
+lent stack memory pool ends save calls = record { stack = stack; memory = memory; pool = pool; ends = ends; save = save; calls = calls }
 
-abbrev pub without-table : List ℕ → List ℕ → List ℕ → World → Lent
-without-table image program calls w = lent (w .stack) (w .memory) (w .pool) (w .ends) (w .save) image program calls
+abbrev pub without-table : List ℕ → World → Lent
+without-table calls w = lent (w .stack) (w .memory) (w .pool) (w .ends) (w .save) calls
 
 -- the calls on what was created: none, if creation was refused
 unfoldable pub played : ℕ → ℕ → List ℕ → List ℕ → List ℕ → List ℕ → Made → Lent
 played from count stack memory save calls m =
-    without-table (m .image) (m .program) calls
+    without-table calls
     (after-calls calls from (count-of (m .answer) count) (world (machine-of (m .answer)) (m .table) stack memory (m .pool) (m .ends) save))
 
 -- a creation over a blank table, then the calls

@@ -147,14 +147,14 @@ pub fn own(
     pool: &mut [u8],
     ends: &mut [u32; 1024],
     save: &mut [u8],
-    image: &mut [u8],
-    program: &mut [u8],
+    image: &[u8],
+    program: &[u8],
     calls: &mut [u8],
     from: usize,
     count: usize,
     everything: bool,
 )
-    ensures { λ _. ⌜ lent (now (stack .exit)) (now (memory .exit)) (now (pool .exit)) (now (ends .exit)) (now (save .exit)) (now (image .exit)) (now (program .exit)) (now (calls .exit)) ≡ own from count (now (stack .entry)) (now (memory .entry)) (now (pool .entry)) (now (ends .entry)) (now (save .entry)) (now (image .entry)) (now (program .entry)) (now (calls .entry)) ⌝ }
+    ensures { λ _. ⌜ lent (now (stack .exit)) (now (memory .exit)) (now (pool .exit)) (now (ends .exit)) (now (save .exit)) (now (calls .exit)) ≡ own from count (now (stack .entry)) (now (memory .entry)) (now (pool .entry)) (now (ends .entry)) (now (save .entry)) (now (image .entry)) (now (program .entry)) (now (calls .entry)) ⌝ }
 {
     let blank = storage::task_types::blank();
     let mut table = [blank; 256];

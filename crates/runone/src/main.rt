@@ -29,7 +29,7 @@ fn main() {
     let mut pool = io::large_buffer();
     let mut ends = ends_room();
     let mut save = save_room();
-    let mut image = [0u8; 0];
+    let image = [0u8; 0];
     let mut calls = only_call();
     printer::shows::own(
         &mut stack,
@@ -37,8 +37,8 @@ fn main() {
         &mut pool,
         &mut ends,
         &mut save,
-        &mut image,
-        &mut program[..length],
+        &image,
+        &program[..length],
         &mut calls,
         0,
         1,

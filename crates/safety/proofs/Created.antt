@@ -67,21 +67,21 @@ loads-keep (suc n) image place l p =
 
 -- a machine at the start of the program, or none
 data Makes (program : List ℕ) : Made → Type 0 where
-  makes : {machine : Machine} {table : List Task} {pool ends image rest : List ℕ} → may-continue (machine .phase) ≡ false → Main program (machine .frames) (machine .pool) (machine .entries) pool ends
-      → current (machine .frames) .place ≡ 0 → machine .loops .count ≡ 0 → Makes program (made (Created machine) table pool ends image rest)
-  makes-none : {refusal : Refusal} {table : List Task} {pool ends image rest : List ℕ} → Makes program (made (NotCreated refusal) table pool ends image rest)
+  makes : {machine : Machine} {table : List Task} {pool ends : List ℕ} → may-continue (machine .phase) ≡ false → Main program (machine .frames) (machine .pool) (machine .entries) pool ends
+      → current (machine .frames) .place ≡ 0 → machine .loops .count ≡ 0 → Makes program (made (Created machine) table pool ends)
+  makes-none : {refusal : Refusal} {table : List Task} {pool ends : List ℕ} → Makes program (made (NotCreated refusal) table pool ends)
 
 module _ (table : List Task) (pool ends image program : List ℕ) (lent : length ends ≡ 1024) where
   abbrev entered : Pooled
   entered = interned pool ends 0 0 program
 
   -- the tasks are loaded behind the program
-  loaded-makes : (bytes next-id s-len : ℕ) (l : Loading) → Loaded program l → Makes program (loaded-from (new-machine bytes 1 next-id s-len) image program l)
+  loaded-makes : (bytes next-id s-len : ℕ) (l : Loading) → Loaded program l → Makes program (loaded-from (new-machine bytes 1 next-id s-len) l)
   unfolding may-continue current last-two
   loaded-makes bytes next-id s-len l p =
       makes refl (record { one-frame = refl; in-main = refl; ends-lent = p .lent; pooled = p .pooled; some-entries = p .some-entries; program = p .first }) refl refl
 
-  with-room : (next-id count s-len : ℕ) → has-room (length pool) 0 0 (length program) ≡ true → Makes program (create-as table (interned-program next-id count s-len image program entered))
+  with-room : (next-id count s-len : ℕ) → has-room (length pool) 0 0 (length program) ≡ true → Makes program (create-as table image (interned-program next-id count s-len entered))
   unfolding create-as with-program
   with-room next-id count s-len held =
       let j = joins-one pool ends 0 0 program lent (none-pooled ends) held in
@@ -89,11 +89,11 @@ module _ (table : List Task) (pool ends image program : List ℕ) (lent : length
       rw (j .answered)
       (loaded-makes (0 + length program) next-id s-len _ (loads-keep count image 14 (loading (replicate (length table) blank) (entered .pool) (entered .ends) (in-use (0 + length program) 1)) first))
 
-  without-room : (next-id count s-len : ℕ) → has-room (length pool) 0 0 (length program) ≡ false → Makes program (create-as table (interned-program next-id count s-len image program entered))
+  without-room : (next-id count s-len : ℕ) → has-room (length pool) 0 0 (length program) ≡ false → Makes program (create-as table image (interned-program next-id count s-len entered))
   unfolding create-as with-program unfit
   without-room next-id count s-len failed = rw (when-full pool ends 0 0 program failed) makes-none
 
-  by-tests : (result : CreationResult) → Makes program (create-as table (prepare-fit pool ends image program result))
+  by-tests : (result : CreationResult) → Makes program (create-as table image (prepare-fit pool ends program result))
   unfolding create-as prepare-fit unfit
   by-tests (Fit next-id count s-len) = on-bool (has-room (length pool) 0 0 (length program)) (with-room (next-id .0) count s-len) (without-room (next-id .0) count s-len)
   by-tests (Unfit refusal) = makes-none

@@ -19,7 +19,7 @@ use Rattle.image.specs.declared.LoadedRecord.{LoadedRecord}
 use Rattle.image.specs.Image.{header}
 use Rattle.image.specs.Writing.{Put, put, puts, Stepped, stepped, measure-slot, save-slot}
 use Rattle.image.specs.Table.{SavedTable, saved-table, save-table, Loading}
-use Rattle.table_image.specs.Loops.{Measured, measured, refused, count-slot, grown, measures, save-slots, saved-as, save-by-slots, load-record, WithImage, loaded-record, record-placed, load-records}
+use Rattle.table_image.specs.Loops.{Measured, measured, refused, count-slot, grown, measures, save-slots, saved-as, save-by-slots, load-record, record-placed, load-records}
 use Rattle.table_image.proofs.Saves.{save-table-is}
 use Rattle.table_image.specs.declared.MeasuredTable.{MeasuredTable}
 use Rattle.table_image.specs.declared.InUse.{InUse}
@@ -216,16 +216,12 @@ past-fits n room = omega arith
 
 -- ---- loading
 -- a record that was loaded, with its slot
-pub next-loaded : (pool ends image : List ℕ) (at : ℕ) (used : InUse) {r : LoadedRecord} {zp ze zi : List ℕ} {slot : ℕ} {u : InUse} → loaded-record (stepped r zp ze) zi ≡ loaded-record (load-record pool ends image at (used .bytes) (used .entries)) image
+pub next-loaded : (pool ends image : List ℕ) (at : ℕ) (used : InUse) {r : LoadedRecord} {zp ze : List ℕ} {slot : ℕ} {u : InUse} → stepped r zp ze ≡ load-record pool ends image at (used .bytes) (used .entries)
     → slot ≡ slot-of (r .task .id) → u ≡ in-use (r .bytes) (r .entries)
-    → after (stepped (record { task = r .task; slot = slot; end = r .end; used = u }) zp ze) zi ≡ after (load-next pool ends image at used) image
+    → stepped (record { task = r .task; slot = slot; end = r .end; used = u }) zp ze ≡ load-next pool ends image at used
 unfolding load-next slot-of
-next-loaded pool ends image at used {r} {zp} {ze} {zi} a b c =
-    (λ j. after (stepped (record { task = r .task; slot = b j; end = r .end; used = c j }) zp ze) zi) ∙ ap (λ (w : WithImage). after (next-stepped (w .loaded)) (w .image)) a
-
--- what a record's loading says, and the image, which stays
-pub next-is : {r q : Stepped NextRecord} {zs ys : List ℕ} → after r zs ≡ after q ys → (r ≡ q) × (zs ≡ ys)
-next-is e = (ap (λ (a : After (Stepped NextRecord) (List ℕ)). a .answer) e, ap (λ (a : After (Stepped NextRecord) (List ℕ)). a .lent) e)
+next-loaded pool ends image at used {r} {zp} {ze} a b c =
+    (λ j. stepped (record { task = r .task; slot = b j; end = r .end; used = c j }) zp ze) ∙ ap next-stepped a
 
 module _ (image : List ℕ) (count : ℕ) where
   -- at first all
@@ -242,11 +238,11 @@ module _ (image : List ℕ) (count : ℕ) where
   loads-one k at ts po en used = refl
 
   -- a turn
-  pub load-turns : (i at : ℕ) (ts : List Task) (po en : List ℕ) (used : InUse) (r : NextRecord) {im zp ze : List ℕ} {zs : List Task} {whole : Loading} → i < count → im ≡ image → stepped r zp ze ≡ load-next po en im at used → zs ≡ set ts (r .slot) (r .task)
+  pub load-turns : (i at : ℕ) (ts : List Task) (po en : List ℕ) (used : InUse) (r : NextRecord) {zp ze : List ℕ} {zs : List Task} {whole : Loading} → i < count → stepped r zp ze ≡ load-next po en image at used → zs ≡ set ts (r .slot) (r .task)
       → load-records (count - i) image at (loading ts po en used) ≡ whole → load-records (count - (i + 1)) image (r .end) (loading zs zp ze (r .used)) ≡ whole
-  load-turns i at ts po en used r {im} {zp} {ze} {zs} more a e f so-far =
+  load-turns i at ts po en used r {zp} {ze} {zs} more e f so-far =
       ap (λ (l : List Task). load-records (count - (i + 1)) image (r .end) (loading l zp ze (r .used))) f
-      ∙ ap (after-next (count - (i + 1)) ts) (e ∙ ap (λ (m : List ℕ). load-next po en m at used) a)
+      ∙ ap (after-next (count - (i + 1)) ts) e
       ∙ loads-one (count - (i + 1)) at ts po en used ∙ ap (λ (k : ℕ). load-records k image at (loading ts po en used)) (sym (one-fewer more)) ∙ so-far
 
   -- at the end

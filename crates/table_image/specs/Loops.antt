@@ -78,15 +78,6 @@ load-record pool ends image place bytes entries =
     record-loaded (read-record image place (next-reference entries))
     (interned pool ends bytes entries (instructions-of image (read-record image place (next-reference entries)))) bytes entries
 
--- what was loaded, and the image, which stays
-pub record WithImage : Type 0 where
-  pub loaded : Stepped LoadedRecord
-  pub image : List ℕ
-
--- these two together
-abbrev pub loaded-record : Stepped LoadedRecord → List ℕ → WithImage
-loaded-record loaded image = record { loaded = loaded; image = image }
-
 -- the table and the pool after a record
 unfoldable pub record-placed : Stepped LoadedRecord → Loading → Loading
 record-placed r l = record {

@@ -2,9 +2,9 @@
 ghost use mathlib.Core.Path.{_≡_};
 ghost use Prim.Native.Nat.{_-_, min};
 ghost use lib.ListN.{length, replicate};
-ghost use Rattle.storage.specs.Tasks.{blank, after};
+ghost use Rattle.storage.specs.Tasks.{blank};
 ghost use Rattle.image.specs.Writing.{stepped};
-ghost use Rattle.table_image.specs.Loops.{loaded-record, load-record, load-records};
+ghost use Rattle.table_image.specs.Loops.{load-record, load-records};
 ghost use Rattle.table_image.specs.Tables.{load-next, in-use, loading};
 use crate::InUse;
 use crate::NextRecord;
@@ -39,12 +39,12 @@ fn less(a: usize, b: usize) -> usize
 fn load_record(
     pool: &mut [u8],
     ends: &mut [u32; 1024],
-    image: &mut [u8],
+    image: &[u8],
     at: usize,
     bytes: usize,
     entries: usize,
 ) -> LoadedRecord
-    ensures { λ r. ⌜ loaded-record (stepped r (now (pool .exit)) (now (ends .exit))) (now (image .exit)) ≡ loaded-record (load-record (now (pool .entry)) (now (ends .entry)) (now (image .entry)) at bytes entries) (now (image .entry)) ⌝ }
+    ensures { λ r. ⌜ stepped r (now (pool .exit)) (now (ends .exit)) ≡ load-record (now (pool .entry)) (now (ends .entry)) (now (image .entry)) at bytes entries ⌝ }
 {
     let reference = InstructionsRef(smaller(entries, 1024) as u32);
     let record = read_record(image, at, reference);
@@ -82,11 +82,11 @@ fn in_use(bytes: usize, entries: usize) -> InUse
 fn load_next(
     pool: &mut [u8],
     ends: &mut [u32; 1024],
-    image: &mut [u8],
+    image: &[u8],
     at: usize,
     used: InUse,
 ) -> NextRecord
-    ensures { λ r. ⌜ after (stepped r (now (pool .exit)) (now (ends .exit))) (now (image .exit)) ≡ after (load-next (now (pool .entry)) (now (ends .entry)) (now (image .entry)) at used) (now (image .entry)) ⌝ }
+    ensures { λ r. ⌜ stepped r (now (pool .exit)) (now (ends .exit)) ≡ load-next (now (pool .entry)) (now (ends .entry)) (now (image .entry)) at used ⌝ }
 {
     let record = load_record(pool, ends, image, at, used.bytes, used.entries);
     let task = record.task;
@@ -103,12 +103,12 @@ pub fn load_table(
     table: &mut [Task],
     pool: &mut [u8],
     ends: &mut [u32; 1024],
-    image: &mut [u8],
+    image: &[u8],
     bytes: usize,
     entries: usize,
     count: u32,
 ) -> InUse
-    ensures { λ r. ⌜ after (loading (now (table .exit)) (now (pool .exit)) (now (ends .exit)) r) (now (image .exit)) ≡ after (load-records count (now (image .entry)) 14 (loading (replicate (length (now (table .entry))) blank) (now (pool .entry)) (now (ends .entry)) (in-use bytes entries))) (now (image .entry)) ⌝ }
+    ensures { λ r. ⌜ loading (now (table .exit)) (now (pool .exit)) (now (ends .exit)) r ≡ load-records count (now (image .entry)) 14 (loading (replicate (length (now (table .entry))) blank) (now (pool .entry)) (now (ends .entry)) (in-use bytes entries)) ⌝ }
 {
     table::slots::clear_all(table);
     let mut used = in_use(bytes, entries);

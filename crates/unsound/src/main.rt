@@ -219,8 +219,8 @@ fn attempt(
     pool: &mut [u8],
     ends: &mut [u32; 1024],
     save: &mut [u8],
-    image: &mut [u8],
-    program: &mut [u8],
+    image: &[u8],
+    program: &[u8],
     number: usize,
 ) {
     let creation = vm::creating::create(table, pool, ends, image, program);
@@ -253,8 +253,8 @@ fn own(
     pool: &mut [u8],
     ends: &mut [u32; 1024],
     save: &mut [u8],
-    image: &mut [u8],
-    program: &mut [u8],
+    image: &[u8],
+    program: &[u8],
     number: usize,
 ) {
     let blank = storage::task_types::blank();
@@ -279,16 +279,16 @@ fn forge(number: usize) {
     let mut pool = io::large_buffer();
     let mut ends = ends_room();
     let mut save = io::buffer();
-    let mut image = one_task();
-    let mut program = program();
+    let image = one_task();
+    let program = program();
     own(
         &mut stack,
         &mut memory,
         &mut pool,
         &mut ends,
         &mut save,
-        &mut image,
-        &mut program,
+        &image,
+        &program,
         number,
     );
 }

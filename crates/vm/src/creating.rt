@@ -31,11 +31,11 @@ fn unfit(refusal: Refusal) -> Preparation
 fn prepare(
     pool: &mut [u8],
     ends: &mut [u32; 1024],
-    image: &mut [u8],
-    program: &mut [u8],
+    image: &[u8],
+    program: &[u8],
     slots: usize,
 ) -> Preparation
-    ensures { λ r. ⌜ prepared r (now (pool .exit)) (now (ends .exit)) (now (image .exit)) (now (program .exit)) ≡ prepare (now (pool .entry)) (now (ends .entry)) (now (image .entry)) (now (program .entry)) slots ⌝ }
+    ensures { λ r. ⌜ prepared r (now (pool .exit)) (now (ends .exit)) ≡ prepare (now (pool .entry)) (now (ends .entry)) (now (image .entry)) (now (program .entry)) slots ⌝ }
 {
     match creation_tests(slots, pool.len(), program, image) {
         CreationResult::Unfit(refusal) => unfit(refusal),
@@ -78,10 +78,10 @@ pub fn create(
     table: &mut [Task],
     pool: &mut [u8],
     ends: &mut [u32; 1024],
-    image: &mut [u8],
-    program: &mut [u8],
+    image: &[u8],
+    program: &[u8],
 ) -> CreateResult
-    ensures { λ r. ⌜ made r (now (table .exit)) (now (pool .exit)) (now (ends .exit)) (now (image .exit)) (now (program .exit)) ≡ create (now (table .entry)) (now (pool .entry)) (now (ends .entry)) (now (image .entry)) (now (program .entry)) ⌝ }
+    ensures { λ r. ⌜ made r (now (table .exit)) (now (pool .exit)) (now (ends .exit)) ≡ create (now (table .entry)) (now (pool .entry)) (now (ends .entry)) (now (image .entry)) (now (program .entry)) ⌝ }
 {
     let ready = prepare(pool, ends, image, program, table.len());
     if ready.fits {

@@ -16,11 +16,8 @@ in-use-requires c κs = search needs
 same-length : tie.Need-same-length
 same-length c = search needs
 
-same-length-2 : tie.Need-same-length-2
-same-length-2 c = search needs
-
 returns : tie.Need-returns
-returns c = next-loaded _ _ _ _ _ (c .before .before .before .before .before .before .before .load-record .ensures) (c .before .slot-of .ensures) (c .in-use .ensures)
+returns c = next-loaded _ _ _ _ _ (c .before .before .before .before .before .load-record .ensures) (c .before .slot-of .ensures) (c .in-use .ensures)
 
 pub load-next-spec : {M : Type 1} → statement M
 load-next-spec =
@@ -30,5 +27,4 @@ load-next-spec =
     slot-of-requires
     in-use-requires
     same-length
-    same-length-2
     returns)

@@ -37,44 +37,26 @@ enum-known-bytes c = search needs
 new-machine-requires : tie.Need-new-machine-requires
 new-machine-requires c κs = search needs
 
-same-length : tie.Need-same-length
-same-length c = search needs
-
-same-length-2 : tie.Need-same-length-2
-same-length-2 c = search needs
-
 returns : tie.Need-returns
 unfolding prepare prepare-fit with-program
 returns c =
     simp (← c .unfit .ensures, c .before .before .refusal .given .1, ← c .before .before .before .before .creation-tests .ensures)
 
-same-length-3 : tie.Need-same-length-3
-same-length-3 c = search needs
-
-same-length-4 : tie.Need-same-length-4
-same-length-4 c = search needs
-
-same-length-5 : tie.Need-same-length-5
-same-length-5 c = search needs
+same-length : tie.Need-same-length
+same-length c = search needs
 
 returns-2 : tie.Need-returns-2
 unfolding prepare prepare-fit with-program
 returns-2 c =
-    simp (← c .unfit2 .ensures, c .before .before .refusal2 .given .1, ← c .before .before .before .before .before .before .intern-instructions .ensures, c .before .before .before .before .before .before .before .before .before .before .before .next-id .given .1, ← c .before .before .before .before .before .before .before .before .before .before .before .before .before .creation-tests .ensures)
+    simp (← c .unfit2 .ensures, c .before .before .refusal2 .given .1, ← c .before .before .before .before .before .before .intern-instructions .ensures, c .before .before .before .before .before .before .before .before .before .before .next-id .given .1, ← c .before .before .before .before .before .before .before .before .before .before .before .before .creation-tests .ensures)
 
-same-length-6 : tie.Need-same-length-6
-same-length-6 c = search needs
-
-same-length-7 : tie.Need-same-length-7
-same-length-7 c = search needs
-
-same-length-8 : tie.Need-same-length-8
-same-length-8 c = search needs
+same-length-2 : tie.Need-same-length-2
+same-length-2 c = search needs
 
 returns-3 : tie.Need-returns-3
 unfolding prepare prepare-fit with-program
 returns-3 c =
-    simp (← c .new-machine .ensures, c .before .before .bytes .given .1, ← c .before .before .before .before .before .before .intern-instructions .ensures, c .before .before .before .before .before .before .before .before .before .before .before .next-id .given .1, ← c .before .before .before .before .before .before .before .before .before .before .before .before .before .creation-tests .ensures)
+    simp (← c .new-machine .ensures, c .before .before .bytes .given .1, ← c .before .before .before .before .before .before .intern-instructions .ensures, c .before .before .before .before .before .before .before .before .before .before .next-id .given .1, ← c .before .before .before .before .before .before .before .before .before .before .before .before .creation-tests .ensures)
 
 pub prepare-spec : {M : Type 1} → statement M
 prepare-spec =
@@ -89,14 +71,8 @@ prepare-spec =
     unfit-requires-2
     enum-known-bytes
     new-machine-requires
-    same-length
-    same-length-2
     returns
-    same-length-3
-    same-length-4
-    same-length-5
+    same-length
     returns-2
-    same-length-6
-    same-length-7
-    same-length-8
+    same-length-2
     returns-3)
