@@ -1,4 +1,4 @@
-// Starts machines whose record, table or pool was forged, one to a part of 26, and prints what each start answers; the first is honest.
+// Starts machines whose record, table or pool was forged, one to each condition of refusal 26, and prints what each start answers; the first is honest.
 use inlinevec::Frame;
 use libc::STDOUT_FILENO;
 use machine::Machine;
