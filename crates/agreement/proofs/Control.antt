@@ -40,7 +40,7 @@ use Rattle.machine.specs.Machines.{current}
 use Rattle.mechanism.specs.Registers.{registers-of}
 use Rattle.machine.specs.World.{World, code, place}
 use Rattle.machine.specs.Words.{StepResult, refused}
-use Rattle.mechanism.specs.Step.{inner-did}
+use Rattle.mechanism.specs.Step.{inner-result}
 use Rattle.rust.specs.Errors.{StackUnderflow, StackOverflow, Out, ok, panic}
 use Rattle.rust.specs.InlineVec as inlinevec
 use Rattle.rust.specs.Helpers.{byte, prepare-u32-from-be-checked}
@@ -79,7 +79,7 @@ module _ (w : World) (stale : ℕ) (h : Facts w) (bytes : Bytes (w .pool)) where
   by op reach = stepped w (by-extent (w .stack) (w .memory) c r op (w .machine .count) reach)
 
   pub push-u32-agrees : Agree w (by PUSH-U32 (up-to c (p + 1 + 4))) (rust.push-u32 c (p + 1) (view stale w))
-  unfolding rust.push-u32 prepare-u32-from-be-checked by-extent execute is-equality operated push-u32 with-operand op-push registers-of view cut inner-did
+  unfolding rust.push-u32 prepare-u32-from-be-checked by-extent execute is-equality operated push-u32 with-operand op-push registers-of view cut inner-result
   push-u32-agrees =
       same (by PUSH-U32) (leb (p + 1 + 4) (length c))
       (λ t. rw (operand-there 4 c (p + 1) t) (pushed w stale bytes h (p + 1 + 4) (w .machine .height) (to-u32-val (big-endian 4 c (p + 1)))))
@@ -91,22 +91,22 @@ module _ (w : World) (stale : ℕ) (h : Facts w) (bytes : Bytes (w .pool)) where
   byte-pushed t = rw (operand-there 1 c (p + 1) t, one-byte c (p + 1)) (pushed w stale bytes h (p + 1 + 1) (w .machine .height) (to-u32-val (getD c (p + 1) 0)))
 
   pub push-state-agrees : Agree w (by PUSH-STATE (up-to c (p + 1 + 1))) (rust.push-state c (p + 1) (view stale w))
-  unfolding rust.push-state byte by-extent execute is-equality operated view cut inner-did
+  unfolding rust.push-state byte by-extent execute is-equality operated view cut inner-result
   push-state-agrees = same (by PUSH-STATE) (leb (p + 1 + 1) (length c)) byte-pushed (λ t. panics)
 
   pub push-task-field-agrees : Agree w (by PUSH-TASK-FIELD (up-to c (p + 1 + 1))) (rust.push-state c (p + 1) (view stale w))
-  unfolding rust.push-state byte by-extent execute is-equality operated view cut inner-did
+  unfolding rust.push-state byte by-extent execute is-equality operated view cut inner-result
   push-task-field-agrees = same (by PUSH-TASK-FIELD) (leb (p + 1 + 1) (length c)) byte-pushed (λ t. panics)
 
   pub push-max-states-agrees : Agree w (by PUSH-MAX-STATES (up-to c (p + 1 + 1))) (rust.push-state c (p + 1) (view stale w))
-  unfolding rust.push-state byte by-extent execute is-equality operated view cut inner-did
+  unfolding rust.push-state byte by-extent execute is-equality operated view cut inner-result
   push-max-states-agrees = same (by PUSH-MAX-STATES) (leb (p + 1 + 1) (length c)) byte-pushed (λ t. panics)
 
   -- MULI pops before its operand is looked at
   muli-by : (b : Bool) → leb (p + 1 + 4) (length c) ≡ b
       → Agree w (by MULI (cond b (extents.Next (p + 1 + 4)) extents.Cut))
       (inlinevec.pop (values-of (w .machine .height) (w .stack)) λ lhs st. cond b (values.mul-checked-i lhs (big-endian 4 c (p + 1)) λ res. pushes (view stale w) (p + 1 + 4) st res) panic)
-  unfolding by-extent execute is-equality operated muli with-operand op-muli on-one registers-of cut cut-muli cut-value inner-did
+  unfolding by-extent execute is-equality operated muli with-operand op-muli on-one registers-of cut cut-muli cut-value inner-result
   muli-by true t =
       rw (operand-there 4 c (p + 1) t)
       (one-off (w .stack) (w .machine .height) (h .height) (λ (o : PopResult). stepped w (kept (on-one (λ value. mul-checked-i value (big-endian 4 c (p + 1))) (w .stack) r (p + 1 + 4) o) (w .memory))) _ refl
@@ -123,7 +123,7 @@ module _ (w : World) (stale : ℕ) (h : Facts w) (bytes : Bytes (w .pool)) where
   jump-by : (b : Bool) → leb (p + 1 + 4) (length c) ≡ b
       → Agree w (by JUMP-IF-FALSE (cond b (extents.Next (p + 1 + 4)) extents.Cut))
       (inlinevec.pop (values-of (w .machine .height) (w .stack)) λ v st. cond (eqb v (to-bool-val false)) (cond b (ok (at (view stale w) (big-endian 4 c (p + 1)) st)) panic) (ok (at (view stale w) (p + 1 + 4) st)))
-  unfolding by-extent execute is-equality operated jump-if-false with-operand op-jump-if-false jumped registers-of cut cut-jump cut-skip inner-did
+  unfolding by-extent execute is-equality operated jump-if-false with-operand op-jump-if-false jumped registers-of cut cut-jump cut-skip inner-result
   jump-by true t =
       rw (operand-there 4 c (p + 1) t)
       (one-off (w .stack) (w .machine .height) (h .height) (λ (o : PopResult). stepped w (on-memory (jumped r (p + 1 + 4) (big-endian 4 c (p + 1)) o) (w .stack) (w .memory))) _ refl
@@ -158,7 +158,7 @@ module _ (w : World) (stale : ℕ) (h : Facts w) (bytes : Bytes (w .pool)) where
   loop-pushed : (at-place height : ℕ) (loops : Loops) (new : Loop) → loops .count ≤ 2
       → Agree w (stepped w (on-memory (opened-to r at-place height (push-loop loops new)) (w .stack) (w .memory)))
       (inlinevec.push 2 (loops-of loops) new λ control. ok (with-control-stack (at (view stale w) at-place (values-of height (w .stack))) control))
-  unfolding push-loop if-room opened-to inlinevec.push inner-did
+  unfolding push-loop if-room opened-to inlinevec.push inner-result
   loop-pushed at-place height loops new few =
       rw (length-two (of-loops loops) few)
       (same (λ (l : LoopsResult). stepped w (on-memory (opened-to r at-place height l) (w .stack) (w .memory))) (ltb (loops .count) 2)
@@ -166,7 +166,7 @@ module _ (w : World) (stale : ℕ) (h : Facts w) (bytes : Bytes (w .pool)) where
       (λ t. errs StackOverflow))
 
   pub do-agrees : (next : ℕ) → Agree w (stepped w (on-memory (op-do (w .stack) r next) (w .stack) (w .memory))) (rust.«do» next (view stale w))
-  unfolding op-do do-two rust.«do» view registers-of inner-did
+  unfolding op-do do-two rust.«do» view registers-of inner-result
   do-agrees next =
       two-off (w .stack) (w .machine .height) (h .height) (λ (o : PopTwoResult). stepped w (on-memory (do-two r next o) (w .stack) (w .memory))) _ refl
       (λ i e. loop-pushed next i (w .machine .loops) _ (h .loops))
@@ -184,7 +184,7 @@ module _ (w : World) (stale : ℕ) (h : Facts w) (bytes : Bytes (w .pool)) where
       cases (suc n) e = rw (ne-eqb (loops .count) 0 (λ z. omega arith), le-leb (loops .count) 2 few, popped-two (of-loops loops) (omega arith) few) (onto (omega arith))
 
   pub loop-agrees : (next : ℕ) → Agree w (stepped w (on-memory (op-loop r next) (w .stack) (w .memory))) (rust.loop next (view stale w))
-  unfolding op-loop looped rust.loop view registers-of inner-did
+  unfolding op-loop looped rust.loop view registers-of inner-result
   loop-agrees next =
       one-loop-off (w .machine .loops) (h .loops) (λ (o : PopLoopResult). stepped w (on-memory (looped r next o) (w .stack) (w .memory))) _ refl
       (λ l. back (last-two (of-loops (w .machine .loops))) (to-loops (pop-two (of-loops (w .machine .loops)))) (fewer (of-loops (w .machine .loops)) (h .loops)))
@@ -212,7 +212,7 @@ module _ (w : World) (stale : ℕ) (h : Facts w) (bytes : Bytes (w .pool)) where
       cases (suc n) e = rw (ne-eqb (loops .count) 0 (λ z. omega arith), le-leb (loops .count) 2 few, popped-two (of-loops loops) (omega arith) few) onto
 
   pub loop-index-agrees : (next : ℕ) → Agree w (stepped w (kept (op-loop-index (w .stack) r next) (w .memory))) (rust.loop-index next (view stale w))
-  unfolding op-loop-index index-of rust.loop-index view registers-of inner-did
+  unfolding op-loop-index index-of rust.loop-index view registers-of inner-result
   loop-index-agrees next =
       one-loop-seen (w .machine .loops) (h .loops) (λ (o : LastLoopResult). stepped w (kept (index-of (w .stack) r next o) (w .memory))) _ refl
       (pushed w stale bytes h next (w .machine .height) _)

@@ -26,7 +26,7 @@ use Rattle.mechanism.specs.Execute.{kept}
 use Rattle.mechanism.specs.Registers.{registers-of}
 use Rattle.machine.specs.World.{World}
 use Rattle.machine.specs.Words.{StepResult}
-use Rattle.mechanism.specs.Step.{inner-did}
+use Rattle.mechanism.specs.Step.{inner-result}
 use Rattle.laws.specs.Sound.{Inside}
 use Rattle.rust.specs.Errors.{VMError, InvalidType, TypeMismatch, Out, err}
 use Rattle.rust.specs.Values as values
@@ -96,7 +96,7 @@ module _ (w : World) (stale : ℕ) (h : Facts w) (bytes : Bytes (w .pool)) (next
   in-memory i less = rw (length-take-le (w .machine .memory) (w .memory) (h .memory)) (h .inside i less)
 
   pub eq : Agree w (stepped w (kept (op-eq (w .stack) (w .memory) r next true) (w .memory))) (rust.eq next (view stale w))
-  unfolding op-eq on-two turned-if rust.eq view registers-of inner-did
+  unfolding op-eq on-two turned-if rust.eq view registers-of inner-result
   eq =
       two-off (w .stack) (w .machine .height) (h .height)
       (λ (o : PopTwoResult). stepped w (kept (on-two (λ right left. eq-values (take (w .machine .memory) (w .memory)) left right) (w .stack) r next o) (w .memory))) _ refl
@@ -114,7 +114,7 @@ module _ (w : World) (stale : ℕ) (h : Facts w) (bytes : Bytes (w .pool)) (next
   turned-missed height error = missed w stale h bytes next height error
 
   pub neq : Agree w (stepped w (kept (op-eq (w .stack) (w .memory) r next false) (w .memory))) (rust.neq next (view stale w))
-  unfolding op-eq on-two turned-if rust.neq view registers-of inner-did
+  unfolding op-eq on-two turned-if rust.neq view registers-of inner-result
   neq =
       two-off (w .stack) (w .machine .height) (h .height)
       (λ (o : PopTwoResult). stepped w (kept (on-two (λ right left. turned (eq-values (take (w .machine .memory) (w .memory)) left right)) (w .stack) r next o) (w .memory))) _ refl

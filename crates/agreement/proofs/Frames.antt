@@ -42,7 +42,7 @@ use Rattle.mechanism.specs.declared.MachineResult.{MachineResult}
 use Rattle.mechanism.specs.declared.MachineResult.the-variants.{Onto}
 use Rattle.machine.specs.World.{World, world, code, place}
 use Rattle.machine.specs.Words.{StepResult, next}
-use Rattle.mechanism.specs.Step.{acts-went}
+use Rattle.mechanism.specs.Step.{acts-result}
 use Rattle.rust.specs.Errors.{StackOverflow, InvalidInstructionsIndex, ok, err, panic}
 use Rattle.rust.specs.InlineVec as inlinevec
 use Rattle.rust.specs.Helpers.{slice, prepare-u16-from-be-checked}
@@ -172,7 +172,7 @@ module _ (w : World) (stale : ℕ) (h : Facts w) (bytes : Bytes (w .pool)) where
 
   interned-agrees : (to slot : ℕ) (task : Task) → m .height < 1000
       → Agree w (pushing to slot task (interned (w .pool) (w .ends) (m .pool) (m .entries) calldata)) (ok (with-instructions-pool (at (view stale w) to (value ∷ values-of (m .height) (w .stack))) (entries ++ (calldata ∷ []))))
-  unfolding interned calldata-pushed acts-went applied has-room
+  unfolding interned calldata-pushed acts-result applied has-room
   interned-agrees to slot task less = by (has-room (length (w .pool)) (m .pool) (m .entries) (length calldata)) refl
     where
       by : (b : Bool) → has-room (length (w .pool)) (m .pool) (m .entries) (length calldata) ≡ b
@@ -183,7 +183,7 @@ module _ (w : World) (stale : ℕ) (h : Facts w) (bytes : Bytes (w .pool)) where
   calldata-agrees : (to slot : ℕ) (task : Task) → p + 1 + 2 + size ≤ length c
       → Agree w (acted-as w slot (after-pool (push-calldata (w .stack) (w .pool) (w .ends) m p to) (w .memory) task))
       (inlinevec.push 1000 (values-of (m .height) (w .stack)) value λ stack. ok (with-instructions-pool (at (view stale w) to stack) (entries ++ (calldata ∷ []))))
-  unfolding push-calldata inlinevec.push acts-went
+  unfolding push-calldata inlinevec.push acts-result
   calldata-agrees to slot task whole = by (leb 1000 (m .height)) refl
     where
       by : (b : Bool) → leb 1000 (m .height) ≡ b
@@ -197,7 +197,7 @@ module _ (w : World) (stale : ℕ) (h : Facts w) (bytes : Bytes (w .pool)) where
   by-op slot task op reach = acted-as w slot (act-by (w .stack) (w .memory) (w .pool) (w .ends) m task op p reach)
 
   pub push-calldata-agrees : (slot : ℕ) (task : Task) → Agree w (by-op slot task PUSH-CALLDATA (up-to c (p + 1 + 2 + size))) (rust.push-calldata c (p + 1) (view stale w))
-  unfolding act-by on-frames acts-went rust.push-calldata prepare-u16-from-be-checked slice instructions.intern-instructions view
+  unfolding act-by on-frames acts-result rust.push-calldata prepare-u16-from-be-checked slice instructions.intern-instructions view
   push-calldata-agrees slot task = by (leb (p + 1 + 2 + size) (length c)) (leb (p + 1 + 2) (length c)) refl refl
     where
       by : (b a : Bool) → leb (p + 1 + 2 + size) (length c) ≡ b → leb (p + 1 + 2) (length c) ≡ a
@@ -210,20 +210,20 @@ module _ (w : World) (stale : ℕ) (h : Facts w) (bytes : Bytes (w .pool)) where
 
   -- ---- CALL
 
-  abbrev went-as : ℕ → Task → MachineResult → StepResult
-  went-as slot task went = acted-as w slot (on-all (acted went (keep task)) (w .stack) (w .memory) (w .pool) (w .ends))
+  abbrev result-as : ℕ → Task → MachineResult → StepResult
+  result-as slot task result = acted-as w slot (on-all (acted result (keep task)) (w .stack) (w .memory) (w .pool) (w .ends))
 
   -- the caller with its place noted
   abbrev caller : ℕ → ℕ → VM
   caller to height = with-call-stack (at (view stale w) to (values-of height (w .stack))) (last-pc (view stale w .call-stack) to)
 
-  placed-goes : (to height slot : ℕ) (task : Task) → Agree w (went-as slot task (Onto (machine-at m to height))) (ok (caller to height))
-  unfolding acts-went applied last-pc registers-of view
+  placed-goes : (to height slot : ℕ) (task : Task) → Agree w (result-as slot task (Onto (machine-at m to height))) (ok (caller to height))
+  unfolding acts-result applied last-pc registers-of view
   placed-goes to height slot task = goes-by to bytes (view-settled to m (moved (registers-of m) to height) (w .table) (w .stack) (w .memory) (w .pool) (w .ends) (w .save))
 
   -- at another place, the frame as it was noted before
-  stays : (to height slot : ℕ) (task : Task) → Agree w (went-as slot task (Onto (machine-at m to height))) (ok (at (view stale w) to (values-of height (w .stack))))
-  unfolding acts-went applied registers-of view
+  stays : (to height slot : ℕ) (task : Task) → Agree w (result-as slot task (Onto (machine-at m to height))) (ok (at (view stale w) to (values-of height (w .stack))))
+  unfolding acts-result applied registers-of view
   stays to height slot task = goes-by stale bytes (view-settled stale m (moved (registers-of m) to height) (w .table) (w .stack) (w .memory) (w .pool) (w .ends) (w .save))
 
   abbrev noted : ℕ → Frames
@@ -231,9 +231,9 @@ module _ (w : World) (stale : ℕ) (h : Facts w) (bytes : Bytes (w .pool)) where
 
   -- the frame of the task's instructions on top
   entered : (to height reference : ℕ) (n : ℕ) → m .frames .count ≡ n → 1 ≤ n → n ≤ 2
-      → (slot : ℕ) (task : Task) → Agree w (went-as slot task (framed (machine-at m to height) (push-frame (noted to) (record { entry = record { 0 = reference }; place = 0 }))))
+      → (slot : ℕ) (task : Task) → Agree w (result-as slot task (framed (machine-at m to height) (push-frame (noted to) (record { entry = record { 0 = reference }; place = 0 }))))
       (inlinevec.push 2 (caller to height .call-stack) (record { instructions-ref = reference; pc = 0 }) λ call-stack. ok (in-frame (with-call-stack (caller to height) call-stack) (record { instructions-ref = reference; pc = 0 })))
-  unfolding framed push-frame if-room push-two change-two with-current settled registers-of acts-went applied inlinevec.push last-pc view callers current last-two
+  unfolding framed push-frame if-room push-two change-two with-current settled registers-of acts-result applied inlinevec.push last-pc view callers current last-two
   entered to height reference zero e one few slot task = absurd (omega arith)
   entered to height reference (suc zero) e one few slot task = rw e (goes-by 0 bytes refl)
   entered to height reference (suc (suc zero)) e one few slot task = rw e (errs StackOverflow)
@@ -253,45 +253,45 @@ module _ (w : World) (stale : ℕ) (h : Facts w) (bytes : Bytes (w .pool)) where
       by false e = ne-eqb (end-of (w .ends) reference - start-of (w .ends) reference) 0 (λ (q : end-of (w .ends) reference - start-of (w .ends) reference ≡ 0). let z : start-of (w .ends) reference < end-of (w .ends) reference = leb-false _ _ e in omega arith)
 
   enters-there : (to height slot : ℕ) (task : Task) (reference : InstructionsRef) → reference .0 < m .entries
-      → Agree w (went-as slot task (enter-bounded (machine-at m to height) reference (Bounds (start-of (w .ends) (reference .0)) (end-of (w .ends) (reference .0)))))
+      → Agree w (result-as slot task (enter-bounded (machine-at m to height) reference (Bounds (start-of (w .ends) (reference .0)) (end-of (w .ends) (reference .0)))))
       (cond (eqb (length (getD entries (reference .0) [])) 0) (ok (caller to height))
       (inlinevec.push 2 (caller to height .call-stack) (record { instructions-ref = reference .0; pc = 0 }) λ call-stack. ok (in-frame (with-call-stack (caller to height) call-stack) (record { instructions-ref = reference .0; pc = 0 }))))
   unfolding enter-bounded settled registers-of
   enters-there to height slot task reference less =
-      like (went-as slot task) (leb (end-of (w .ends) (reference .0)) (start-of (w .ends) (reference .0))) _ (empty-is (reference .0) less)
+      like (result-as slot task) (leb (end-of (w .ends) (reference .0)) (start-of (w .ends) (reference .0))) _ (empty-is (reference .0) less)
       (λ t. placed-goes to height slot task)
       (λ t. entered to height (reference .0) (m .frames .count) refl (h .some-frame) (h .few-frames) slot task)
 
-  no-entry : (to height slot : ℕ) (task : Task) (reference : InstructionsRef) → Agree w (went-as slot task (enter-bounded (machine-at m to height) reference (NoBounds (refusal.InvalidInstructionsIndex (reference .0))))) (err (InvalidInstructionsIndex (reference .0)))
-  unfolding enter-bounded acts-went
+  no-entry : (to height slot : ℕ) (task : Task) (reference : InstructionsRef) → Agree w (result-as slot task (enter-bounded (machine-at m to height) reference (NoBounds (refusal.InvalidInstructionsIndex (reference .0))))) (err (InvalidInstructionsIndex (reference .0)))
+  unfolding enter-bounded acts-result
   no-entry to height slot task reference = errs (InvalidInstructionsIndex (reference .0))
 
   enters-agree : (to height slot : ℕ) (task : Task) (new : TaskVM) → new .instructions-ref ≡ task .«instructions_ref» .0
-      → Agree w (went-as slot task (enter (w .ends) (machine-at m to height) (task .«instructions_ref»))) (rust.enters to (caller to height) new)
-  unfolding enter settled rust.enters instructions.get view acts-went
+      → Agree w (result-as slot task (enter (w .ends) (machine-at m to height) (task .«instructions_ref»))) (rust.enters to (caller to height) new)
+  unfolding enter settled rust.enters instructions.get view acts-result
   enters-agree to height slot task new is = by (ltb (task .«instructions_ref» .0) (m .entries)) refl
     where
-      by : (b : Bool) → ltb (task .«instructions_ref» .0) (m .entries) ≡ b → Agree w (went-as slot task (enter (w .ends) (machine-at m to height) (task .«instructions_ref»))) (rust.enters to (caller to height) new)
+      by : (b : Bool) → ltb (task .«instructions_ref» .0) (m .entries) ≡ b → Agree w (result-as slot task (enter (w .ends) (machine-at m to height) (task .«instructions_ref»))) (rust.enters to (caller to height) new)
       by true e = rw (is, entries-length, e, bounded (task .«instructions_ref») (ltb-true _ _ e)) (enters-there to height slot task (task .«instructions_ref») (ltb-true _ _ e))
       by false e = rw (is, entries-length, e, not-found (w .ends) (m .entries) (task .«instructions_ref») (ltb-false _ _ e)) (no-entry to height slot task (task .«instructions_ref»))
 
   -- a missing task does nothing
   call-there : (to height slot : ℕ) (task : Task)
-      → Agree w (went-as slot task (cond (task .living) (enter (w .ends) (machine-at m to height) (task .«instructions_ref»)) (Onto (machine-at m to height))))
+      → Agree w (result-as slot task (cond (task .living) (enter (w .ends) (machine-at m to height) (task .«instructions_ref»)) (Onto (machine-at m to height))))
       (rust-storage.if-some (task-in-slot task) (λ new. rust.enters to (caller to height) new) (ok (at (view stale w) to (values-of height (w .stack)))))
   call-there to height slot task = by (task .living) refl
     where
       by : (b : Bool) → task .living ≡ b
-          → Agree w (went-as slot task (cond b (enter (w .ends) (machine-at m to height) (task .«instructions_ref»)) (Onto (machine-at m to height))))
+          → Agree w (result-as slot task (cond b (enter (w .ends) (machine-at m to height) (task .«instructions_ref»)) (Onto (machine-at m to height))))
           (rust-storage.if-some (task-in-slot task) (λ new. rust.enters to (caller to height) new) (ok (at (view stale w) to (values-of height (w .stack)))))
       by true e = rw (a-task task e) (enters-agree to height slot task (held task) refl)
       by false e = rw (no-task task e) (stays to height slot task)
 
-  pub call : (to : ℕ) (slot : ℕ) (task : Task) → slot ≡ wanted (w .stack) m CALL → task ≡ getD (w .table) slot blank → Agree w (went-as slot task (op-call (w .stack) (w .ends) m to task)) (rust.call to (view stale w))
-  unfolding op-call call-popped named-by acts-went rust.call rust-storage.get view storage-of
+  pub call : (to : ℕ) (slot : ℕ) (task : Task) → slot ≡ wanted (w .stack) m CALL → task ≡ getD (w .table) slot blank → Agree w (result-as slot task (op-call (w .stack) (w .ends) m to task)) (rust.call to (view stale w))
+  unfolding op-call call-popped named-by acts-result rust.call rust-storage.get view storage-of
   call to slot task named is =
       rw (is, named, wanted-top (w .stack) m CALL refl refl refl)
-      (one-off (w .stack) (m .height) (h .height) (λ (o : PopResult). went-as (named-by o) (getD (w .table) (named-by o) blank) (call-popped (w .ends) m to (getD (w .table) (named-by o) blank) o)) _ refl
+      (one-off (w .stack) (m .height) (h .height) (λ (o : PopResult). result-as (named-by o) (getD (w .table) (named-by o) blank) (call-popped (w .ends) m to (getD (w .table) (named-by o) blank) o)) _ refl
       (λ i e. rw (get-is w h (to-u32 (getD (w .stack) i 0))) (call-there to i (to-u32 (getD (w .stack) i 0)) (getD (w .table) (to-u32 (getD (w .stack) i 0)) blank))))
 
   -- ---- END_CALL
@@ -312,14 +312,14 @@ module _ (w : World) (stale : ℕ) (h : Facts w) (bytes : Bytes (w .pool)) where
   left-view e = let z : m .frames .count - 1 ≡ 1 = omega arith in rw z
 
   left-goes : m .frames .count ≡ 2 → (slot : ℕ) (task : Task)
-      → Agree w (went-as slot task (left-frame m (pop-frame (m .frames)))) (ok (in-frame (with-call-stack (view stale w) (frame-of (m .frames .main) ∷ [])) (frame-of (m .frames .main))))
-  unfolding left-frame pop-frame if-some acts-went applied
+      → Agree w (result-as slot task (left-frame m (pop-frame (m .frames)))) (ok (in-frame (with-call-stack (view stale w) (frame-of (m .frames .main) ∷ [])) (frame-of (m .frames .main))))
+  unfolding left-frame pop-frame if-some acts-result applied
   left-goes e slot task =
       rw (ne-eqb (m .frames .count) 0 (λ (z : m .frames .count ≡ 0). omega arith), le-leb (m .frames .count) 2 (omega arith))
       (goes-by (m .frames .main .place) bytes (left-view e))
 
   abbrev end-agrees : ℕ → ℕ → Task → Type 0
-  end-agrees to slot task = Agree w (went-as slot task (op-end-call m to)) (rust.end-call to (view stale w))
+  end-agrees to slot task = Agree w (result-as slot task (op-end-call m to)) (rust.end-call to (view stale w))
 
   end-in-main : (to slot : ℕ) (task : Task) → m .frames .count ≡ 1 → end-agrees to slot task
   unfolding op-end-call rust.end-call view

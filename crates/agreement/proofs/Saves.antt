@@ -31,10 +31,10 @@ use Rattle.machine.specs.declared.Machine.{Machine}
 use Rattle.machine.specs.Machines.{current, with-saved}
 use Rattle.mechanism.specs.Registers.{registers-of, settled}
 use Rattle.mechanism.specs.Registers.{machine-at}
-use Rattle.mechanism.specs.Turns.{save-went}
+use Rattle.mechanism.specs.Turns.{save-result}
 use Rattle.machine.specs.World.{World, world, code, place}
 use Rattle.machine.specs.Words.{StepResult, next}
-use Rattle.mechanism.specs.Step.{saves-went, saves}
+use Rattle.mechanism.specs.Step.{saves-result, saves}
 use Rattle.rust.specs.Errors.{VMError, InvalidInstructionsIndex, BytesToStringConversionError, Out, ok, err}
 use Rattle.rust.specs.Instructions as instructions
 use Rattle.rust.specs.TaskTypes.{TaskVM, to-task}
@@ -154,10 +154,10 @@ module _ (w : World) (stale : ℕ) (h : Facts w) (bytes : Bytes (w .pool)) where
   saving x = saved-as (m .«next_id» .0) (w .table) (w .pool) (w .ends) (w .save) x
 
   abbrev by-measure : Measured → StepResult
-  by-measure x = saves-went w (saving x .save) (save-went m (saving x .answer))
+  by-measure x = saves-result w (saving x .save) (save-result m (saving x .answer))
 
   not-measured : (error : VMError) → Agree w (by-measure (refused (refusal-of error))) (err error)
-  unfolding saved-as save-went saves-went
+  unfolding saved-as save-result saves-result
   not-measured error = errs error
 
   abbrev p : ℕ
@@ -174,7 +174,7 @@ module _ (w : World) (stale : ℕ) (h : Facts w) (bytes : Bytes (w .pool)) where
 
   measured-agrees : p < length (code w) → (count size : ℕ) → size ≤ 14 + length (records (image-tasks entries tasks))
       → Agree w (by-measure (measured size count)) (ok (at (view stale w) (p + 1) (values-of (m .height) (w .stack))))
-  unfolding saved-as save-went saves-went registers-of view storage-of written
+  unfolding saved-as save-result saves-result registers-of view storage-of written
   measured-agrees inside count size fits = by (leb size (length (w .save))) refl
     where
       by : (b : Bool) → leb size (length (w .save)) ≡ b → Agree w (by-measure (measured size count)) (ok (at (view stale w) (p + 1) (values-of (m .height) (w .stack))))

@@ -23,7 +23,7 @@ use Rattle.mechanism.specs.Execute.{kept}
 use Rattle.mechanism.specs.Registers.{registers-of}
 use Rattle.machine.specs.World.{World}
 use Rattle.machine.specs.Words.{StepResult}
-use Rattle.mechanism.specs.Step.{inner-did}
+use Rattle.mechanism.specs.Step.{inner-result}
 use Rattle.rust.specs.Errors.{VMError, Out, err}
 use Rattle.rust.specs.InlineVec as inlinevec
 use Rattle.rust.specs.Vm as rust
@@ -45,29 +45,29 @@ module _ (w : World) (stale : ℕ) (h : Facts w) (bytes : Bytes (w .pool)) (next
   finished height value = pushed w stale bytes h next height value
 
   pub missed : (height : ℕ) (error : VMError) → Agree w (stepped w (kept (finish (w .stack) r next height (NoValue (refusal-of error))) (w .memory))) (err error)
-  unfolding finish inner-did
+  unfolding finish inner-result
   missed height error = errs error
 
   pub mul : Agree w (stepped w (kept (op-mul (w .stack) r next) (w .memory))) (rust.mul next (view stale w))
-  unfolding op-mul on-two rust.mul view registers-of inner-did
+  unfolding op-mul on-two rust.mul view registers-of inner-result
   mul =
       two-off (w .stack) (w .machine .height) (h .height) (λ (p : PopTwoResult). stepped w (kept (on-two mul-checked (w .stack) r next p) (w .memory))) _ refl
       (λ i e. mul-agrees (λ (v : ValueResult). stepped w (kept (finish (w .stack) r next i v) (w .memory))) _ (finished i) (missed i) _ _)
 
   pub compare : (is-lt : Bool) → Agree w (stepped w (kept (op-compare (w .stack) r next is-lt) (w .memory))) (rust.compare is-lt next (view stale w))
-  unfolding op-compare on-two rust.compare view registers-of inner-did
+  unfolding op-compare on-two rust.compare view registers-of inner-result
   compare is-lt =
       two-off (w .stack) (w .machine .height) (h .height) (λ (p : PopTwoResult). stepped w (kept (on-two (λ right left. value-cmp left right is-lt) (w .stack) r next p) (w .memory))) _ refl
       (λ i e. cmp-agrees (λ (v : ValueResult). stepped w (kept (finish (w .stack) r next i v) (w .memory))) _ (finished i) (missed i) _ _ is-lt)
 
   pub dup : Agree w (stepped w (kept (op-dup (w .stack) r next) (w .memory))) (rust.dup next (view stale w))
-  unfolding op-dup dup-last rust.dup view registers-of inner-did
+  unfolding op-dup dup-last rust.dup view registers-of inner-result
   dup =
       one-seen (w .stack) (w .machine .height) (h .height) (λ (p : LastResult). stepped w (kept (dup-last (w .stack) r next p) (w .memory))) _ refl
       (λ i e. pushed w stale bytes h next (w .machine .height) _)
 
   pub drop : Agree w (stepped w (on-memory (op-drop (w .stack) r next) (w .stack) (w .memory))) (rust.drop next (view stale w))
-  unfolding op-drop dropped rust.drop view registers-of inner-did
+  unfolding op-drop dropped rust.drop view registers-of inner-result
   drop =
       one-off (w .stack) (w .machine .height) (h .height) (λ (p : PopResult). stepped w (on-memory (dropped r next p) (w .stack) (w .memory))) _ refl
       (λ i e. moves w stale bytes next i (w .stack) (values-of i (w .stack)) refl)
@@ -78,7 +78,7 @@ module _ (w : World) (stale : ℕ) (h : Facts w) (bytes : Bytes (w .pool)) (next
   free height value k stack less agrees = rw (length-values stack height, lt-ltb height 1000 less) agrees
 
   pub swap : Agree w (stepped w (kept (op-swap (w .stack) r next) (w .memory))) (rust.swap next (view stale w))
-  unfolding op-swap swapped rust.swap view registers-of inner-did pushes
+  unfolding op-swap swapped rust.swap view registers-of inner-result pushes
   swap =
       two-off (w .stack) (w .machine .height) (h .height) (λ (p : PopTwoResult). stepped w (kept (swapped (w .stack) r next p) (w .memory))) _ refl
       (λ i e. after i e (getD (w .stack) (suc i) 0) (getD (w .stack) i 0))

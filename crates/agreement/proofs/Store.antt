@@ -45,7 +45,7 @@ use Rattle.machine.specs.Machines.{current, code-of}
 use Rattle.mechanism.specs.Registers.{registers-of}
 use Rattle.machine.specs.World.{World, code, place}
 use Rattle.machine.specs.Words.{StepResult}
-use Rattle.mechanism.specs.Step.{inner-did}
+use Rattle.mechanism.specs.Step.{inner-result}
 use Rattle.rust.specs.Errors.{VMError, InvalidType, MSliceParamOverflow, MSliceOutOfBounds, StackOverflow, ok, err, panic}
 use Rattle.rust.specs.InlineVec as inlinevec
 use Rattle.rust.specs.Helpers.{byte, slice, prepare-u16-from-be-checked}
@@ -128,7 +128,7 @@ module _ (w : World) (stale : ℕ) (h : Facts w) (bytes : Bytes (w .pool)) where
         (placed (w .stack) r next height (allocation.vector-stored (w .memory) payload used size offset value .memory) (allocation.vector-stored (w .memory) payload used size offset value .answer)))
 
     not-boxed : (error : VMError) → Agree w (boxing (NoValue (refusal-of error))) (err error)
-    unfolding allocation.vector-stored placed full-by inner-did
+    unfolding allocation.vector-stored placed full-by inner-result
     not-boxed error = by (leb 1000 height)
       where
         by : (b : Bool) → Agree w (stepped w (cond b (on-memory (Refused (refusal-of error)) (w .stack) (w .memory)) (on-memory (Refused (refusal-of error)) (w .stack) (w .memory)))) (err error)
@@ -149,7 +149,7 @@ module _ (w : World) (stale : ℕ) (h : Facts w) (bytes : Bytes (w .pool)) where
         goes w stale bytes _ _ _ _ (rw (a, b))
 
     is-boxed : (value : ℕ) → Agree w (boxing (Value value)) (inlinevec.push 1000 (values-of height (w .stack)) value λ after. ok (with-memory (at (view stale w) next after) grows))
-    unfolding allocation.vector-stored placed full-by inner-did inlinevec.push
+    unfolding allocation.vector-stored placed full-by inner-result inlinevec.push
     is-boxed value = by (leb 1000 height) (leb (offset + size) (length (w .memory))) refl refl
       where
         by : (b d : Bool) → leb 1000 height ≡ b → leb (offset + size) (length (w .memory)) ≡ d
@@ -193,7 +193,7 @@ module _ (w : World) (stale : ℕ) (h : Facts w) (bytes : Bytes (w .pool)) where
         (cond (leb (pointer .size / width) index) (err (MSliceOutOfBounds (index * width % 2 ^ 32) (pointer .size)))
         (cond (leb (pointer .offset + index * width + width) (length (take used (w .memory))))
         (ok (with-memory (at (view stale w) next (values-of height (w .stack))) (sets (take used (w .memory)) (pointer .offset + index * width) (take width (little-endian 4 payload))))) panic))
-    unfolding change.changed scaled mutated inner-did
+    unfolding change.changed scaled mutated inner-result
     change-agrees width low element =
         same (λ (a : change.AfterChange). stepped w (changed (w .stack) (changed-to (mutated r next height (a .answer)) (a .memory ++ drop used (w .memory))))) (leb (pointer .size / width) index)
         (λ t. errs (MSliceOutOfBounds (index * width % 2 ^ 32) (pointer .size)))
@@ -202,7 +202,7 @@ module _ (w : World) (stale : ℕ) (h : Facts w) (bytes : Bytes (w .pool)) where
         (holds _ (le-leb (pointer .offset + index * width + width) (length (take used (w .memory))) (omega arith)) panic (change-goes (pointer .offset + index * width) (little-endian width payload))))
 
     pub mut-agrees : (tag : ℕ) → Agree w (sizing (element-size-bytes tag)) (memory.mut-vec (take used (w .memory)) pointer index payload tag λ l. ok (with-memory (at (view stale w) next (values-of height (w .stack))) l))
-    unfolding element-size-bytes memory.mut-vec memory.element-size-bytes little-endian change.changed mutated inner-did
+    unfolding element-size-bytes memory.mut-vec memory.element-size-bytes little-endian change.changed mutated inner-result
     mut-agrees tag =
         same sizing (eqb tag 4) (λ t. change-agrees 1 refl (λ l. one l))
         (λ t. same sizing (eqb tag 6) (λ u. change-agrees 4 refl (λ l. four l)) (λ u. errs InvalidType))
@@ -214,7 +214,7 @@ module _ (w : World) (stale : ℕ) (h : Facts w) (bytes : Bytes (w .pool)) where
         four l = omega arith
 
   pub m-muta : (next : ℕ) → Agree w (stepped w (changed (w .stack) (op-m-muta (w .stack) (w .memory) r next))) (rust.m-muta next (view stale w))
-  unfolding op-m-muta mutate-two mutate-last mutate mutate-at mut-in-use mut-vec rust.m-muta values.tag view registers-of inner-did
+  unfolding op-m-muta mutate-two mutate-last mutate mutate-at mut-in-use mut-vec rust.m-muta values.tag view registers-of inner-result
   m-muta next =
       two-off (w .stack) (w .machine .height) (h .height) (λ (o : PopTwoResult). stepped w (changed (w .stack) (mutate-two (w .stack) (w .memory) r next o))) _ refl
       (λ i e. one-seen (w .stack) i (omega (arith, h .height)) (λ (o : LastResult). stepped w (changed (w .stack) (mutate-last (w .memory) r next i (getD (w .stack) (suc i) 0) (getD (w .stack) i 0) o))) _ refl
@@ -239,7 +239,7 @@ module _ (w : World) (stale : ℕ) (h : Facts w) (bytes : Bytes (w .pool)) where
       → Agree w (by-op M-ST (cond b (extents.Next (p + 1 + 1)) extents.Cut))
       (inlinevec.pop (values-of (w .machine .height) (w .stack)) λ size st.
       cond (ltb 65535 (to-u32 size)) (err MSliceParamOverflow) (cond b (allocs (view stale w) (p + 1 + 1) st (to-u32 size) (getD c (p + 1) 0) []) panic))
-  unfolding by-extent execute is-equality m-st with-operand op-m-st sized registers-of cut cut-m-st cut-size inner-did
+  unfolding by-extent execute is-equality m-st with-operand op-m-st sized registers-of cut cut-m-st cut-size inner-result
   m-st-by true t =
       rw (operand-there 1 c (p + 1) t, one-byte c (p + 1), byte-below c (p + 1) (code-bytes w bytes))
       (one-off (w .stack) (w .machine .height) (h .height) (λ (o : PopResult). stepped w (sized (w .stack) (w .memory) [] r (p + 1 + 1) (getD c (p + 1) 0) o)) _ refl
@@ -277,7 +277,7 @@ module _ (w : World) (stale : ℕ) (h : Facts w) (bytes : Bytes (w .pool)) where
 
   -- a cut one panics at the first operand that is not there
   m-sti-cut : (a b : Bool) → Agree w (by-op M-STI extents.Cut) (cond a (cond b panic panic) panic)
-  unfolding by-extent cut inner-did
+  unfolding by-extent cut inner-result
   m-sti-cut true true = panics
   m-sti-cut true false = panics
   m-sti-cut false b = panics
@@ -289,7 +289,7 @@ module _ (w : World) (stale : ℕ) (h : Facts w) (bytes : Bytes (w .pool)) where
       (cond (leb (p + 1 + 4 + big-endian 2 c (p + 1)) (length c))
       (allocs (view stale w) (p + 1 + 4 + big-endian 2 c (p + 1)) (values-of (w .machine .height) (w .stack)) (big-endian 2 c (p + 1)) (getD c (p + 1 + 2) 0) (take (big-endian 2 c (p + 1)) (drop (p + 1 + 4) c))) panic)
       (allocs (view stale w) (p + 1 + 4) (values-of (w .machine .height) (w .stack)) (big-endian 2 c (p + 1)) (getD c (p + 1 + 2) 0) []))
-  unfolding payload-of by-extent cut inner-did
+  unfolding payload-of by-extent cut inner-result
   m-sti-signal true e t =
       let z : p + 5 ≡ p + 1 + 4 = omega arith in
       same (by-op M-STI) (leb (p + 1 + 4 + big-endian 2 c (p + 1)) (length c))

@@ -48,11 +48,11 @@ use Rattle.mechanism.specs.declared.FieldResult.the-variants.{NoField}
 use Rattle.machine.specs.declared.Machine.{Machine}
 use Rattle.machine.specs.Machines.{with-ids}
 use Rattle.mechanism.specs.Registers.{registers-of, settled}
-use Rattle.mechanism.specs.Act.{OnAll, on-all, went-by, created, tasked-by, created-by, after-memory}
+use Rattle.mechanism.specs.Act.{OnAll, on-all, settled-by, created, tasked-by, created-by, after-memory}
 use Rattle.mechanism.specs.Advance.{named-by, named, wanted}
 use Rattle.machine.specs.World.{World, world}
 use Rattle.machine.specs.Words.{StepResult, next}
-use Rattle.mechanism.specs.Step.{inner-did, acts-went}
+use Rattle.mechanism.specs.Step.{inner-result, acts-result}
 use Rattle.rust.specs.Errors.{StackUnderflow, InvalidType, TaskNotFound, InvalidTaskField, InvalidStatus, MaxStatesError, Out, ok, err}
 use Rattle.rust.specs.InlineVec as inlinevec
 use Rattle.rust.specs.TaskTypes.{TaskVM, TaskField, Title, State, Instructions, default, try-from}
@@ -73,7 +73,7 @@ use Rattle.agreement.proofs.Slots.{a-task, no-task, blank-none, get-is,
 
 -- an instruction on a task, a frame or the pool, as a step
 abbrev pub acted-as : World → ℕ → OnAll → StepResult
-acted-as w slot after = acts-went w slot after (after .acted .went)
+acted-as w slot after = acts-result w slot after (after .acted .result)
 
 -- one that changes a slot alone
 abbrev tasked-as : World → ℕ → RegistersAndChange → StepResult
@@ -173,7 +173,7 @@ module _ (w : World) (stale : ℕ) (h : Facts w) (bytes : Bytes (w .pool)) where
       goes-by stale bytes (view-settled stale (w .machine) (moved r place height) (set (w .table) i task) (w .stack) (w .memory) (w .pool) (w .ends) (w .save) ∙ rw (put-is w h i task less, is))
 
   pub t-delete : (place : ℕ) → Agree w (tasked-as w (wanted (w .stack) (w .machine) T-DELETE) (op-t-delete (w .stack) r place (slot (wanted (w .stack) (w .machine) T-DELETE)))) (rust.t-delete place (view stale w))
-  unfolding op-t-delete delete-popped delete-found named-by tasked-by went-by acts-went applied rust.t-delete rust-storage.delete rust-storage.get registers-of view storage-of
+  unfolding op-t-delete delete-popped delete-found named-by tasked-by settled-by acts-result applied rust.t-delete rust-storage.delete rust-storage.get registers-of view storage-of
   t-delete place =
       rw (wanted-top (w .stack) (w .machine) T-DELETE refl refl refl)
       (one-off (w .stack) (w .machine .height) (h .height) (λ (o : PopResult). tasked-as w (named-by o) (delete-popped r place (slot (named-by o)) o)) _ refl
@@ -186,7 +186,7 @@ module _ (w : World) (stale : ℕ) (h : Facts w) (bytes : Bytes (w .pool)) where
 
   -- it leaves the slots
   get-is-step : (i : ℕ) (task : Task) (d : RegistersResult) (stack l : List ℕ) → acted-as w i (after-memory (w .machine) (on-memory d stack l) (w .pool) (w .ends) task) ≡ stepped w (on-memory d stack l)
-  unfolding acts-went went-by applied inner-did
+  unfolding acts-result settled-by applied inner-result
   get-is-step i task (Next registers) stack l = refl
   get-is-step i task (Refused refusal) stack l = refl
 
@@ -210,7 +210,7 @@ module _ (w : World) (stale : ℕ) (h : Facts w) (bytes : Bytes (w .pool)) where
       → ((i j : ℕ) → slot i .living ≡ true → Agree w (stepped w (get-field (w .stack) (w .memory) r place j field (slot i))) (k (held (slot i)) (values-of j (w .stack))))
       → Agree w (get-by place (slot (named-by (pop (w .stack) height))) (owner (w .stack) height (slot (named-by (pop (w .stack) height))) field))
       (inlinevec.pop (values-of height (w .stack)) λ id st. rust-storage.if-some (getD tasks (to-u32 id) none) (λ task. k task st) (err (TaskNotFound (to-u32 id))))
-  unfolding owner owner-popped if-found get-found named-by inner-did
+  unfolding owner owner-popped if-found get-found named-by inner-result
   get-owner place height field k most there =
       one-off (w .stack) height most (λ (o : PopResult). get-by place (slot (named-by o)) (owner-popped (slot (named-by o)) field o)) _ refl
       (λ i e. rw (get-is w h (to-u32 (getD (w .stack) i 0)))
@@ -219,7 +219,7 @@ module _ (w : World) (stale : ℕ) (h : Facts w) (bytes : Bytes (w .pool)) where
       (errs (TaskNotFound (to-u32 (getD (w .stack) i 0))))))
 
   get-fields : (place : ℕ) → Agree w (stepped w (op-t-get-field (w .stack) (w .memory) r place (slot (wanted (w .stack) (w .machine) T-GET-FIELD)))) (rust.t-get-field place (view stale w))
-  unfolding op-t-get-field field-of field-popped get-found get-field below rust.t-get-field rust.get-field rust-storage.get registers-of view storage-of inner-did
+  unfolding op-t-get-field field-of field-popped get-found get-field below rust.t-get-field rust.get-field rust-storage.get registers-of view storage-of inner-result
   get-fields place =
       rw (wanted-get (w .stack) (w .machine) (h .height))
       (one-off (w .stack) (w .machine .height) (h .height) (λ (o : PopResult). get-by place (slot (below (w .stack) o)) (field-popped (w .stack) (slot (below (w .stack) o)) o)) _ refl
@@ -233,7 +233,7 @@ module _ (w : World) (stale : ℕ) (h : Facts w) (bytes : Bytes (w .pool)) where
       → Agree w (acted-as w i (after-memory (w .machine) (op-t-get-field (w .stack) (w .memory) r place task) (w .pool) (w .ends) task)) (rust.t-get-field place (view stale w))
   t-get-field place i task named is =
       let after = op-t-get-field (w .stack) (w .memory) r place task in
-      rw (get-is-step i task (after .did) (after .stack) (after .memory), is, named) (get-fields place)
+      rw (get-is-step i task (after .result) (after .stack) (after .memory), is, named) (get-fields place)
 
   -- ---- T_SET_FIELD
 
@@ -245,7 +245,7 @@ module _ (w : World) (stale : ℕ) (h : Facts w) (bytes : Bytes (w .pool)) where
       → ((i j : ℕ) → slot i .living ≡ true → j < w .machine .height → Agree w (tasked-as w i (set-popped (w .memory) r place field (slot i) (pop (w .stack) j))) (k i (held (slot i)) (values-of j (w .stack))))
       → Agree w (tasked-as w (named-by (pop (w .stack) height)) (set-found (w .stack) (w .memory) r place (slot (named-by (pop (w .stack) height))) (owner (w .stack) height (slot (named-by (pop (w .stack) height))) field)))
       (inlinevec.pop (values-of height (w .stack)) λ id st. rust-storage.if-some (getD tasks (to-u32 id) none) (λ task. k (to-u32 id) task st) (err (TaskNotFound (to-u32 id))))
-  unfolding owner owner-popped if-found set-found named-by tasked-by went-by acts-went applied
+  unfolding owner owner-popped if-found set-found named-by tasked-by settled-by acts-result applied
   set-owner place height field k most there =
       one-off (w .stack) height (omega (arith, h .height)) (λ (o : PopResult). tasked-as w (named-by o) (set-found (w .stack) (w .memory) r place (slot (named-by o)) (owner-popped (slot (named-by o)) field o))) _ refl
       (λ i e. rw (get-is w h (to-u32 (getD (w .stack) i 0)))
@@ -263,7 +263,7 @@ module _ (w : World) (stale : ℕ) (h : Facts w) (bytes : Bytes (w .pool)) where
   set-title-within : (place height i : ℕ) (pointer : FatPointer) → slot i .living ≡ true → pointer .offset + pointer .size ≤ length used
       → Agree w (tasked-as w i (set-title used (moved r place height) pointer (slot i)))
       (writes place i (record { id = held (slot i) .id; title = get-slice-bytes used pointer; state = held (slot i) .state; instructions-ref = held (slot i) .instructions-ref }) (values-of height (w .stack)))
-  unfolding set-title title-within within tasked-by went-by acts-went applied storage-of rust-storage.changed rust-storage.get
+  unfolding set-title title-within within tasked-by settled-by acts-result applied storage-of rust-storage.changed rust-storage.get
   set-title-within place height i pointer living lies =
       let title = get-slice-bytes used pointer in
       let task : TaskVM = record { id = held (slot i) .id; title = title; state = held (slot i) .state; instructions-ref = held (slot i) .instructions-ref } in
@@ -277,7 +277,7 @@ module _ (w : World) (stale : ℕ) (h : Facts w) (bytes : Bytes (w .pool)) where
 
   set-title-agrees : (place i j : ℕ) → slot i .living ≡ true → j < w .machine .height
       → Agree w (tasked-as w i (set-popped (w .memory) r place 0 (slot i) (pop (w .stack) j))) (rust.set-field (view stale w) (values-of j (w .stack)) (held (slot i)) Title (writes place i))
-  unfolding set-popped set-field title-vector tasked-by went-by acts-went applied rust.set-field registers-of view
+  unfolding set-popped set-field title-vector tasked-by settled-by acts-result applied rust.set-field registers-of view
   set-title-agrees place i j living less =
       one-off (w .stack) j (omega (arith, h .height)) (λ (o : PopResult). tasked-as w i (set-popped (w .memory) r place 0 (slot i) o)) _ refl
       (λ k e. pointer-agrees (λ (o : PointerResult). tasked-as w i (title-vector used (moved r place k) (slot i) o)) _ (getD (w .stack) k 0)
@@ -289,34 +289,34 @@ module _ (w : World) (stale : ℕ) (h : Facts w) (bytes : Bytes (w .pool)) where
   state-goes : (place height i v : ℕ) → slot i .living ≡ true → leb (slot i .state .len) v ≡ false → leb 255 v ≡ false
       → Agree w (tasked-as w i (tasked (Next (moved r place height)) (changes.restate (slot i) v)))
       (writes place i (record { id = held (slot i) .id; title = held (slot i) .title; state = record { len = slot i .state .len; state = v }; instructions-ref = held (slot i) .instructions-ref }) (values-of height (w .stack)))
-  unfolding tasked-by went-by acts-went applied set-state-at storage.set-state storage.with-state storage-of rust-storage.changed
+  unfolding tasked-by settled-by acts-result applied set-state-at storage.set-state storage.with-state storage-of rust-storage.changed
   state-goes place height i v living a b =
       rw (a, b) (slot-goes place height i (restated (slot i) v) _ (below-count i living) (a-task (restated (slot i) v) living))
 
   set-state-by : (place height i v : ℕ) (a b : Bool) → slot i .living ≡ true → leb (slot i .state .len) v ≡ a → leb 255 v ≡ b
       → Agree w (tasked-as w i (set-state (moved r place height) v (slot i)))
       (cond (a || b) (err (InvalidStatus v)) (writes place i (record { id = held (slot i) .id; title = held (slot i) .title; state = record { len = slot i .state .len; state = v }; instructions-ref = held (slot i) .instructions-ref }) (values-of height (w .stack))))
-  unfolding set-state state-answered storage.with-state tasked-by went-by acts-went applied
+  unfolding set-state state-answered storage.with-state tasked-by settled-by acts-result applied
   set-state-by place height i v true b living e f = rw e (errs (InvalidStatus v))
   set-state-by place height i v false true living e f = rw (e, f) (errs (InvalidStatus v))
   set-state-by place height i v false false living e f = rw (e, f) (state-goes place height i v living e f)
 
   set-state-agrees : (place i j : ℕ) → slot i .living ≡ true → j < w .machine .height
       → Agree w (tasked-as w i (set-popped (w .memory) r place 1 (slot i) (pop (w .stack) j))) (rust.set-field (view stale w) (values-of j (w .stack)) (held (slot i)) State (writes place i))
-  unfolding set-popped set-field tasked-by went-by acts-went applied rust.set-field types.set-state
+  unfolding set-popped set-field tasked-by settled-by acts-result applied rust.set-field types.set-state
   set-state-agrees place i j living less =
       one-off (w .stack) j (omega (arith, h .height)) (λ (o : PopResult). tasked-as w i (set-popped (w .memory) r place 1 (slot i) o)) _ refl
       (λ k e. set-state-by place k i (to-u32 (getD (w .stack) k 0)) _ _ living refl refl)
 
   set-instructions-agrees : (place i j : ℕ) → slot i .living ≡ true → j < w .machine .height
       → Agree w (tasked-as w i (set-popped (w .memory) r place 2 (slot i) (pop (w .stack) j))) (rust.set-field (view stale w) (values-of j (w .stack)) (held (slot i)) Instructions (writes place i))
-  unfolding set-popped set-field set-instructions tasked-by went-by acts-went applied rust.set-field storage-of rust-storage.changed
+  unfolding set-popped set-field set-instructions tasked-by settled-by acts-result applied rust.set-field storage-of rust-storage.changed
   set-instructions-agrees place i j living less =
       one-off (w .stack) j (omega (arith, h .height)) (λ (o : PopResult). tasked-as w i (set-popped (w .memory) r place 2 (slot i) o)) _ refl
       (λ k e. slot-goes place k i (retargeted (slot i) (record { 0 = to-u32 (getD (w .stack) k 0) })) _ (below-count i living) (a-task (retargeted (slot i) (record { 0 = to-u32 (getD (w .stack) k 0) })) living))
 
   pub t-set-field : (place : ℕ) → Agree w (tasked-as w (wanted (w .stack) (w .machine) T-SET-FIELD) (op-t-set-field (w .stack) (w .memory) r place (slot (wanted (w .stack) (w .machine) T-SET-FIELD)))) (rust.t-set-field place (view stale w))
-  unfolding op-t-set-field field-of field-popped set-found below tasked-by went-by acts-went applied rust.t-set-field rust-storage.get registers-of view storage-of
+  unfolding op-t-set-field field-of field-popped set-found below tasked-by settled-by acts-result applied rust.t-set-field rust-storage.get registers-of view storage-of
   t-set-field place =
       rw (wanted-set (w .stack) (w .machine) (h .height))
       (one-off (w .stack) (w .machine .height) (h .height) (λ (o : PopResult). tasked-as w (below (w .stack) o) (set-found (w .stack) (w .memory) r place (slot (below (w .stack) o)) (field-popped (w .stack) (slot (below (w .stack) o)) o))) _ refl
@@ -350,7 +350,7 @@ module _ (w : World) (stale : ℕ) (h : Facts w) (bytes : Bytes (w .pool)) where
   create-within : (place height reference : ℕ) (state : TaskState) (pointer : FatPointer) → pointer .offset + pointer .size ≤ length used
       → Agree w (created-as w next-id (new used (moved r place height) pointer (record { 0 = next-id }) state (record { 0 = reference }) (slot next-id)))
       (ok (with-storage (at (view stale w) place (values-of height (w .stack))) (rust-storage.add (storage-of next-id (w .machine .count) (w .table)) (record { id = next-id; title = get-slice-bytes used pointer; state = record { len = state .len; state = state .state }; instructions-ref = reference }))))
-  unfolding new if-within within with-room tests.room created-by created acts-went applied rust-storage.add rust-storage.get storage-of
+  unfolding new if-within within with-room tests.room created-by created acts-result applied rust-storage.add rust-storage.get storage-of
   create-within place height reference state pointer lies =
       let title = get-slice-bytes used pointer in
       let task : TaskVM = record { id = next-id; title = title; state = record { len = state .len; state = state .state }; instructions-ref = reference } in
@@ -364,7 +364,7 @@ module _ (w : World) (stale : ℕ) (h : Facts w) (bytes : Bytes (w .pool)) where
       (new-held (record { 0 = next-id }) title state (record { 0 = reference }) (let z : pointer .size ≤ 128 = ltb-false _ _ u in omega arith)) (leb-false _ _ t))))
 
   pub t-create : (place : ℕ) → Agree w (created-as w next-id (op-t-create (w .stack) (w .memory) r place next-id (slot next-id))) (rust.t-create place (view stale w))
-  unfolding op-t-create with-two with-state default-state titled with-title if-vector created-by created acts-went applied rust.t-create default registers-of view storage-of
+  unfolding op-t-create with-two with-state default-state titled with-title if-vector created-by created acts-result applied rust.t-create default registers-of view storage-of
   t-create place =
       two-off (w .stack) (w .machine .height) (h .height) (λ (o : PopTwoResult). created-as w next-id (with-two (w .stack) (w .memory) r place (record { 0 = next-id }) (slot next-id) o)) _ refl
       (λ i e. same (λ (o : DefaultResult). created-as w next-id (with-state (w .stack) (w .memory) (moved r place i) (record { 0 = next-id }) (getD (w .stack) (suc i) 0) (slot next-id) o)) (eqb (to-u32 (getD (w .stack) i 0) % 256) 0)

@@ -24,7 +24,7 @@ use Rattle.machine.specs.Machines.{current, with-current, with-ids}
 use Rattle.mechanism.specs.Registers.{registers-of, settled}
 use Rattle.machine.specs.World.{World, world}
 use Rattle.machine.specs.Words.{StepResult}
-use Rattle.mechanism.specs.Step.{inner-did}
+use Rattle.mechanism.specs.Step.{inner-result}
 use Rattle.rust.specs.Errors.{StackOverflow, ok}
 use Rattle.rust.specs.InlineVec as rust
 use Rattle.rust.specs.Vm.{VM, at, pushes}
@@ -71,7 +71,7 @@ module _ (stale : ℕ) (m : Machine) (registers : Registers) (table : List Task)
 
 -- an instruction that needs no task, frame or pool, as a step
 abbrev pub stepped : World → OnMemory → StepResult
-stepped w after = inner-did w (after .stack) (after .memory) (after .did)
+stepped w after = inner-result w (after .stack) (after .memory) (after .result)
 
 module _ (w : World) (stale : ℕ) (bytes : Bytes (w .pool)) where
   -- on with other registers
@@ -80,7 +80,7 @@ module _ (w : World) (stale : ℕ) (bytes : Bytes (w .pool)) where
       (values-of (registers .height) stack) (loops-of (registers .loops)) (take (registers .memory) memory)
       (entries-of (w .pool) (w .ends) (w .machine .entries)) (storage-of (w .machine .«next_id» .0) (w .machine .count) (w .table)) ≡ vm
       → Agree w (stepped w (on-memory (Next registers) stack memory)) (ok vm)
-  unfolding inner-did
+  unfolding inner-result
   goes registers stack memory vm e =
       goes-by stale bytes (view-settled stale (w .machine) registers (w .table) stack memory (w .pool) (w .ends) (w .save) ∙ e)
 
@@ -97,7 +97,7 @@ module _ (w : World) (stale : ℕ) (bytes : Bytes (w .pool)) where
   -- a value more, at a height
   pub pushed : Facts w → (place height value : ℕ)
       → Agree w (stepped w (kept (push-value (w .stack) (registers-of (w .machine)) place height value) (w .memory))) (pushes (view stale w) place (values-of height (w .stack)) value)
-  unfolding push-value push if-room pushes rust.push inner-did pushed-to
+  unfolding push-value push if-room pushes rust.push inner-result pushed-to
   pushed h place height value = by (ltb height 1000) refl (rw (length-values (w .stack) height))
     where
       by : (b : Bool) → ltb height 1000 ≡ b → ltb (length (values-of height (w .stack))) 1000 ≡ ltb height 1000

@@ -65,7 +65,7 @@ pub record Parts : Type 0 where
   -- refused: the record is not put
   pub refused-puts : refused blank StackOverflow .change .puts ≡ false
   -- and the refusal is the one that is given
-  pub refused-with : refused blank StackOverflow .did ≡ Refused StackOverflow
+  pub refused-with : refused blank StackOverflow .result ≡ Refused StackOverflow
   -- current: main, where there is no other frame
   pub current-main : current (with-open 1 .frames) ≡ Main
   -- else the task's
@@ -95,13 +95,13 @@ pub record Parts : Type 0 where
   -- of one value alone it is 3
   pub popped-one : pop-two (7 ∷ []) 1 ≡ NotPoppedTwo StackUnderflow
   -- push_value: on at the place that is given, one higher than the height
-  pub pushed : push-value (7 ∷ 0 ∷ []) (at 6 1) 8 1 4 .did ≡ Next (at 8 2)
+  pub pushed : push-value (7 ∷ 0 ∷ []) (at 6 1) 8 1 4 .result ≡ Next (at 8 2)
   -- the value at the height
   pub pushed-value : push-value (7 ∷ 0 ∷ []) (at 6 1) 8 1 4 .stack ≡ 7 ∷ 4 ∷ []
   -- finish: a result is pushed
   pub finished : finish (7 ∷ 0 ∷ []) (at 6 1) 8 1 (Value 4) .stack ≡ 7 ∷ 4 ∷ []
   -- a refusal is handed on
-  pub finished-with : finish (7 ∷ 0 ∷ []) (at 6 1) 8 1 (NoValue InvalidType) .did ≡ Refused InvalidType
+  pub finished-with : finish (7 ∷ 0 ∷ []) (at 6 1) 8 1 (NoValue InvalidType) .result ≡ Refused InvalidType
 
 pub parts : Parts
 unfolding stacks.if-room stacks.if-some stacks.push stacks.pop stacks.last-two stacks.change-two pools.end-of pools.start-of pools.entry-of machines.current machines.with-current machines.code-of registers.registers-of registers.settled stack.pop-second stack.pop-first stack.pop-two stack.pushed-to stack.push-value stack.finish

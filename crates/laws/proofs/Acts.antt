@@ -26,7 +26,7 @@ use Rattle.machine.specs.Machines.{current, code-of, with-ids}
 use Rattle.mechanism.specs.Registers.{registers-of, settled}
 use Rattle.mechanism.specs.Frames.{OnPool}
 use Rattle.mechanism.specs.Registers.{machine-at}
-use Rattle.mechanism.specs.Act.{acted, OnAll, on-all, went-by, created, tasked-by, created-by, on-task, after-pool, after-memory, on-frames, act-by, act-at, act}
+use Rattle.mechanism.specs.Act.{acted, OnAll, on-all, settled-by, created, tasked-by, created-by, on-task, after-pool, after-memory, on-frames, act-by, act-at, act}
 use Rattle.machine.specs.Machines.{op-at}
 use Rattle.mechanism.specs.declared.MachineResult.{MachineResult}
 use Rattle.mechanism.specs.declared.MachineResult.the-variants.{Onto, Refused}
@@ -92,9 +92,9 @@ module _ {asked : Type 0} (save : ℕ) (stack memory pool ends : List ℕ) (mach
   same-entries : (after : Machine) → after .entries ≡ machine .entries → Grows pool ends (machine .entries) pool ends (after .entries)
   same-entries after same = subst (λ (n : ℕ). Grows pool ends (machine .entries) pool ends n) (sym same) (same-pool pool ends (machine .entries))
 
-  went-acts : (went : MachineResult) → WentOn asked (length memory) (length pool) save stack ends machine went → On 0 0 (on-all (acted went (keep task)) stack memory pool ends)
-  went-acts _ (went-on after sound many same) = keeps after stack memory pool ends sound same (same-entries after many)
-  went-acts _ (frames.refused refusal) = refused refusal _ stack memory pool ends
+  result-acts : (result : MachineResult) → WentOn asked (length memory) (length pool) save stack ends machine result → On 0 0 (on-all (acted result (keep task)) stack memory pool ends)
+  result-acts _ (went-on after sound many same) = keeps after stack memory pool ends sound same (same-entries after many)
+  result-acts _ (frames.refused refusal) = refused refusal _ stack memory pool ends
 
   settled-same : (registers : Registers) → Same machine (settled machine registers)
   unfolding settled
@@ -105,7 +105,7 @@ module _ {asked : Type 0} (save : ℕ) (stack memory pool ends : List ℕ) (mach
   settled-entries registers = refl
 
   memory-acts : (a : OnMemory) → memories.Keeps asked (length memory) a → On 0 0 (after-memory machine a pool ends task)
-  unfolding went-by
+  unfolding settled-by
   memory-acts _ (memories.finished registers s mem r long) =
       keeps (settled machine registers) s mem pool ends
       (subst (λ (n : ℕ). Machined asked n (length pool) save s ends (settled machine registers)) (sym long) (settled-sound registers s m r)) (settled-same registers)
@@ -115,7 +115,7 @@ module _ {asked : Type 0} (save : ℕ) (stack memory pool ends : List ℕ) (mach
   -- ---- the opcodes that change a slot
 
   by-acts : (deleted : ℕ) (a : RegistersAndChange) → Changes asked (length memory) stack table slot (machine .«next_id» .0) (machine .count) 0 deleted a → On 0 deleted (on-all (tasked-by machine a) stack memory pool ends)
-  unfolding tasked-by went-by settled
+  unfolding tasked-by settled-by settled
   by-acts deleted _ (changes registers change r sound lived) =
       acts (settled machine registers) change stack memory pool ends (settled-sound registers stack m r) sound (same-entries (settled machine registers) (settled-entries registers)) lived (none-given (settled-same registers))
   by-acts deleted _ (tasks.refused refusal change) = refused refusal change stack memory pool ends
@@ -186,9 +186,9 @@ module _ {asked : Type 0} (save : ℕ) (stack memory pool ends : List ℕ) (mach
       (λ _. either (On (creates op) (deletes op)) (eqb op T-GET-FIELD) _ _
       (λ is. by-op op T-GET-FIELD _ is (memory-acts _ (get-field-keeps stack memory (registers-of machine) next task (registered m))))
       (λ _. either (On (creates op) (deletes op)) (eqb op CALL) _ _
-      (λ is. by-op op CALL _ is (went-acts _ (call-on (length memory) (length pool) save stack ends machine m next task)))
+      (λ is. by-op op CALL _ is (result-acts _ (call-on (length memory) (length pool) save stack ends machine m next task)))
       (λ _. either (On (creates op) (deletes op)) (eqb op END-CALL) _ _
-      (λ is. by-op op END-CALL _ is (went-acts _ (end-call-on (length memory) (length pool) save stack ends machine m next)))
+      (λ is. by-op op END-CALL _ is (result-acts _ (end-call-on (length memory) (length pool) save stack ends machine m next)))
       (λ _. task-acts op next here))))
 
   extent-acts : (op place : ℕ) (extent : Extent) → (eqb op T-CREATE ≡ true → slot ≡ machine .«next_id» .0)

@@ -79,9 +79,9 @@ module _ (R : World → List World → World → Type 0) (none : (w v : World) �
 
   -- the end of a run, and its beginning
   around : (w begins v after : World) (log : List World) → Beside w begins → R begins log v → Beside v after → R w log after
-  around w begins v after log begun went over =
+  around w begins v after log begun result over =
       subst (λ (l : List World). R w l after) (append-nil log)
-      (chain w v after log [] (chain w begins v [] log (none w begins begun) went) (none v after over))
+      (chain w v after log [] (chain w begins v [] log (none w begins begun) result) (none v after over))
 
   with-permission : (b : Bool) (fuel : ℕ) (w : World) (a : Permission) → a .allowed ≡ b → Passes (with-machine w (a .machine)) → Beside w (with-machine w (a .machine))
       → R w (cond (a .allowed) (run-finished fuel (with-machine w (a .machine))) []) (world-after (call-with fuel w a))

@@ -47,11 +47,11 @@ pub data Keeps (asked : Type 0) (lent : ℕ) : OnMemory → Type 0 where
   refused : (refusal : Refusal) (stack memory : List ℕ) → Keeps asked lent (on-memory (Refused refusal) stack memory)
 
 -- an instruction over the stack alone
-pub beside : {asked : Type 0} (memory : List ℕ) (a : OnStack) → stacked.Keeps asked (length memory) a → Keeps asked (length memory) (on-memory (a .did) (a .stack) memory)
+pub beside : {asked : Type 0} (memory : List ℕ) (a : OnStack) → stacked.Keeps asked (length memory) a → Keeps asked (length memory) (on-memory (a .result) (a .stack) memory)
 beside memory _ (stacked.finished registers stack r) = finished registers stack memory r refl
 beside memory _ (stacked.refused refusal stack) = refused refusal stack memory
 
-pub unwritten : {asked : Type 0} (memory stack : List ℕ) (did : RegistersResult) → Goes asked (length memory) stack did → Keeps asked (length memory) (on-memory did stack memory)
+pub unwritten : {asked : Type 0} (memory stack : List ℕ) (result : RegistersResult) → Goes asked (length memory) stack result → Keeps asked (length memory) (on-memory result stack memory)
 unwritten memory stack _ (goes registers r) = finished registers stack memory r refl
 unwritten memory stack _ (stops refusal) = refused refusal stack memory
 
@@ -150,12 +150,12 @@ module _ {asked : Type 0} (registers : Registers) (stack memory : List ℕ) (nex
   mutated-goes height Changed low = goes _ (lowered (length memory) registers stack next height r low)
   mutated-goes height (NotChanged refusal) low = stops refusal
 
-  changed-keeps : (m : List ℕ) (did : RegistersResult) → Goes asked (length memory) stack did → length m ≡ length memory → Keeps asked (length memory) (on-memory did stack m)
+  changed-keeps : (m : List ℕ) (result : RegistersResult) → Goes asked (length memory) stack result → length m ≡ length memory → Keeps asked (length memory) (on-memory result stack m)
   changed-keeps m _ (goes after sound) long = finished after stack m sound long
   changed-keeps m _ (stops refusal) long = refused refusal stack m
 
   abbrev On : ChangedTo → Type 0
-  On a = Keeps asked (length memory) (on-memory (a .did) stack (a .memory))
+  On a = Keeps asked (length memory) (on-memory (a .result) stack (a .memory))
 
   mutate-at-keeps : (height : ℕ) (index : ElementIndex) (payload tag : ℕ) (result : PointerResult) → height ≤ registers .height
       → On (mutate-at memory registers next height index payload tag result)

@@ -28,7 +28,7 @@ use Rattle.storage.specs.Tasks.{blank}
 use Rattle.image.specs.declared.SaveResult.{SaveResult}
 use Rattle.image.specs.declared.SaveResult.the-variants.{Saved, NotSaved}
 use Rattle.mechanism.specs.declared.RegistersResult.{RegistersResult}
-use Rattle.mechanism.specs.declared.RegistersResult.the-variants as did
+use Rattle.mechanism.specs.declared.RegistersResult.the-variants as registers-result
 use Rattle.mechanism.specs.Registers.{OnMemory}
 use Rattle.mechanism.specs.Changes.{keep}
 use Rattle.mechanism.specs.Create.{op-t-create, op-t-delete}
@@ -41,10 +41,10 @@ use Rattle.machine.specs.Machines.{current, code-of}
 use Rattle.mechanism.specs.Registers.{registers-of, settled}
 use Rattle.mechanism.specs.Frames.{OnPool, on-pool, intern-sized, intern-calldata, with-entry, calldata-pushed, push-calldata, framed, enter-bounded, enter, call-popped, op-call, left-frame, op-end-call}
 use Rattle.mechanism.specs.Registers.{machine-at}
-use Rattle.mechanism.specs.Act.{acted, OnAll, on-all, went-by, created, tasked-by, created-by, on-task, after-pool, after-memory, on-frames, act-by, act-at, act}
+use Rattle.mechanism.specs.Act.{acted, OnAll, on-all, settled-by, created, tasked-by, created-by, on-task, after-pool, after-memory, on-frames, act-by, act-at, act}
 use Rattle.machine.specs.Machines.{op-at}
 use Rattle.mechanism.specs.Advance.{wanted}
-use Rattle.mechanism.specs.Turns.{save-went}
+use Rattle.mechanism.specs.Turns.{save-result}
 use Rattle.mechanism.specs.declared.MachineResult.{MachineResult}
 use Rattle.mechanism.specs.declared.MachineResult.the-variants.{Onto, Refused}
 use Rattle.mechanism.specs.declared.MachineAndChange.{MachineAndChange}
@@ -53,7 +53,7 @@ use Rattle.machine.specs.Words as steps
 use Rattle.mechanism.proofs.Whole.{step-is}
 use Rattle.machine.specs.Words.{StepResult}
 use Rattle.machine.specs.Step.{step}
-use Rattle.mechanism.specs.Step.{inner-did, inner, acts-went, acted-at, acts, saves-went, saves, outer, step-by-parts}
+use Rattle.mechanism.specs.Step.{inner-result, inner, acts-result, acted-at, acts, saves-result, saves, outer, step-by-parts}
 use Rattle.machine.specs.Run.{End, end-at, follow, run}
 use Rattle.machine.specs.Calls.{phased}
 use Rattle.machine.specs.World.{with-machine}
@@ -69,15 +69,15 @@ rephased phase w = with-machine w (phased (w .machine) phase)
 
 module _ (phase : Phase) where
   -- the same in this phase
-  went-as : MachineResult → MachineResult
-  went-as (Onto machine) = Onto (phased machine phase)
-  went-as (Refused refusal) = Refused refusal
+  result-as : MachineResult → MachineResult
+  result-as (Onto machine) = Onto (phased machine phase)
+  result-as (Refused refusal) = Refused refusal
 
   abbrev pool-as : OnPool → OnPool
-  pool-as a = on-pool (went-as (a .went)) (a .stack) (a .pool) (a .ends)
+  pool-as a = on-pool (result-as (a .result)) (a .stack) (a .pool) (a .ends)
 
   abbrev acted-as : MachineAndChange → MachineAndChange
-  acted-as a = acted (went-as (a .went)) (a .change)
+  acted-as a = acted (result-as (a .result)) (a .change)
 
   abbrev all-as : OnAll → OnAll
   all-as a = on-all (acted-as (a .acted)) (a .stack) (a .memory) (a .pool) (a .ends)
@@ -102,65 +102,65 @@ module _ (phase : Phase) where
 
   pushed-as : (stack : List ℕ) (machine : Machine) (next : ℕ) (after : Pooled) (result : InternResult)
       → calldata-pushed stack (phased machine phase) next after result ≡ pool-as (calldata-pushed stack machine next after result)
-  unfolding calldata-pushed with-entry settled registers-of went-as
+  unfolding calldata-pushed with-entry settled registers-of result-as
   pushed-as stack machine next after (Interned entry bytes) = refl
   pushed-as stack machine next after (NotInterned refusal) = refl
 
   calldata-as : (stack pool ends : List ℕ) (machine : Machine) (place next : ℕ)
       → push-calldata stack pool ends (phased machine phase) place next ≡ pool-as (push-calldata stack pool ends machine place next)
-  unfolding push-calldata went-as
+  unfolding push-calldata result-as
   calldata-as stack pool ends machine place next =
       alike pool-as (leb 1000 (machine .height)) _ _ _ _ refl
       (ap (λ (p : Pooled). calldata-pushed stack (phased machine phase) next p (p .answer)) (interned-as pool ends machine place) ∙ pushed-as stack machine next _ _)
 
   -- ---- CALL and END_CALL
 
-  framed-as : (caller : Machine) (result : FramesResult) → framed (phased caller phase) result ≡ went-as (framed caller result)
-  unfolding framed went-as
+  framed-as : (caller : Machine) (result : FramesResult) → framed (phased caller phase) result ≡ result-as (framed caller result)
+  unfolding framed result-as
   framed-as caller (NewFrames frames) = refl
   framed-as caller (NoNewFrames refusal) = refl
 
-  bounded-as : (caller : Machine) (entry : InstructionsRef) (result : BoundsResult) → enter-bounded (phased caller phase) entry result ≡ went-as (enter-bounded caller entry result)
-  unfolding enter-bounded went-as
-  bounded-as caller entry (Bounds start end) = alike went-as (leb end start) _ _ _ _ refl (framed-as caller _)
+  bounded-as : (caller : Machine) (entry : InstructionsRef) (result : BoundsResult) → enter-bounded (phased caller phase) entry result ≡ result-as (enter-bounded caller entry result)
+  unfolding enter-bounded result-as
+  bounded-as caller entry (Bounds start end) = alike result-as (leb end start) _ _ _ _ refl (framed-as caller _)
   bounded-as caller entry (NoBounds refusal) = refl
 
-  popped-as : (ends : List ℕ) (machine : Machine) (next : ℕ) (task : Task) (result : PopResult) → call-popped ends (phased machine phase) next task result ≡ went-as (call-popped ends machine next task result)
-  unfolding call-popped enter settled registers-of went-as
-  popped-as ends machine next task (Popped value height) = alike went-as (task .living) _ _ _ _ (bounded-as (machine-at machine next height) (task .«instructions_ref») _) refl
+  popped-as : (ends : List ℕ) (machine : Machine) (next : ℕ) (task : Task) (result : PopResult) → call-popped ends (phased machine phase) next task result ≡ result-as (call-popped ends machine next task result)
+  unfolding call-popped enter settled registers-of result-as
+  popped-as ends machine next task (Popped value height) = alike result-as (task .living) _ _ _ _ (bounded-as (machine-at machine next height) (task .«instructions_ref») _) refl
   popped-as ends machine next task (NotPopped refusal) = refl
 
-  left-as : (machine : Machine) (result : PopFrameResult) → left-frame (phased machine phase) result ≡ went-as (left-frame machine result)
-  unfolding left-frame went-as
+  left-as : (machine : Machine) (result : PopFrameResult) → left-frame (phased machine phase) result ≡ result-as (left-frame machine result)
+  unfolding left-frame result-as
   left-as machine (PoppedFrame frame frames) = refl
   left-as machine (NotPoppedFrame refusal) = refl
 
-  call-as : (stack ends : List ℕ) (machine : Machine) (next : ℕ) (task : Task) → op-call stack ends (phased machine phase) next task ≡ went-as (op-call stack ends machine next task)
+  call-as : (stack ends : List ℕ) (machine : Machine) (next : ℕ) (task : Task) → op-call stack ends (phased machine phase) next task ≡ result-as (op-call stack ends machine next task)
   unfolding op-call
   call-as stack ends machine next task = popped-as ends machine next task _
 
-  end-call-as : (machine : Machine) (next : ℕ) → op-end-call (phased machine phase) next ≡ went-as (op-end-call machine next)
-  unfolding op-end-call settled registers-of went-as
-  end-call-as machine next = alike went-as (leb (machine .frames .count) 1) _ _ _ _ refl (left-as machine _)
+  end-call-as : (machine : Machine) (next : ℕ) → op-end-call (phased machine phase) next ≡ result-as (op-end-call machine next)
+  unfolding op-end-call settled registers-of result-as
+  end-call-as machine next = alike result-as (leb (machine .frames .count) 1) _ _ _ _ refl (left-as machine _)
 
   -- ---- tasks
 
-  by-as : (machine : Machine) (result : RegistersResult) → went-by (phased machine phase) result ≡ went-as (went-by machine result)
-  unfolding went-by settled went-as
-  by-as machine (did.Next registers) = refl
-  by-as machine (did.Refused refusal) = refl
+  by-as : (machine : Machine) (result : RegistersResult) → settled-by (phased machine phase) result ≡ result-as (settled-by machine result)
+  unfolding settled-by settled result-as
+  by-as machine (registers-result.Next registers) = refl
+  by-as machine (registers-result.Refused refusal) = refl
 
-  created-as : (machine : Machine) (result : RegistersResult) → created (phased machine phase) result ≡ went-as (created machine result)
-  unfolding created settled went-as
-  created-as machine (did.Next registers) = refl
-  created-as machine (did.Refused refusal) = refl
+  created-as : (machine : Machine) (result : RegistersResult) → created (phased machine phase) result ≡ result-as (created machine result)
+  unfolding created settled result-as
+  created-as machine (registers-result.Next registers) = refl
+  created-as machine (registers-result.Refused refusal) = refl
 
   task-as : (stack memory : List ℕ) (machine : Machine) (task : Task) (op next : ℕ) → on-task stack memory (phased machine phase) task op next ≡ acted-as (on-task stack memory machine task op next)
-  unfolding on-task created-by tasked-by registers-of settled went-as
+  unfolding on-task created-by tasked-by registers-of settled result-as
   task-as stack memory machine task op next =
-      alike acted-as (eqb op T-CREATE) _ _ _ _ (ap (λ (w : MachineResult). acted w (made .change)) (created-as machine (made .did)))
-      (alike acted-as (eqb op T-SET-FIELD) _ _ _ _ (ap (λ (w : MachineResult). acted w (set .change)) (by-as machine (set .did)))
-      (alike acted-as (eqb op T-DELETE) _ _ _ _ (ap (λ (w : MachineResult). acted w (deleted .change)) (by-as machine (deleted .did))) refl))
+      alike acted-as (eqb op T-CREATE) _ _ _ _ (ap (λ (w : MachineResult). acted w (made .change)) (created-as machine (made .result)))
+      (alike acted-as (eqb op T-SET-FIELD) _ _ _ _ (ap (λ (w : MachineResult). acted w (set .change)) (by-as machine (set .result)))
+      (alike acted-as (eqb op T-DELETE) _ _ _ _ (ap (λ (w : MachineResult). acted w (deleted .change)) (by-as machine (deleted .result))) refl))
     where
       made : RegistersAndChange
       made = op-t-create stack memory (registers-of machine) next (machine .«next_id» .0) task
@@ -174,7 +174,7 @@ module _ (phase : Phase) where
   -- ---- each
 
   memory-as : (pool ends : List ℕ) (machine : Machine) (task : Task) (a : OnMemory) → after-memory (phased machine phase) a pool ends task ≡ all-as (after-memory machine a pool ends task)
-  memory-as pool ends machine task a = ap (λ (w : MachineResult). on-all (acted w (keep task)) (a .stack) (a .memory) pool ends) (by-as machine (a .did))
+  memory-as pool ends machine task a = ap (λ (w : MachineResult). on-all (acted w (keep task)) (a .stack) (a .memory) pool ends) (by-as machine (a .result))
 
   frames-as : (stack memory pool ends : List ℕ) (machine : Machine) (task : Task) (op place next : ℕ)
       → on-frames stack memory pool ends (phased machine phase) task op place next ≡ all-as (on-frames stack memory pool ends machine task op place next)
@@ -188,46 +188,46 @@ module _ (phase : Phase) where
 
   extent-as : (stack memory pool ends : List ℕ) (machine : Machine) (task : Task) (op place : ℕ) (extent : Extent)
       → act-by stack memory pool ends (phased machine phase) task op place extent ≡ all-as (act-by stack memory pool ends machine task op place extent)
-  unfolding act-by went-as
+  unfolding act-by result-as
   extent-as stack memory pool ends machine task op place (Next next) = frames-as stack memory pool ends machine task op place next
   extent-as stack memory pool ends machine task op place Cut = refl
 
   act-as : (stack memory pool ends : List ℕ) (machine : Machine) (task : Task) → act stack memory pool ends (phased machine phase) task ≡ all-as (act stack memory pool ends machine task)
-  unfolding act act-at code-of went-as
+  unfolding act act-at code-of result-as
   act-as stack memory pool ends machine task =
       alike all-as (leb (length (code-of pool ends machine)) (current (machine .frames) .place)) _ _ _ _ refl (extent-as stack memory pool ends machine task _ _ _)
 
   -- ---- an instruction
 
-  inner-did-as : (w : World) (stack memory : List ℕ) (result : RegistersResult) → inner-did (rephased phase w) stack memory result ≡ step-as (inner-did w stack memory result)
-  unfolding inner-did settled step-as
-  inner-did-as w stack memory (did.Next registers) = refl
-  inner-did-as w stack memory (did.Refused refusal) = refl
+  inner-result-as : (w : World) (stack memory : List ℕ) (result : RegistersResult) → inner-result (rephased phase w) stack memory result ≡ step-as (inner-result w stack memory result)
+  unfolding inner-result settled step-as
+  inner-result-as w stack memory (registers-result.Next registers) = refl
+  inner-result-as w stack memory (registers-result.Refused refusal) = refl
 
   inner-as : (w : World) → inner (rephased phase w) ≡ step-as (inner w)
   unfolding inner registers-of code-of
-  inner-as w = inner-did-as w _ _ _
+  inner-as w = inner-result-as w _ _ _
 
-  acts-went-as : (w : World) (slot : ℕ) (a : OnAll) (went : MachineResult) → acts-went (rephased phase w) slot (all-as a) (went-as went) ≡ step-as (acts-went w slot a went)
-  unfolding acts-went step-as went-as
-  acts-went-as w slot a (Onto machine) = refl
-  acts-went-as w slot a (Refused refusal) = refl
+  acts-result-as : (w : World) (slot : ℕ) (a : OnAll) (result : MachineResult) → acts-result (rephased phase w) slot (all-as a) (result-as result) ≡ step-as (acts-result w slot a result)
+  unfolding acts-result step-as result-as
+  acts-result-as w slot a (Onto machine) = refl
+  acts-result-as w slot a (Refused refusal) = refl
 
   acts-as : (w : World) (slot : ℕ) → acts (rephased phase w) slot ≡ step-as (acts w slot)
   unfolding acts
   acts-as w slot =
-      ap (λ (a : OnAll). acts-went (rephased phase w) slot a (a .acted .went)) (act-as (w .stack) (w .memory) (w .pool) (w .ends) (w .machine) (getD (w .table) slot blank))
-      ∙ acts-went-as w slot (acted-at w slot) (acted-at w slot .acted .went)
+      ap (λ (a : OnAll). acts-result (rephased phase w) slot a (a .acted .result)) (act-as (w .stack) (w .memory) (w .pool) (w .ends) (w .machine) (getD (w .table) slot blank))
+      ∙ acts-result-as w slot (acted-at w slot) (acted-at w slot .acted .result)
 
-  saves-went-as : (w : World) (save : List ℕ) (result : SaveResult)
-      → saves-went (rephased phase w) save (save-went (phased (w .machine) phase) result) ≡ step-as (saves-went w save (save-went (w .machine) result))
-  unfolding saves-went save-went registers-of settled step-as
-  saves-went-as w save (Saved size) = refl
-  saves-went-as w save (NotSaved refusal) = refl
+  saves-result-as : (w : World) (save : List ℕ) (result : SaveResult)
+      → saves-result (rephased phase w) save (save-result (phased (w .machine) phase) result) ≡ step-as (saves-result w save (save-result (w .machine) result))
+  unfolding saves-result save-result registers-of settled step-as
+  saves-result-as w save (Saved size) = refl
+  saves-result-as w save (NotSaved refusal) = refl
 
   saves-as : (w : World) → saves (rephased phase w) ≡ step-as (saves w)
   unfolding saves
-  saves-as w = saves-went-as w _ _
+  saves-as w = saves-result-as w _ _
 
   -- an instruction does in any phase what it does in any other
   parts-phase : (w : World) → step-by-parts (rephased phase w) ≡ step-as (step-by-parts w)

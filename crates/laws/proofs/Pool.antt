@@ -48,26 +48,26 @@ module _ (pool ends : List ℕ) (bytes entries : ℕ) (calldata : List ℕ) (len
   used = bytes + length calldata
 
   kept : after .answer ≡ new-entry entries used → (i : ℕ) → i < entries → entry-of (after .pool) (after .ends) i ≡ entry-of pool ends i
-  kept went i less =
+  kept result i less =
       sym (getD-entries (after .pool) (after .ends) (entries + 1) i (omega arith))
-      ∙ ap (λ (l : List (List ℕ)). getD l i []) (joined pool ends bytes entries calldata lent sound (record { 0 = entries }) used went)
+      ∙ ap (λ (l : List (List ℕ)). getD l i []) (joined pool ends bytes entries calldata lent sound (record { 0 = entries }) used result)
       ∙ List·getD-append (entries-of pool ends entries) (calldata ∷ []) [] i (let n = length-entries pool ends entries in omega (arith, n))
       ∙ getD-entries pool ends entries i less
 
   with-room : has-room (length pool) bytes entries (length calldata) ≡ true → Interns pool ends entries after
   with-room held =
       let r = room (length pool) bytes entries (length calldata) held in
-      let went : after .answer ≡ new-entry entries used = ap (λ (p : Pooled). p .answer) (when-room pool ends bytes entries calldata held) in
+      let result : after .answer ≡ new-entry entries used = ap (λ (p : Pooled). p .answer) (when-room pool ends bytes entries calldata held) in
       let long = same-lengths pool ends bytes entries calldata in
-      subst (λ (answer : InternResult). Interns pool ends entries (pooled answer (after .pool) (after .ends))) (sym went)
+      subst (λ (answer : InternResult). Interns pool ends entries (pooled answer (after .pool) (after .ends))) (sym result)
       (interns used (after .pool) (after .ends)
       (record {
         small = r .small;
         there = let n = long .0 in let t = r .there in omega (arith, n, t);
-        joined = still-sound pool ends bytes entries calldata lent sound (record { 0 = entries }) used went;
+        joined = still-sound pool ends bytes entries calldata lent sound (record { 0 = entries }) used result;
         ends-long = long .1 ∙ lent;
       })
-      (record { no-fewer = omega arith; same = kept went }))
+      (record { no-fewer = omega arith; same = kept result }))
 
   pub intern-keeps : Interns pool ends entries after
   intern-keeps = by (has-room (length pool) bytes entries (length calldata)) refl

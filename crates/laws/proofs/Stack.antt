@@ -63,7 +63,7 @@ pub data Goes (asked : Type 0) (lent : ℕ) (stack : List ℕ) : RegistersResult
   goes : (registers : Registers) → Registered asked lent registers stack → Goes asked lent stack (Next registers)
   stops : (refusal : Refusal) → Goes asked lent stack (Refused refusal)
 
-pub unwritten : {asked : Type 0} (lent : ℕ) (stack : List ℕ) (did : RegistersResult) → Goes asked lent stack did → Keeps asked lent (on-stack did stack)
+pub unwritten : {asked : Type 0} (lent : ℕ) (stack : List ℕ) (result : RegistersResult) → Goes asked lent stack result → Keeps asked lent (on-stack result stack)
 unwritten lent stack _ (goes registers r) = finished registers stack r
 unwritten lent stack _ (stops refusal) = refused refusal stack
 

@@ -21,11 +21,11 @@ use Rattle.mechanism.specs.Registers.{registers-of, settled}
 use Rattle.mechanism.specs.Registers.{machine-at}
 use Rattle.mechanism.specs.Act.{OnAll}
 use Rattle.mechanism.specs.Advance.{wanted}
-use Rattle.mechanism.specs.Turns.{save-went}
+use Rattle.mechanism.specs.Turns.{save-result}
 use Rattle.machine.specs.World.{World, world, code}
 use Rattle.machine.specs.Words.{StepResult, next}
 use Rattle.machine.specs.Step.{step}
-use Rattle.mechanism.specs.Step.{inner-did, inner, acts-went, acts, saves-went, saves, outer, step-by-parts}
+use Rattle.mechanism.specs.Step.{inner-result, inner, acts-result, acts, saves-result, saves, outer, step-by-parts}
 use Rattle.machine.specs.World.{op}
 use Rattle.machine.specs.Words as runs
 use Rattle.mechanism.proofs.Whole.{step-is}
@@ -105,27 +105,27 @@ module _ {asked : Type 0} (w : World) (s : Kept asked w) where
   unfolding settled
   settled-same registers = record { next-id = refl; count = refl }
 
-  did-steps : (a : OnMemory) → is-outer (op w) ≡ false → memories.Keeps asked (length (w .memory)) a → Steps asked w (inner-did w (a .stack) (a .memory) (a .did))
-  unfolding inner-did
-  did-steps _ none (memories.finished registers stack memory r long) =
+  registers-steps : (a : OnMemory) → is-outer (op w) ≡ false → memories.Keeps asked (length (w .memory)) a → Steps asked w (inner-result w (a .stack) (a .memory) (a .result))
+  unfolding inner-result
+  registers-steps _ none (memories.finished registers stack memory r long) =
       idle-steps (world (settled (w .machine) registers) (w .table) stack memory (w .pool) (w .ends) (w .save)) (inner-idle (op w) none)
       (record {
         machine-kept = subst (λ (n : ℕ). Machined asked n (length (w .pool)) (length (w .save)) stack (w .ends) (settled (w .machine) registers)) (sym long) (settled-sound registers stack (s .machine-kept) r);
         table-kept = settled-tabled registers;
       }) (settled-pools registers) refl (settled-same registers)
-  did-steps _ none (memories.refused refusal stack memory) = refused refusal
+  registers-steps _ none (memories.refused refusal stack memory) = refused refusal
 
   inner-steps : is-outer (op w) ≡ false → Steps asked w (inner w)
   unfolding inner
-  inner-steps none = did-steps _ none (instruct-keeps (registers-of (w .machine)) (w .stack) (w .memory) (code w) (w .machine .count) (registered (s .machine-kept)))
+  inner-steps none = registers-steps _ none (instruct-keeps (registers-of (w .machine)) (w .stack) (w .memory) (code w) (w .machine .count) (registered (s .machine-kept)))
 
   -- ---- one that needs a task, a frame or the pool
 
-  went-steps : (slot : ℕ) (a : OnAll) → Acts asked (length (w .save)) (w .pool) (w .ends) (w .machine) (w .table) slot (creates (op w)) (deletes (op w)) a → Steps asked w (acts-went w slot a (a .acted .went))
-  unfolding acts-went
-  went-steps slot _ (acted.acts after change stack memory pool ends m t grows lived given) =
+  result-steps : (slot : ℕ) (a : OnAll) → Acts asked (length (w .save)) (w .pool) (w .ends) (w .machine) (w .table) slot (creates (op w)) (deletes (op w)) a → Steps asked w (acts-result w slot a (a .acted .result))
+  unfolding acts-result
+  result-steps slot _ (acted.acts after change stack memory pool ends m t grows lived given) =
       steps (world after (applied (w .table) slot change) stack memory pool ends (w .save)) (record { still = record { machine-kept = m; table-kept = t }; pools = grows; lived = lived; given = given })
-  went-steps slot _ (acted.refused refusal change stack memory pool ends) = refused refusal
+  result-steps slot _ (acted.refused refusal change stack memory pool ends) = refused refusal
 
   named : eqb (op w) T-CREATE ≡ true → wanted (w .stack) (w .machine) (op w) ≡ w .machine .«next_id» .0
   unfolding wanted
@@ -134,7 +134,7 @@ module _ {asked : Type 0} (w : World) (s : Kept asked w) where
   acts-steps : Steps asked w (acts w (wanted (w .stack) (w .machine) (op w)))
   unfolding acts
   acts-steps =
-      went-steps (wanted (w .stack) (w .machine) (op w)) _
+      result-steps (wanted (w .stack) (w .machine) (op w)) _
       (act-acts (length (w .save)) (w .stack) (w .memory) (w .pool) (w .ends) (w .machine) (w .table) (wanted (w .stack) (w .machine) (op w)) (s .machine-kept) (s .table-kept) named)
 
   -- ---- S_SAVE
@@ -156,8 +156,8 @@ module _ {asked : Type 0} (w : World) (s : Kept asked w) where
     table-kept = settled-tabled _;
   }
 
-  saved-steps : (a : SavedTable) → eqb (op w) S-SAVE ≡ true → Saves (w .save) a → Steps asked w (saves-went w (a .save) (save-went (w .machine) (a .answer)))
-  unfolding saves-went save-went
+  saved-steps : (a : SavedTable) → eqb (op w) S-SAVE ≡ true → Saves (w .save) a → Steps asked w (saves-result w (a .save) (save-result (w .machine) (a .answer)))
+  unfolding saves-result save-result
   saved-steps _ is (saved.saves size save fits long) =
       idle-steps (saved-world size save) (save-idle (op w) is) (saved-kept size save fits long) (settled-pools _) refl (saved-same size _)
   saved-steps _ is (saved.not-saves refusal) = refused refusal

@@ -22,7 +22,7 @@ use Rattle.mechanism.specs.declared.RegistersAndChange.{RegistersAndChan
 use Rattle.machine.specs.declared.Machine.{Machine}
 use Rattle.machine.specs.Machines.{current, code-of}
 use Rattle.mechanism.specs.Frames.{OnPool, on-pool, intern-sized, intern-calldata, calldata-pushed, push-calldata}
-use Rattle.mechanism.specs.Act.{acted, OnAll, on-all, went-by, created, tasked-by, created-by, on-task, after-pool, after-memory, on-frames, act-by, act-at, act}
+use Rattle.mechanism.specs.Act.{acted, OnAll, on-all, settled-by, created, tasked-by, created-by, on-task, after-pool, after-memory, on-frames, act-by, act-at, act}
 use Rattle.mechanism.specs.declared.MachineResult.{MachineResult}
 use Rattle.mechanism.specs.declared.MachineResult.the-variants.{Onto, Refused}
 use Rattle.mechanism.specs.declared.MachineAndChange.{MachineAndChange}
@@ -67,17 +67,17 @@ calldata-leaves s m pool ends machine place next task =
 
 -- ---- the others
 
-unwritten : (s m pool ends : List ℕ) (task : Task) (went : MachineResult) → Leaves s m pool ends task (on-all (acted went (keep task)) s m pool ends)
+unwritten : (s m pool ends : List ℕ) (task : Task) (result : MachineResult) → Leaves s m pool ends task (on-all (acted result (keep task)) s m pool ends)
 unwritten s m pool ends task (Onto machine) = finished _ _ _ _ _ _
 unwritten s m pool ends task (Refused refusal) = kept refusal
 
 memory-leaves : (s m pool ends : List ℕ) (machine : Machine) (task : Task) (a : OnMemory) → memory.Leaves s m a → Leaves s m pool ends task (after-memory machine a pool ends task)
-unfolding went-by
+unfolding settled-by
 memory-leaves s m pool ends machine task _ (memory.finished registers s₁ m₁) = finished _ _ _ _ _ _
 memory-leaves s m pool ends machine task _ (memory.kept refusal) = kept refusal
 
 by-leaves : (s m pool ends : List ℕ) (machine : Machine) (task : Task) (a : RegistersAndChange) → tasks.Leaves task a → Leaves s m pool ends task (on-all (tasked-by machine a) s m pool ends)
-unfolding tasked-by went-by
+unfolding tasked-by settled-by
 by-leaves s m pool ends machine task _ (tasks.finished registers change) = finished _ _ _ _ _ _
 by-leaves s m pool ends machine task _ (tasks.kept refusal) = kept refusal
 

@@ -81,8 +81,8 @@ module _ (machine : Machine) (table : List Task) (stack memory pool ends save : 
       → ran-to ran table″ stack″ memory″ pool″ ends″ save″ ≡ run fuel (world (a .machine) table′ stack memory′ pool′ ends′ save′) → r ≡ report fuel ran
       → reported r table″ stack″ memory″ pool″ ends″ save″ ≡ call verb fuel (world machine table stack memory pool ends save)
   unfolding call-with
-  calls-run verb fuel {a} {ran} {r} {table″} {stack″} {memory″} {pool″} {ends″} {save″} begun may went reports =
-      ap (λ (x : Report). reported x table″ stack″ memory″ pool″ ends″ save″) reports ∙ ap (reported-end fuel) went
+  calls-run verb fuel {a} {ran} {r} {table″} {stack″} {memory″} {pool″} {ends″} {save″} begun may result reports =
+      ap (λ (x : Report). reported x table″ stack″ memory″ pool″ ends″ save″) reports ∙ ap (reported-end fuel) result
       ∙ sym (simp (may)) ∙ ap (call-with fuel (world machine table′ stack memory′ pool′ ends′ save′)) begun ∙ calls verb fuel
 
   -- one that is not

@@ -34,15 +34,15 @@ use Rattle.mechanism.proofs.MachineAndChange.Laws as acted-laws
 use Rattle.mechanism.specs.declared.Progress.{Progress}
 use Rattle.mechanism.proofs.Progress as progress
 use Rattle.mechanism.proofs.Progress.Laws as progress-laws
-use Rattle.mechanism.proofs.MachineResult as went
+use Rattle.mechanism.proofs.MachineResult as machine-result
 use Rattle.mechanism.specs.declared.StateAnswer.{StateAnswer}
 use Rattle.mechanism.proofs.StateAnswer as stated
 use Rattle.mechanism.proofs.StateAnswer.Laws as stated-laws
-use Rattle.mechanism.proofs.Values.{machine-shut, machine-vals, change-shut, change-vals, went-shut, went-vals, acted-shut, acted-vals, progress-shut, progress-vals, stated-shut, stated-vals}
+use Rattle.mechanism.proofs.Values.{machine-shut, machine-vals, change-shut, change-vals, machine-result-shut, machine-result-vals, acted-shut, acted-vals, progress-shut, progress-vals, stated-shut, stated-vals}
 open Shut id-shut using (val as id-val)
 open Shut machine-shut using (val as machine-val)
 open Shut change-shut using (val as change-val, ty as change-ty)
-open Shut went-shut using (val as went-val)
+open Shut machine-result-shut using (val as machine-result-val)
 open Shut acted-shut using (val as acted-val, ty as acted-ty)
 open Shut progress-shut using (val as progress-val, ty as progress-ty)
 open Shut stated-shut using (val as stated-val, ty as stated-ty)
@@ -68,9 +68,9 @@ unfolding change-shut
 task-is c is = struct.owed change.the-type change-laws.the-laws c (change-vals c) is .1 .1 .1 .0
 
 -- of an answer
-pub went-is : (a : MachineAndChange) → Is acted.the-row a (acted-vals a) → Is went.the-row (a .went) (went-vals (a .went))
-unfolding acted-shut went-shut
-went-is a is = struct.owed acted.the-type acted-laws.the-laws a (acted-vals a) is .0
+pub result-is : (a : MachineAndChange) → Is acted.the-row a (acted-vals a) → Is machine-result.the-row (a .result) (machine-result-vals (a .result))
+unfolding acted-shut machine-result-shut
+result-is a is = struct.owed acted.the-type acted-laws.the-laws a (acted-vals a) is .0
 
 pub change-is : (a : MachineAndChange) → Is acted.the-row a (acted-vals a) → Is change.the-row (a .change) (change-vals (a .change))
 unfolding acted-shut change-shut
@@ -81,9 +81,9 @@ pub new-state-fits : (s : StateAnswer) → Is stated.the-row s (stated-vals s) �
 unfolding stated-shut
 new-state-fits s is = struct.owed stated.the-type stated-laws.the-laws s (stated-vals s) is .1 .1 .0 .1
 
-pub stated-went-is : (s : StateAnswer) → Is stated.the-row s (stated-vals s) → Is went.the-row (s .went) (went-vals (s .went))
-unfolding stated-shut went-shut
-stated-went-is s is = struct.owed stated.the-type stated-laws.the-laws s (stated-vals s) is .1 .1 .1 .0
+pub stated-result-is : (s : StateAnswer) → Is stated.the-row s (stated-vals s) → Is machine-result.the-row (s .result) (machine-result-vals (s .result))
+unfolding stated-shut machine-result-shut
+stated-result-is s is = struct.owed stated.the-type stated-laws.the-laws s (stated-vals s) is .1 .1 .1 .0
 
 -- of a machine on its way
 pub machine-is : (g : Progress) → Is progress.the-row g (progress-vals g) → Is machine.the-row (g .machine) (machine-vals (g .machine))
@@ -143,9 +143,9 @@ module _ {M : Type 1} {𝓤 : URA M} {H : Heap 𝓤} {A : Atoms 𝓤} {K : Type 
   take-next-id t i n g at holds = taken-in t 0 7 i n refl refl refl at holds
 
   -- of an answer
-  pub take-went : K → (i n : ℕ) (a : MachineAndChange) {l : ℕ} → spotOf 𝓤 H E i ≡ (acted-ty, l, 0) → nth 𝓤 H A n Γ ≡ ‵ (fat fullShare acted-ty l 0 (acted-val a)) → Opd K W Γ E (copy (place i (field 0 ∷ []))) (went-val (a .went))
-  unfolding acted-shut went-shut
-  take-went t i n a at holds = taken t 0 i n refl at holds
+  pub take-result : K → (i n : ℕ) (a : MachineAndChange) {l : ℕ} → spotOf 𝓤 H E i ≡ (acted-ty, l, 0) → nth 𝓤 H A n Γ ≡ ‵ (fat fullShare acted-ty l 0 (acted-val a)) → Opd K W Γ E (copy (place i (field 0 ∷ []))) (machine-result-val (a .result))
+  unfolding acted-shut machine-result-shut
+  take-result t i n a at holds = taken t 0 i n refl at holds
 
   pub take-change : K → (i n : ℕ) (a : MachineAndChange) {l : ℕ} → spotOf 𝓤 H E i ≡ (acted-ty, l, 0) → nth 𝓤 H A n Γ ≡ ‵ (fat fullShare acted-ty l 0 (acted-val a)) → Opd K W Γ E (copy (place i (field 1 ∷ []))) (change-val (a .change))
   unfolding acted-shut change-shut
@@ -181,9 +181,9 @@ module _ {M : Type 1} {𝓤 : URA M} {H : Heap 𝓤} {A : Atoms 𝓤} {K : Type 
   unfolding stated-shut
   take-new-state t i n s at holds = taken t 2 i n refl at holds
 
-  pub take-stated-went : K → (i n : ℕ) (s : StateAnswer) {l : ℕ} → spotOf 𝓤 H E i ≡ (stated-ty, l, 0) → nth 𝓤 H A n Γ ≡ ‵ (fat fullShare stated-ty l 0 (stated-val s)) → Opd K W Γ E (copy (place i (field 3 ∷ []))) (went-val (s .went))
-  unfolding stated-shut went-shut
-  take-stated-went t i n s at holds = taken t 3 i n refl at holds
+  pub take-stated-result : K → (i n : ℕ) (s : StateAnswer) {l : ℕ} → spotOf 𝓤 H E i ≡ (stated-ty, l, 0) → nth 𝓤 H A n Γ ≡ ‵ (fat fullShare stated-ty l 0 (stated-val s)) → Opd K W Γ E (copy (place i (field 3 ∷ []))) (machine-result-val (s .result))
+  unfolding stated-shut machine-result-shut
+  take-stated-result t i n s at holds = taken t 3 i n refl at holds
 
 -- ---- a test's outcome
 

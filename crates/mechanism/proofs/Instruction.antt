@@ -90,7 +90,7 @@ execute-leaves s memory code registers next op count =
     (either (Leaves s memory) (eqb op M-MUTA) _ _ (m-muta-leaves s memory registers next)
     (beside s memory _ (operated-leaves s code registers next op count)))))
 
-unwritten-either : (s memory : List ℕ) (did : RegistersResult) → Leaves s memory (on-memory did s memory)
+unwritten-either : (s memory : List ℕ) (result : RegistersResult) → Leaves s memory (on-memory result s memory)
 unwritten-either s memory (Next registers) = finished registers s memory
 unwritten-either s memory (Refused refusal) = kept refusal
 

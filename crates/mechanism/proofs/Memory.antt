@@ -43,7 +43,7 @@ pub data Leaves (stack memory : List ℕ) : OnMemory → Type 0 where
   kept : (refusal : Refusal) → Leaves stack memory (on-memory (Refused refusal) stack memory)
 
 -- an instruction over the stack alone
-pub beside : (s memory : List ℕ) (a : OnStack) → stack.Leaves s a → Leaves s memory (on-memory (a .did) (a .stack) memory)
+pub beside : (s memory : List ℕ) (a : OnStack) → stack.Leaves s a → Leaves s memory (on-memory (a .result) (a .stack) memory)
 beside s memory _ (stack.finished registers after) = finished registers after memory
 beside s memory _ (stack.kept refusal) = kept refusal
 
@@ -146,11 +146,11 @@ unfolding mutate-two
 mutate-two-leaves s memory registers next (PoppedTwo payload index height) = mutate-last-leaves memory registers next height payload index _
 mutate-two-leaves s memory registers next (NotPoppedTwo refusal) = kept refusal
 
-on-memory-leaves : (s memory : List ℕ) (a : ChangedTo) → Mutates memory a → Leaves s memory (on-memory (a .did) s (a .memory))
+on-memory-leaves : (s memory : List ℕ) (a : ChangedTo) → Mutates memory a → Leaves s memory (on-memory (a .result) s (a .memory))
 on-memory-leaves s memory _ (finished registers m) = finished registers s m
 on-memory-leaves s memory _ (kept refusal) = kept refusal
 
 pub m-muta-leaves : (s memory : List ℕ) (registers : Registers) (next : ℕ)
-    → Leaves s memory (on-memory (op-m-muta s memory registers next .did) s (op-m-muta s memory registers next .memory))
+    → Leaves s memory (on-memory (op-m-muta s memory registers next .result) s (op-m-muta s memory registers next .memory))
 unfolding op-m-muta
 m-muta-leaves s memory registers next = on-memory-leaves s memory _ (mutate-two-leaves s memory registers next _)

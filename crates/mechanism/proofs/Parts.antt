@@ -55,7 +55,7 @@ use Rattle.mechanism.specs.Control.{op-jump-if-false, jumped}
 use Rattle.mechanism.specs.Operated.{with-operand, push-u32, push-u8, muli, jump-if-false, m-st, m-sti, m-sti-of, payload-of}
 use Rattle.mechanism.specs.Cut.{cut, cut-muli, cut-value, cut-m-st, cut-size, cut-jump, cut-skip}
 use Rattle.mechanism.specs.Execute.{kept, changed, plain, operated, is-equality, execute, by-extent}
-use Rattle.mechanism.specs.Step.{inner-did, on-registers}
+use Rattle.mechanism.specs.Step.{inner-result, on-registers}
 use Rattle.mechanism.specs.declared.Registers.{Registers}
 use Rattle.mechanism.specs.declared.RegistersResult.the-variants.{Next, Refused}
 use Rattle.mechanism.specs.declared.PopTwoResult.{PopTwoResult}
@@ -92,18 +92,18 @@ module _ (w : World) where
   -- ---- a value pushed
 
   pub pushes : (to height value : ℕ) → on-registers w (kept (push-value (w .stack) r to height value) (w .memory)) ≡ push w to height value
-  unfolding push-value stacks.push stacks.if-room pushed-to inner-did push test settled placed registers-of
+  unfolding push-value stacks.push stacks.if-room pushed-to inner-result push test settled placed registers-of
   pushes to height value = on-bool (ltb height 1000) (λ t. rw t) (λ t. rw t)
 
   pub finishes : (to height : ℕ) (result : ValueResult) → on-registers w (kept (finish (w .stack) r to height result) (w .memory)) ≡ calculated result (push w to height)
-  unfolding finish calculated inner-did
+  unfolding finish calculated inner-result
   finishes to height (Value value) = pushes to height value
   finishes to height (NoValue refusal) = refl
 
   on-two-is : (calculate : ℕ → ℕ → ValueResult) (to height : ℕ)
       → on-registers w (kept (on-two calculate (w .stack) r to (pop-two (w .stack) height)) (w .memory))
       ≡ (pop w height λ first above. pop w above λ second below. calculated (calculate first second) (push w to below))
-  unfolding on-two inner-did
+  unfolding on-two inner-result
   on-two-is calculate to height =
       two-off (λ a. on-registers w (kept (on-two calculate (w .stack) r to a) (w .memory))) (λ first second below. calculated (calculate first second) (push w to below))
       (λ refusal. refl) (λ first second below. finishes to below (calculate first second)) height
@@ -119,13 +119,13 @@ module _ (w : World) where
   compare-is is-lt = on-two-is (λ right left. value-cmp left right is-lt) (place w + 1) (height w)
 
   pub muli-is : (to number : ℕ) → on-registers w (kept (op-muli (w .stack) r to number) (w .memory)) ≡ (pop w (height w) λ left below. calculated (mul-checked-i left number) (push w to below))
-  unfolding op-muli on-one inner-did registers-of
+  unfolding op-muli on-one inner-result registers-of
   muli-is to number =
       one-off (λ a. on-registers w (kept (on-one (λ value. mul-checked-i value number) (w .stack) r to a) (w .memory))) (λ left below. calculated (mul-checked-i left number) (push w to below))
       (λ refusal. refl) (λ left below. finishes to below (mul-checked-i left number)) (stacks.pop (w .stack) (height w))
 
   pub dup-is : on-registers w (kept (op-dup (w .stack) r (place w + 1)) (w .memory)) ≡ opcodes.dup w
-  unfolding op-dup dup-last opcodes.dup looked-at inner-did registers-of
+  unfolding op-dup dup-last opcodes.dup looked-at inner-result registers-of
   dup-is = by (stacks.last (w .stack) (height w))
     where
       by : (a : LastResult) → on-registers w (kept (dup-last (w .stack) r (place w + 1) a) (w .memory)) ≡ looked-at a (push w (place w + 1) (height w))
@@ -133,13 +133,13 @@ module _ (w : World) where
       by (NoLast refusal) = refl
 
   pub swap-is : on-registers w (kept (op-swap (w .stack) r (place w + 1)) (w .memory)) ≡ opcodes.swap w
-  unfolding op-swap swapped opcodes.swap inner-did settled placed registers-of
+  unfolding op-swap swapped opcodes.swap inner-result settled placed registers-of
   swap-is =
       two-off (λ a. on-registers w (kept (swapped (w .stack) r (place w + 1) a) (w .memory))) _
       (λ refusal. refl) (λ first second below. refl) (height w)
 
   pub drops-is : on-registers w (on-memory (op-drop (w .stack) r (place w + 1)) (w .stack) (w .memory)) ≡ opcodes.drops w
-  unfolding op-drop dropped opcodes.drops inner-did settled placed registers-of
+  unfolding op-drop dropped opcodes.drops inner-result settled placed registers-of
   drops-is =
       one-off (λ a. on-registers w (on-memory (dropped r (place w + 1) a) (w .stack) (w .memory))) _
       (λ refusal. refl) (λ value below. refl) (stacks.pop (w .stack) (height w))
@@ -151,18 +151,18 @@ module _ (w : World) where
   -- ---- loops
 
   opened : (to height : ℕ) (a : LoopsResult) → on-registers w (on-memory (opened-to r to height a) (w .stack) (w .memory)) ≡ loop-pushed a (λ loops. next (looping (moved w to height) loops))
-  unfolding opened-to loop-pushed inner-did settled placed registers-of
+  unfolding opened-to loop-pushed inner-result settled placed registers-of
   opened to height (NewLoops loops) = refl
   opened to height (NoNewLoops refusal) = refl
 
   pub do-is : on-registers w (on-memory (op-do (w .stack) r (place w + 1)) (w .stack) (w .memory)) ≡ opcodes.«do» w
-  unfolding op-do do-two opcodes.«do» inner-did registers-of
+  unfolding op-do do-two opcodes.«do» inner-result registers-of
   do-is =
       two-off (λ a. on-registers w (on-memory (do-two r (place w + 1) a) (w .stack) (w .memory))) _
       (λ refusal. refl) (λ index limit below. opened (place w + 1) below _) (height w)
 
   pub loop-is : on-registers w (on-memory (op-loop r (place w + 1)) (w .stack) (w .memory)) ≡ opcodes.loop w
-  unfolding op-loop looped opcodes.loop loop-popped inner-did settled placed registers-of
+  unfolding op-loop looped opcodes.loop loop-popped inner-result settled placed registers-of
   loop-is = by (stacks.pop-loop (w .machine .loops))
     where
       by : (a : PopLoopResult) → on-registers w (on-memory (looped r (place w + 1) a) (w .stack) (w .memory))
@@ -174,7 +174,7 @@ module _ (w : World) where
       by (NotPoppedLoop refusal) = refl
 
   pub loop-index-is : on-registers w (kept (op-loop-index (w .stack) r (place w + 1)) (w .memory)) ≡ opcodes.loop-index w
-  unfolding op-loop-index index-of opcodes.loop-index loop-looked-at inner-did registers-of
+  unfolding op-loop-index index-of opcodes.loop-index loop-looked-at inner-result registers-of
   loop-index-is = by (stacks.last-loop (w .machine .loops))
     where
       by : (a : LastLoopResult) → on-registers w (kept (index-of (w .stack) r (place w + 1) a) (w .memory)) ≡ loop-looked-at a (λ innermost. push w (place w + 1) (height w) (to-u32-val (innermost .index)))
@@ -222,7 +222,7 @@ module _ (w : World) where
   eq-with : (is-eq : Bool) (to : ℕ) (K : ℕ → ℕ → ℕ → StepResult)
       → ((right left below : ℕ) → calculated (turned-if is-eq (eq-values (memory-in-use w) left right)) (push w to below) ≡ K right left below)
       → on-registers w (kept (op-eq (w .stack) (w .memory) r to is-eq) (w .memory)) ≡ (pop w (height w) λ right above. pop w above λ left below. K right left below)
-  unfolding op-eq on-two inner-did registers-of
+  unfolding op-eq on-two inner-result registers-of
   eq-with is-eq to K answers =
       two-off (λ a. on-registers w (kept (on-two (λ right left. turned-if is-eq (eq-values (memory-in-use w) left right)) (w .stack) r to a) (w .memory))) K
       (λ refusal. refl) (λ right left below. finishes to below _ ∙ answers right left below) (height w)
@@ -241,7 +241,7 @@ module _ (w : World) where
   filled payload size tag a = allocation.vector-stored (w .memory) payload (w .machine .memory) size (allocation.offset-aligned (w .machine .memory) tag) a
 
   pub stores : (to height size tag : ℕ) (payload : List ℕ) → on-registers w (storing.store (w .stack) (w .memory) payload r to height size tag) ≡ store w to height size tag payload
-  unfolding storing.store full full-by allocated-at allocation.alloc allocation.vector-stored store calculated allocated test inner-did settled placed registers-of
+  unfolding storing.store full full-by allocated-at allocation.alloc allocation.vector-stored store calculated allocated test inner-result settled placed registers-of
   stores to height size tag payload = by (allocation.vector (w .machine .memory) size tag)
     where
       at : (a : AllocResult) (memory : List ℕ) → on-registers w (allocated-at (w .stack) r to height memory a) ≡ allocated w to height memory a
@@ -257,7 +257,7 @@ module _ (w : World) where
       by (NoValue refusal) = on-bool (leb 1000 height) (λ t. rw t) (λ t. rw t)
 
   pub m-muta-is : on-registers w (changed (w .stack) (op-m-muta (w .stack) (w .memory) r (place w + 1))) ≡ opcodes.m-muta w
-  unfolding op-m-muta mutate-two mutate-last mutate mutate-at mutated mut-in-use opcodes.m-muta looked-at pointed element-changed inner-did settled placed registers-of
+  unfolding op-m-muta mutate-two mutate-last mutate mutate-at mutated mut-in-use opcodes.m-muta looked-at pointed element-changed inner-result settled placed registers-of
   m-muta-is =
       two-off (λ a. on-registers w (changed (w .stack) (mutate-two (w .stack) (w .memory) r (place w + 1) a))) _
       (λ refusal. refl) (λ payload index below. on-last payload index below (stacks.last (w .stack) below)) (height w)
@@ -292,24 +292,24 @@ module _ (w : World) where
   behind size more e = omega arith
 
   pub push-u32-is : at-extent PUSH-U32 (up-to (code w) (on 4)) ≡ opcodes.push-u32 w
-  unfolding by-extent execute is-equality operated cut push-u32 op-push with-operand operands.operand opcodes.push-u32 operand-found inner-did registers-of
+  unfolding by-extent execute is-equality operated cut push-u32 op-push with-operand operands.operand opcodes.push-u32 operand-found inner-result registers-of
   push-u32-is =
       on-bool (leb (on 4) (length (code w))) (λ t. rw (t, t, behind 4 5 refl) (pushes (place w + 5) (height w) _)) (λ t. rw t)
 
   pub push-byte-is : (op : ℕ) → execute (w .stack) (w .memory) (code w) r (on 1) op (w .machine .count) ≡ kept (push-u8 (w .stack) (code w) r (on 1)) (w .memory) → cut (w .stack) r op ≡ Refused UnexpectedEOB
       → at-extent op (up-to (code w) (on 1)) ≡ opcodes.push-byte w
-  unfolding by-extent push-u8 op-push with-operand operands.operand opcodes.push-byte operand-found inner-did registers-of
+  unfolding by-extent push-u8 op-push with-operand operands.operand opcodes.push-byte operand-found inner-result registers-of
   push-byte-is op whole short =
       on-bool (leb (on 1) (length (code w))) (λ t. rw (t, whole, t, behind 1 2 refl) (pushes (place w + 2) (height w) _)) (λ t. rw (t, short))
 
   pub muli-at : at-extent MULI (up-to (code w) (on 4)) ≡ opcodes.muli w
-  unfolding by-extent execute is-equality operated cut cut-muli cut-value muli with-operand operands.operand opcodes.muli operand-found inner-did registers-of
+  unfolding by-extent execute is-equality operated cut cut-muli cut-value muli with-operand operands.operand opcodes.muli operand-found inner-result registers-of
   muli-at =
       on-bool (leb (on 4) (length (code w))) (λ t. rw (t, t, behind 4 5 refl) (muli-is (place w + 5) _))
       (λ t. rw t (one-off (λ a. on-registers w (on-memory (cut-value a) (w .stack) (w .memory))) _ (λ refusal. refl) (λ value below. refl) (stacks.pop (w .stack) (height w))))
 
   pub jump-if-false-is : at-extent JUMP-IF-FALSE (up-to (code w) (on 4)) ≡ opcodes.jump-if-false w
-  unfolding by-extent execute is-equality operated cut cut-jump cut-skip jump-if-false op-jump-if-false jumped with-operand operands.operand opcodes.jump-if-false operand-found inner-did settled placed registers-of
+  unfolding by-extent execute is-equality operated cut cut-jump cut-skip jump-if-false op-jump-if-false jumped with-operand operands.operand opcodes.jump-if-false operand-found inner-result settled placed registers-of
   jump-if-false-is =
       on-bool (leb (on 4) (length (code w)))
       (λ t. rw (t, t, behind 4 5 refl) (one-off (λ a. on-registers w (on-memory (jumped r (place w + 5) (operands.big-endian 4 (code w) (place w + 1)) a) (w .stack) (w .memory))) _ (λ refusal. refl)
@@ -318,7 +318,7 @@ module _ (w : World) where
       (λ value below. on-bool (eqb value (to-bool-val false)) (λ f. rw f) (λ f. rw f)) (stacks.pop (w .stack) (height w))))
 
   pub m-st-is : at-extent M-ST (up-to (code w) (on 1)) ≡ opcodes.m-st w
-  unfolding by-extent execute is-equality cut cut-m-st cut-size m-st op-m-st sized with-operand operands.operand opcodes.m-st operand-found test inner-did registers-of
+  unfolding by-extent execute is-equality cut cut-m-st cut-size m-st op-m-st sized with-operand operands.operand opcodes.m-st operand-found test inner-result registers-of
   m-st-is =
       on-bool (leb (on 1) (length (code w)))
       (λ t. rw (t, t, behind 1 2 refl) (one-off (λ a. on-registers w (sized (w .stack) (w .memory) [] r (place w + 2) (operands.big-endian 1 (code w) (place w + 1) % 256) a)) _ (λ refusal. refl)
@@ -373,7 +373,7 @@ module _ (w : World) where
       at-the-end false past three = absurd (omega arith)
 
   pub m-sti-is : at-extent M-STI (up-to (code w) (on 4 + cond (eqb (getD (code w) (place w + 4) 0) 1) sti-size 0)) ≡ opcodes.m-sti w
-  unfolding by-extent execute is-equality cut inner-did
+  unfolding by-extent execute is-equality cut inner-result
   m-sti-is =
       on-bool (leb (on 4 + cond (eqb (getD (code w) (place w + 4) 0) 1) sti-size 0) (length (code w)))
       (λ t. rw t (sti-whole (eqb (getD (code w) (place w + 4) 0) 1) refl (leb-true _ _ t)))

@@ -32,7 +32,7 @@ pub data Leaves (stack : List ℕ) : OnStack → Type 0 where
   kept : (refusal : Refusal) → Leaves stack (on-stack (Refused refusal) stack)
 
 -- an instruction that does not write the stack
-pub unwritten : (stack : List ℕ) (did : RegistersResult) → Leaves stack (on-stack did stack)
+pub unwritten : (stack : List ℕ) (result : RegistersResult) → Leaves stack (on-stack result stack)
 unwritten stack (Next registers) = finished registers stack
 unwritten stack (Refused refusal) = kept refusal
 

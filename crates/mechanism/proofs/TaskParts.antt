@@ -62,12 +62,12 @@ use Rattle.mechanism.specs.Fields.{op-t-get-field, op-t-set-field, field
 use Rattle.mechanism.specs.Frames as framing
 use Rattle.mechanism.specs.Frames.{op-call, call-popped, enter-bounded, framed, op-end-call, left-frame, intern-calldata, intern-sized, with-entry, calldata-pushed}
 use Rattle.mechanism.specs.Advance.{named, named-by, wanted}
-use Rattle.mechanism.specs.Turns.{save-went}
-use Rattle.mechanism.specs.Act.{OnAll, acted, on-all, went-by, created, tasked-by, created-by, after-pool, after-memory, on-frames, act-by, cut}
-use Rattle.mechanism.specs.Step.{inner-did, on-registers, acts-went, on-record, saves-went, saves}
+use Rattle.mechanism.specs.Turns.{save-result}
+use Rattle.mechanism.specs.Act.{OnAll, acted, on-all, settled-by, created, tasked-by, created-by, after-pool, after-memory, on-frames, act-by, cut}
+use Rattle.mechanism.specs.Step.{inner-result, on-registers, acts-result, on-record, saves-result, saves}
 use Rattle.mechanism.specs.declared.Registers.{Registers}
 use Rattle.mechanism.specs.declared.RegistersResult.{RegistersResult}
-use Rattle.mechanism.specs.declared.RegistersResult.the-variants as did
+use Rattle.mechanism.specs.declared.RegistersResult.the-variants as registers-result
 use Rattle.mechanism.specs.declared.MachineResult.{MachineResult}
 use Rattle.mechanism.specs.declared.MachineResult.the-variants.{Onto, Refused}
 use Rattle.mechanism.specs.declared.RegistersAndChange.{RegistersAndChange}
@@ -98,7 +98,7 @@ module _ (w : World) where
   -- ---- T_DELETE
 
   pub delete-is : on-slot (named (w .stack) (height w)) (op-t-delete (w .stack) r (place w + 1) (slot (named (w .stack) (height w)))) ≡ opcodes.t-delete w
-  unfolding op-t-delete delete-popped delete-found named named-by tasked-by went-by acts-went applied opcodes.t-delete found storage.slot-of settled placed registers-of
+  unfolding op-t-delete delete-popped delete-found named named-by tasked-by settled-by acts-result applied opcodes.t-delete found storage.slot-of settled placed registers-of
   delete-is =
       one-off w (λ a. on-slot (named-by a) (delete-popped r (place w + 1) (slot (named-by a)) a)) _ (λ refusal. refl)
       (λ value below. by value below (storage.find (slot (to-u32 value)) (record { 0 = to-u32 value }))) (stacks.pop (w .stack) (height w))
@@ -120,7 +120,7 @@ module _ (w : World) where
   room-is : (left : ℕ) (v : FatPointer) (state : TaskState) (reference : InstructionsRef)
       → on-next (creating.with-room (memory-in-use w) (registers.moved r (place w + 1) left) v (record { 0 = next-id }) state reference (slot next-id) (storage.room next-id (v .size)))
       ≡ with-room (storage.room next-id (v .size)) (next (opcodes.with-next-task (opcodes.onward w left) (new-task (record { 0 = next-id }) (get-slice-bytes (memory-in-use w) v) state reference)))
-  unfolding creating.with-room created-by created acts-went applied storage.room with-room storage.slot-of settled placed registers-of
+  unfolding creating.with-room created-by created acts-result applied storage.room with-room storage.slot-of settled placed registers-of
   room-is left v state reference =
       on-bool (leb 256 next-id) (λ t. rw t)
       (λ t. on-bool (ltb 128 (v .size)) (λ u. rw (t, u))
@@ -132,13 +132,13 @@ module _ (w : World) where
   within-is : (left : ℕ) (v : FatPointer) (state : TaskState) (reference : InstructionsRef)
       → on-next (creating.new (memory-in-use w) (registers.moved r (place w + 1) left) v (record { 0 = next-id }) state reference (slot next-id))
       ≡ bytes-of w v (λ bytes. with-room (storage.room next-id (v .size)) (next (opcodes.with-next-task (opcodes.onward w left) (new-task (record { 0 = next-id }) bytes state reference))))
-  unfolding creating.new if-within within bytes-of test created-by created acts-went
+  unfolding creating.new if-within within bytes-of test created-by created acts-result
   within-is left v state reference = on-bool (inside (memory-in-use w) v) (λ t. rw t (room-is left v state reference)) (λ t. rw t)
 
   vector-is : (left : ℕ) (state : TaskState) (reference : InstructionsRef) (a : PointerResult)
       → on-next (if-vector (memory-in-use w) (registers.moved r (place w + 1) left) (record { 0 = next-id }) state reference (slot next-id) a)
       ≡ pointed a (λ v. bytes-of w v (λ bytes. with-room (storage.room next-id (v .size)) (next (opcodes.with-next-task (opcodes.onward w left) (new-task (record { 0 = next-id }) bytes state reference)))))
-  unfolding if-vector pointed created-by created acts-went
+  unfolding if-vector pointed created-by created acts-result
   vector-is left state reference (Pointer v) = within-is left v state reference
   vector-is left state reference (NoPointer refusal) = refl
 
@@ -146,14 +146,14 @@ module _ (w : World) where
       → on-next (with-state (w .stack) (w .memory) (registers.moved r (place w + 1) below) (record { 0 = next-id }) reference (slot next-id) a)
       ≡ first-state a (λ state. pop w below λ title left. pointed (to-fat-pointer title) λ v. bytes-of w v λ bytes. with-room (storage.room next-id (v .size))
       (next (opcodes.with-next-task (opcodes.onward w left) (new-task (record { 0 = next-id }) bytes state (opcodes.reference-of reference)))))
-  unfolding with-state titled with-title first-state created-by created acts-went registers-of
+  unfolding with-state titled with-title first-state created-by created acts-result registers-of
   state-is below reference (State state) =
       one-off w (λ a. on-next (with-title (w .memory) (registers.moved r (place w + 1) below) (record { 0 = next-id }) state (opcodes.reference-of reference) (slot next-id) a)) _ (λ refusal. refl)
       (λ title left. vector-is left state (opcodes.reference-of reference) (to-fat-pointer title)) (stacks.pop (w .stack) below)
   state-is below reference (NoState refusal) = refl
 
   pub create-is : on-next (op-t-create (w .stack) (w .memory) r (place w + 1) next-id (slot next-id)) ≡ opcodes.t-create w
-  unfolding op-t-create with-two opcodes.t-create created-by created acts-went registers-of
+  unfolding op-t-create with-two opcodes.t-create created-by created acts-result registers-of
   create-is =
       two-off w (λ a. on-next (with-two (w .stack) (w .memory) r (place w + 1) (record { 0 = next-id }) (slot next-id) a)) _ (λ refusal. refl)
       (λ reference count below. state-is below reference (tasks.default-state (to-u32 count % 256))) (height w)
@@ -204,9 +204,9 @@ module _ (w : World) where
 
   -- an instruction that leaves the slot
   slot-left : (i : ℕ) (a : RegistersResult) (stack memory : List ℕ) → on-record w i (after-memory (w .machine) (on-memory a stack memory) (w .pool) (w .ends) (slot i)) ≡ on-registers w (on-memory a stack memory)
-  unfolding acts-went went-by applied inner-did
-  slot-left i (did.Next registers) stack memory = refl
-  slot-left i (did.Refused refusal) stack memory = refl
+  unfolding acts-result settled-by applied inner-result
+  slot-left i (registers-result.Next registers) stack memory = refl
+  slot-left i (registers-result.Refused refusal) stack memory = refl
 
   -- T_GET_FIELD
   get-field-is : (i below field : ℕ) → on-record w i (after-memory (w .machine) (fields.get-field (w .stack) (w .memory) r (place w + 1) below field (slot i)) (w .pool) (w .ends) (slot i)) ≡ opcodes.get-field w below field (slot i)
@@ -218,7 +218,7 @@ module _ (w : World) where
 
   pub get-is : (s : ℕ) → ((field above : ℕ) → stacks.pop (w .stack) (height w) ≡ Popped field above → s ≡ named (w .stack) above)
       → on-record w s (after-memory (w .machine) (op-t-get-field (w .stack) (w .memory) r (place w + 1) (slot s)) (w .pool) (w .ends) (slot s)) ≡ opcodes.t-get-field w
-  unfolding op-t-get-field get-found opcodes.t-get-field storage.slot-of acts-went went-by registers-of
+  unfolding op-t-get-field get-found opcodes.t-get-field storage.slot-of acts-result settled-by registers-of
   get-is s told =
       field-is (λ i a. on-record w i (after-memory (w .machine) (get-found (w .stack) (w .memory) r (place w + 1) (slot i) a) (w .pool) (w .ends) (slot i))) (λ field id below. opcodes.get-field w below (to-u32 field) (slot (to-u32 id)))
       (λ i refusal. refl) (λ field id below. get-field-is (to-u32 id) below (to-u32 field)) s told
@@ -226,7 +226,7 @@ module _ (w : World) where
   -- T_SET_FIELD
   title-is : (id left : ℕ) (a : PointerResult) → on-slot (to-u32 id) (title-vector (memory-in-use w) (registers.moved r (place w + 1) left) (slot (to-u32 id)) a)
       ≡ pointed a (λ v. bytes-of w v λ bytes. test (leb (v .size) 128) TitleTooLong (next (with-task (opcodes.onward w left) (opcodes.id-of id) (retitled (slot (to-u32 id)) bytes))))
-  unfolding title-vector set-title title-within within pointed bytes-of test tasked-by went-by acts-went applied storage.slot-of settled placed registers-of
+  unfolding title-vector set-title title-within within pointed bytes-of test tasked-by settled-by acts-result applied storage.slot-of settled placed registers-of
   title-is id left (Pointer v) =
       on-bool (inside (memory-in-use w) v)
       (λ t. rw t (on-bool (leb (v .size) 128) (λ u. rw (u, le-ltb 128 (v .size) (leb-true (v .size) 128 u))) (λ u. rw (u, lt-ltb 128 (v .size) (leb-false (v .size) 128 u)))))
@@ -235,19 +235,19 @@ module _ (w : World) where
 
   state-set-is : (id left state : ℕ) → on-slot (to-u32 id) (fields.set-state (registers.moved r (place w + 1) left) state (slot (to-u32 id)))
       ≡ has-state (tasks.with-state (slot (to-u32 id) .state) state .answer) (next (with-task (opcodes.onward w left) (opcodes.id-of id) (restated (slot (to-u32 id)) state)))
-  unfolding fields.set-state state-answered tasks.with-state has-state set-state-at tasks.set-state tasked-by went-by acts-went applied storage.slot-of settled placed registers-of
+  unfolding fields.set-state state-answered tasks.with-state has-state set-state-at tasks.set-state tasked-by settled-by acts-result applied storage.slot-of settled placed registers-of
   state-set-is id left state =
       on-bool (leb (slot (to-u32 id) .state .len) state) (λ t. rw t) (λ t. on-bool (leb 255 state) (λ u. rw (t, u)) (λ u. rw (t, u, t, u)))
 
   set-field-is : (id left field value : ℕ) → on-slot (to-u32 id) (fields.set-field (memory-in-use w) (registers.moved r (place w + 1) left) field value (slot (to-u32 id))) ≡ opcodes.set-field w left field value (opcodes.id-of id) (slot (to-u32 id))
-  unfolding fields.set-field set-instructions opcodes.set-field tasked-by went-by acts-went applied storage.slot-of settled placed registers-of
+  unfolding fields.set-field set-instructions opcodes.set-field tasked-by settled-by acts-result applied storage.slot-of settled placed registers-of
   set-field-is id left field value =
       on-bool (eqb field 0) (λ t. rw t (title-is id left (to-fat-pointer value)))
       (λ t. on-bool (eqb field 1) (λ u. rw (t, u) (state-set-is id left (to-u32 value))) (λ u. rw (t, u)))
 
   pub set-is : (s : ℕ) → ((field above : ℕ) → stacks.pop (w .stack) (height w) ≡ Popped field above → s ≡ named (w .stack) above)
       → on-slot s (op-t-set-field (w .stack) (w .memory) r (place w + 1) (slot s)) ≡ opcodes.t-set-field w
-  unfolding op-t-set-field set-found set-popped opcodes.t-set-field storage.slot-of tasked-by went-by acts-went registers-of
+  unfolding op-t-set-field set-found set-popped opcodes.t-set-field storage.slot-of tasked-by settled-by acts-result registers-of
   set-is s told =
       field-is (λ i a. on-slot i (set-found (w .stack) (w .memory) r (place w + 1) (slot i) a)) (λ field id below. pop w below λ value left. opcodes.set-field w left (to-u32 field) value (opcodes.id-of id) (slot (to-u32 id)))
       (λ i refusal. refl)
@@ -256,33 +256,33 @@ module _ (w : World) where
 
   -- ---- CALL and END_CALL
 
-  abbrev on-went : ℕ → MachineResult → StepResult
-  on-went i a = on-record w i (on-all (acted a (keep (slot i))) (w .stack) (w .memory) (w .pool) (w .ends))
+  abbrev on-result : ℕ → MachineResult → StepResult
+  on-result i a = on-record w i (on-all (acted a (keep (slot i))) (w .stack) (w .memory) (w .pool) (w .ends))
 
-  frame-is : (i below : ℕ) (a : FramesResult) → on-went i (framed (machine-at (w .machine) (place w + 1) below) a) ≡ frame-pushed a (λ frames. next (with-frame (opcodes.onward w below) frames))
-  unfolding framed frame-pushed acts-went applied settled placed registers-of
+  frame-is : (i below : ℕ) (a : FramesResult) → on-result i (framed (machine-at (w .machine) (place w + 1) below) a) ≡ frame-pushed a (λ frames. next (with-frame (opcodes.onward w below) frames))
+  unfolding framed frame-pushed acts-result applied settled placed registers-of
   frame-is i below (NewFrames frames) = refl
   frame-is i below (NoNewFrames refusal) = refl
 
-  enter-is : (i below : ℕ) (reference : InstructionsRef) (a : BoundsResult) → on-went i (enter-bounded (machine-at (w .machine) (place w + 1) below) reference a)
+  enter-is : (i below : ℕ) (reference : InstructionsRef) (a : BoundsResult) → on-result i (enter-bounded (machine-at (w .machine) (place w + 1) below) reference a)
       ≡ bounds-found a (λ start end. cond (leb end start) (next (opcodes.onward w below)) (frame-pushed (stacks.push-frame (opcodes.onward w below .machine .frames) (record { entry = reference; place = 0 })) λ frames. next (with-frame (opcodes.onward w below) frames)))
-  unfolding enter-bounded bounds-found acts-went applied settled placed registers-of
+  unfolding enter-bounded bounds-found acts-result applied settled placed registers-of
   enter-is i below reference (Bounds start end) = on-bool (leb end start) (λ t. rw t) (λ t. rw t (frame-is i below _))
   enter-is i below reference (NoBounds refusal) = refl
 
-  pub call-is : on-went (named (w .stack) (height w)) (op-call (w .stack) (w .ends) (w .machine) (place w + 1) (slot (named (w .stack) (height w)))) ≡ opcodes.call-task w
-  unfolding op-call call-popped framing.enter named named-by opcodes.call-task opcodes.enter acts-went applied storage.slot-of settled placed registers-of
+  pub call-is : on-result (named (w .stack) (height w)) (op-call (w .stack) (w .ends) (w .machine) (place w + 1) (slot (named (w .stack) (height w)))) ≡ opcodes.call-task w
+  unfolding op-call call-popped framing.enter named named-by opcodes.call-task opcodes.enter acts-result applied storage.slot-of settled placed registers-of
   call-is =
-      one-off w (λ a. on-went (named-by a) (call-popped (w .ends) (w .machine) (place w + 1) (slot (named-by a)) a)) _ (λ refusal. refl)
+      one-off w (λ a. on-result (named-by a) (call-popped (w .ends) (w .machine) (place w + 1) (slot (named-by a)) a)) _ (λ refusal. refl)
       (λ id below. on-bool (slot (to-u32 id) .living) (λ t. rw t (enter-is (to-u32 id) below (slot (to-u32 id) .«instructions_ref») _)) (λ t. rw t)) (stacks.pop (w .stack) (height w))
 
-  left-is : (i : ℕ) (a : PopFrameResult) → on-went i (left-frame (w .machine) a) ≡ frame-popped a (λ frames. next (with-frame w frames))
-  unfolding left-frame frame-popped acts-went applied
+  left-is : (i : ℕ) (a : PopFrameResult) → on-result i (left-frame (w .machine) a) ≡ frame-popped a (λ frames. next (with-frame w frames))
+  unfolding left-frame frame-popped acts-result applied
   left-is i (PoppedFrame frame frames) = refl
   left-is i (NotPoppedFrame refusal) = refl
 
-  pub end-call-is : (i : ℕ) → on-went i (op-end-call (w .machine) (place w + 1)) ≡ opcodes.end-call w
-  unfolding op-end-call opcodes.end-call acts-went applied settled placed registers-of
+  pub end-call-is : (i : ℕ) → on-result i (op-end-call (w .machine) (place w + 1)) ≡ opcodes.end-call w
+  unfolding op-end-call opcodes.end-call acts-result applied settled placed registers-of
   end-call-is i = on-bool (leb (w .machine .frames .count) 1) (λ t. rw t) (λ t. rw t (left-is i (stacks.pop-frame (w .machine .frames))))
 
   -- ---- PUSH_CALLDATA
@@ -295,7 +295,7 @@ module _ (w : World) where
 
   interned-is : (to : ℕ) (after : pools.Pooled) (a : InternResult) (i : ℕ) → on-record w i (after-pool (calldata-pushed (w .stack) (w .machine) to after a) (w .memory) (slot i))
       ≡ interned w after a (λ entry pooled. next (moved (with-stack pooled (set (w .stack) (height w) (to-calldata-val (entry .0)))) to (height w + 1)))
-  unfolding calldata-pushed with-entry interned acts-went applied settled placed registers-of
+  unfolding calldata-pushed with-entry interned acts-result applied settled placed registers-of
   interned-is to after (Interned entry bytes) i = refl
   interned-is to after (NotInterned refusal) i = refl
 
@@ -305,7 +305,7 @@ module _ (w : World) where
 
   calldata-whole : (i : ℕ) → calldata-end ≤ length (code w)
       → on-record w i (after-pool (framing.push-calldata (w .stack) (w .pool) (w .ends) (w .machine) (place w) calldata-end) (w .memory) (slot i)) ≡ opcodes.push-calldata w
-  unfolding framing.push-calldata intern-calldata intern-sized opcodes.push-calldata operand-found test acts-went applied
+  unfolding framing.push-calldata intern-calldata intern-sized opcodes.push-calldata operand-found test acts-result applied
   calldata-whole i fits =
       let z : calldata-end ≡ place w + 3 + calldata-size = omega arith in
       on-bool (ltb (height w) 1000)
@@ -320,14 +320,14 @@ module _ (w : World) where
       (λ t. rw t)
 
   pub calldata-is : (i : ℕ) → on-record w i (act-by (w .stack) (w .memory) (w .pool) (w .ends) (w .machine) (slot i) PUSH-CALLDATA (place w) (up-to (code w) calldata-end)) ≡ opcodes.push-calldata w
-  unfolding act-by on-frames acts-went
+  unfolding act-by on-frames acts-result
   calldata-is i =
       on-bool (leb calldata-end (length (code w))) (λ t. rw t (calldata-whole i (leb-true _ _ t))) (λ t. rw t (calldata-short (leb-false _ _ t)))
 
   -- ---- S_SAVE
 
-  saved-is : (a : SaveResult) (save : List ℕ) → saves-went w save (save-went (w .machine) a) ≡ saved a (λ length. next (with-save (opcodes.onward w (height w)) save length))
-  unfolding save-went saves-went saved settled placed registers-of
+  saved-is : (a : SaveResult) (save : List ℕ) → saves-result w save (save-result (w .machine) a) ≡ saved a (λ length. next (with-save (opcodes.onward w (height w)) save length))
+  unfolding save-result saves-result saved settled placed registers-of
   saved-is (Saved length) save = refl
   saved-is (NotSaved refusal) save = refl
 

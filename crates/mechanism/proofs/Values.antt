@@ -18,8 +18,8 @@ use Rattle.machine.specs.declared.RunEnd.{RunEnd}
 use Rattle.machine.proofs.RunEnd as ran
 use Rattle.machine.proofs.RunEnd.Laws as ran-laws
 use Rattle.mechanism.specs.declared.MachineResult.{MachineResult}
-use Rattle.mechanism.proofs.MachineResult as went
-use Rattle.mechanism.proofs.MachineResult.Laws as went-laws
+use Rattle.mechanism.proofs.MachineResult as machine-result
+use Rattle.mechanism.proofs.MachineResult.Laws as machine-result-laws
 use Rattle.mechanism.specs.declared.StateAnswer.{StateAnswer}
 use Rattle.mechanism.proofs.StateAnswer as stated
 use Rattle.mechanism.proofs.StateAnswer.Laws as stated-laws
@@ -60,11 +60,11 @@ abbrev pub ran-vals : RunEnd → List Val
 ran-vals = vals ran-shut
 
 -- an answer
-unfoldable pub went-shut : Shut went.the-row
-went-shut = of-enum went.the-type went-laws.the-laws tt went-laws.the-plain
+unfoldable pub machine-result-shut : Shut machine-result.the-row
+machine-result-shut = of-enum machine-result.the-type machine-result-laws.the-laws tt machine-result-laws.the-plain
 
-abbrev pub went-vals : MachineResult → List Val
-went-vals = vals went-shut
+abbrev pub machine-result-vals : MachineResult → List Val
+machine-result-vals = vals machine-result-shut
 
 -- what an instruction on a state answers
 unfoldable pub stated-shut : Shut stated.the-row

@@ -26,7 +26,7 @@ use Rattle.mechanism.specs.Execute.{plain, operated, is-equality, by-ext
 use Rattle.mechanism.specs.Steps.{is-outer}
 use Rattle.mechanism.specs.Advance.{wanted}
 use Rattle.mechanism.specs.Act.{on-task, on-frames, act-by, act-at, act}
-use Rattle.mechanism.specs.Step.{inner-did, on-registers, inner, on-record, acts, outer, step-by-parts}
+use Rattle.mechanism.specs.Step.{inner-result, on-registers, inner, on-record, acts, outer, step-by-parts}
 use Rattle.mechanism.specs.declared.Registers.{Registers}
 use Rattle.mechanism.proofs.Settled.{on-bool}
 use Rattle.mechanism.proofs.Operands.{up-to, reaches, reaches-next, reaches-sti, reaches-calldata}
@@ -233,7 +233,7 @@ module _ (w : World) (inside : place w < length (code w)) where
   unused-size n u = simp (u .not-PUSH-U32, u .not-JUMP-IF-FALSE, u .not-MULI, u .not-PUSH-STATE, u .not-PUSH-TASK-FIELD, u .not-PUSH-MAX-STATES, u .not-M-ST, u .not-PUSH-CALLDATA, u .not-M-STI)
 
   unused : (n : ℕ) → getD (code w) (place w) 0 ≡ n → Unused n → step-by-parts w ≡ next (opcodes.onward w (height w))
-  unfolding by-extent executing.execute is-equality operated plain inner-did settled placed registers-of
+  unfolding by-extent executing.execute is-equality operated plain inner-result settled placed registers-of
   unused n e u =
       inner-step n e (unused-outer n u) _ (reach-next n e (unused-size n u) (u .not-PUSH-CALLDATA) (u .not-M-STI))
       (simp (u .not-PUSH-U32, u .not-PUSH-STATE, u .not-PUSH-MAX-STATES, u .not-PUSH-TASK-FIELD, u .not-MUL, u .not-MULI, u .not-S-LEN, u .not-DO, u .not-LOOP, u .not-LOOP-INDEX, u .not-JUMP-IF-FALSE, u .not-DUP, u .not-SWAP, u .not-EQ, u .not-NEQ, u .not-LT, u .not-GT, u .not-M-STI, u .not-M-ST, u .not-M-MUTA, u .not-DROP))
@@ -282,7 +282,7 @@ unfolding extent behind
 cut-off c p past = rw (lt-leb (p + 1 + operand-size (getD c p 0) + data-size c p) (length c) (omega arith))
 
 ended : (w : World) → length (code w) ≤ place w → step-by-parts w ≡ refused UnexpectedEOB
-unfolding step-by-parts op-at is-outer inner instruct by-extent cut inner-did registers-of
+unfolding step-by-parts op-at is-outer inner instruct by-extent cut inner-result registers-of
 ended w past = rw (List·getD-eq-default (code w) 0 past, cut-off (code w) (place w) past)
 
 -- an instruction as the code goes about it is the machine's step

@@ -13,7 +13,7 @@ use Rattle.storage.specs.declared.Task.{Task}
 use Rattle.storage.specs.Storage.{len-after}
 use Rattle.mechanism.specs.Registers.{OnMemory}
 use Rattle.mechanism.specs.declared.RegistersResult.{RegistersResult}
-use Rattle.mechanism.specs.declared.RegistersResult.the-variants as did
+use Rattle.mechanism.specs.declared.RegistersResult.the-variants as registers-result
 use Rattle.mechanism.specs.Changes.{keep}
 use Rattle.mechanism.specs.Create.{op-t-create, op-t-delete}
 use Rattle.mechanism.specs.Fields.{op-t-get-field, op-t-set-field}
@@ -30,7 +30,7 @@ use Rattle.mechanism.specs.declared.MachineAndChange.{MachineAndChange}
 
 -- an answer, and a change with it
 abbrev pub acted : MachineResult → Change → MachineAndChange
-acted went change = record { went = went; change = change }
+acted result change = record { result = result; change = change }
 
 -- an answer, the stack, memory, pool and ends after it
 pub record OnAll : Type 0 where
@@ -45,22 +45,22 @@ abbrev pub on-all : MachineAndChange → List ℕ → List ℕ → List ℕ → 
 on-all acted stack memory pool ends = record { acted = acted; stack = stack; memory = memory; pool = pool; ends = ends }
 
 -- the machine after an instruction's registers
-unfoldable pub went-by : Machine → RegistersResult → MachineResult
-went-by machine (did.Next registers) = Onto (settled machine registers)
-went-by machine (did.Refused refusal) = Refused refusal
+unfoldable pub settled-by : Machine → RegistersResult → MachineResult
+settled-by machine (registers-result.Next registers) = Onto (settled machine registers)
+settled-by machine (registers-result.Refused refusal) = Refused refusal
 
 -- after T_CREATE there is one more id
 unfoldable pub created : Machine → RegistersResult → MachineResult
-created machine (did.Next registers) =
+created machine (registers-result.Next registers) =
     Onto (with-ids (settled machine registers) ((machine .«next_id» .0 + 1) % 2 ^ 32) (len-after (machine .count) (machine .«next_id» .0)))
-created machine (did.Refused refusal) = Refused refusal
+created machine (registers-result.Refused refusal) = Refused refusal
 
 -- the machine after an instruction on a task
 unfoldable pub tasked-by : Machine → RegistersAndChange → MachineAndChange
-tasked-by machine tasked = acted (went-by machine (tasked .did)) (tasked .change)
+tasked-by machine tasked = acted (settled-by machine (tasked .result)) (tasked .change)
 
 unfoldable pub created-by : Machine → RegistersAndChange → MachineAndChange
-created-by machine tasked = acted (created machine (tasked .did)) (tasked .change)
+created-by machine tasked = acted (created machine (tasked .result)) (tasked .change)
 
 -- the opcodes that change a slot; any other does nothing
 unfoldable pub on-task : List ℕ → List ℕ → Machine → Task → ℕ → ℕ → MachineAndChange
@@ -72,11 +72,11 @@ on-task stack memory machine task op next =
 
 -- what PUSH_CALLDATA and T_GET_FIELD leave
 abbrev pub after-pool : OnPool → List ℕ → Task → OnAll
-after-pool after memory task = on-all (acted (after .went) (keep task)) (after .stack) memory (after .pool) (after .ends)
+after-pool after memory task = on-all (acted (after .result) (keep task)) (after .stack) memory (after .pool) (after .ends)
 
 abbrev pub after-memory : Machine → OnMemory → List ℕ → List ℕ → Task → OnAll
 after-memory machine after pool ends task =
-    on-all (acted (went-by machine (after .did)) (keep task)) (after .stack) (after .memory) pool ends
+    on-all (acted (settled-by machine (after .result)) (keep task)) (after .stack) (after .memory) pool ends
 
 -- the opcodes that leave the table, then those that change it
 unfoldable pub on-frames : List ℕ → List ℕ → List ℕ → List ℕ → Machine → Task → ℕ → ℕ → ℕ → OnAll

@@ -24,7 +24,7 @@ restate task state = record { puts = false; states = true; state = state; task =
 
 -- an answer, and a change with it
 abbrev pub tasked : RegistersResult → Change → RegistersAndChange
-tasked did change = record { did = did; change = change }
+tasked result change = record { result = result; change = change }
 
 -- a refused instruction changes nothing
 abbrev pub refused : Task → Refusal → RegistersAndChange

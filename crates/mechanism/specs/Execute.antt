@@ -20,10 +20,10 @@ use Rattle.mechanism.specs.declared.RegistersResult.the-variants.{Next}
 
 -- an instruction that leaves the memory, and one that leaves the stack
 abbrev pub kept : OnStack → List ℕ → OnMemory
-kept after memory = on-memory (after .did) (after .stack) memory
+kept after memory = on-memory (after .result) (after .stack) memory
 
 abbrev pub changed : List ℕ → ChangedTo → OnMemory
-changed stack after = on-memory (after .did) stack (after .memory)
+changed stack after = on-memory (after .result) stack (after .memory)
 
 -- over the stack alone; bytes without an opcode, and S_LOAD, do nothing
 unfoldable pub plain : List ℕ → Registers → ℕ → ℕ → ℕ → OnStack

@@ -58,7 +58,7 @@ field-of stack height task = field-popped stack task (pop stack height)
 
 -- a field that leaves the memory
 abbrev pub pushed : OnStack → List ℕ → OnMemory
-pushed after memory = on-memory (after .did) (after .stack) memory
+pushed after memory = on-memory (after .result) (after .stack) memory
 
 -- a field's value at a height of the stack: a title is a new text, 13, 23
 unfoldable pub get-field : List ℕ → List ℕ → Registers → ℕ → ℕ → ℕ → Task → OnMemory

@@ -34,14 +34,14 @@ use Rattle.mechanism.specs.declared.MachineResult.the-variants.{Onto, Re
 
 -- an answer, the stack, the pool and its ends after it
 pub record OnPool : Type 0 where
-  pub went : MachineResult
+  pub result : MachineResult
   pub stack : List ℕ
   pub pool : List ℕ
   pub ends : List ℕ
 
 -- these four together
 abbrev pub on-pool : MachineResult → List ℕ → List ℕ → List ℕ → OnPool
-on-pool went stack pool ends = record { went = went; stack = stack; pool = pool; ends = ends }
+on-pool result stack pool ends = record { result = result; stack = stack; pool = pool; ends = ends }
 
 -- the data, which stands behind its size in the pool itself, becomes one more entry
 unfoldable pub intern-sized : List ℕ → List ℕ → Machine → ℕ → OperandResult → Pooled

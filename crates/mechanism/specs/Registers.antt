@@ -13,12 +13,12 @@ moved registers place height = record { place = place; height = height; loops = 
 
 -- an answer, and the stack after it
 pub record OnStack : Type 0 where
-  pub did : RegistersResult
+  pub result : RegistersResult
   pub stack : List ℕ
 
 -- these two together
 abbrev pub on-stack : RegistersResult → List ℕ → OnStack
-on-stack did stack = record { did = did; stack = stack }
+on-stack result stack = record { result = result; stack = stack }
 
 -- the memory in use
 abbrev pub in-use : List ℕ → Registers → List ℕ
@@ -26,13 +26,13 @@ in-use memory registers = take (registers .memory) memory
 
 -- an answer, the stack and the memory after it
 pub record OnMemory : Type 0 where
-  pub did : RegistersResult
+  pub result : RegistersResult
   pub stack : List ℕ
   pub memory : List ℕ
 
 -- these three together
 abbrev pub on-memory : RegistersResult → List ℕ → List ℕ → OnMemory
-on-memory did stack memory = record { did = did; stack = stack; memory = memory }
+on-memory result stack memory = record { result = result; stack = stack; memory = memory }
 
 -- what most opcodes change, taken out of the machine
 unfoldable pub registers-of : Machine → Registers

@@ -13,7 +13,7 @@ use Rattle.mechanism.specs.declared.Change.{Change}
 use Rattle.image.specs.Table.{SavedTable, save-table}
 use Rattle.mechanism.specs.declared.Registers.{Registers}
 use Rattle.mechanism.specs.declared.RegistersResult.{RegistersResult}
-use Rattle.mechanism.specs.declared.RegistersResult.the-variants as did
+use Rattle.mechanism.specs.declared.RegistersResult.the-variants as registers-result
 use Rattle.mechanism.specs.Registers.{OnMemory}
 use Rattle.mechanism.specs.Execute.{instruct}
 use Rattle.mechanism.specs.Steps.{is-outer}
@@ -22,7 +22,7 @@ use Rattle.mechanism.specs.Registers.{registers-of, settled}
 use Rattle.mechanism.specs.Act.{OnAll, act}
 use Rattle.machine.specs.Machines.{op-at}
 use Rattle.mechanism.specs.Advance.{wanted}
-use Rattle.mechanism.specs.Turns.{save-went}
+use Rattle.mechanism.specs.Turns.{save-result}
 use Rattle.mechanism.specs.declared.MachineResult.{MachineResult}
 use Rattle.mechanism.specs.declared.MachineResult.the-variants.{Onto, Refused}
 use Rattle.machine.specs.World.{World, world, code, op}
@@ -31,28 +31,28 @@ use Rattle.machine.specs.Opcodes.{saving}
 
 -- ---- an instruction that needs no task, frame or pool
 
-unfoldable pub inner-did : World → List ℕ → List ℕ → RegistersResult → StepResult
-inner-did w stack memory (did.Next registers) =
+unfoldable pub inner-result : World → List ℕ → List ℕ → RegistersResult → StepResult
+inner-result w stack memory (registers-result.Next registers) =
     next (world (settled (w .machine) registers) (w .table) stack memory (w .pool) (w .ends) (w .save))
-inner-did w stack memory (did.Refused refusal) = refused refusal
+inner-result w stack memory (registers-result.Refused refusal) = refused refusal
 
 -- what such an instruction answers, as a step
 abbrev pub on-registers : World → OnMemory → StepResult
-on-registers w after = inner-did w (after .stack) (after .memory) (after .did)
+on-registers w after = inner-result w (after .stack) (after .memory) (after .result)
 
 unfoldable pub inner : World → StepResult
 inner w = on-registers w (instruct (w .stack) (w .memory) (code w) (registers-of (w .machine)) (w .machine .count))
 
 -- ---- one that needs a task, a frame or the pool: it works on the record of the slot that it names
 
-unfoldable pub acts-went : World → ℕ → OnAll → MachineResult → StepResult
-acts-went w slot after (Onto machine) =
+unfoldable pub acts-result : World → ℕ → OnAll → MachineResult → StepResult
+acts-result w slot after (Onto machine) =
     next (world machine (applied (w .table) slot (after .acted .change)) (after .stack) (after .memory) (after .pool) (after .ends) (w .save))
-acts-went w slot after (Refused refusal) = refused refusal
+acts-result w slot after (Refused refusal) = refused refusal
 
 -- what such an instruction answers, as a step
 abbrev pub on-record : World → ℕ → OnAll → StepResult
-on-record w slot after = acts-went w slot after (after .acted .went)
+on-record w slot after = acts-result w slot after (after .acted .result)
 
 abbrev pub acted-at : World → ℕ → OnAll
 acted-at w slot = act (w .stack) (w .memory) (w .pool) (w .ends) (w .machine) (getD (w .table) slot blank)
@@ -62,12 +62,12 @@ acts w slot = on-record w slot (acted-at w slot)
 
 -- ---- S_SAVE
 
-unfoldable pub saves-went : World → List ℕ → MachineResult → StepResult
-saves-went w save (Onto machine) = next (world machine (w .table) (w .stack) (w .memory) (w .pool) (w .ends) save)
-saves-went w save (Refused refusal) = refused refusal
+unfoldable pub saves-result : World → List ℕ → MachineResult → StepResult
+saves-result w save (Onto machine) = next (world machine (w .table) (w .stack) (w .memory) (w .pool) (w .ends) save)
+saves-result w save (Refused refusal) = refused refusal
 
 unfoldable pub saves : World → StepResult
-saves w = saves-went w (saving w .save) (save-went (w .machine) (saving w .answer))
+saves w = saves-result w (saving w .save) (save-result (w .machine) (saving w .answer))
 
 -- ---- an instruction
 

@@ -45,7 +45,7 @@ turn others fuel stack memory code registers count =
     (onward others fuel registers
     (instruct stack memory code registers count .stack)
     (instruct stack memory code registers count .memory)
-    (instruct stack memory code registers count .did))
+    (instruct stack memory code registers count .result))
 
 -- the steps of one code
 unfoldable pub steps : ℕ → List ℕ → List ℕ → List ℕ → Registers → ℕ → Halted

@@ -80,11 +80,11 @@ mut-in-use memory used pointer index payload tag =
 
 -- an answer, and the memory after it
 pub record ChangedTo : Type 0 where
-  pub did : RegistersResult
+  pub result : RegistersResult
   pub memory : List ℕ
 
 abbrev pub changed-to : RegistersResult → List ℕ → ChangedTo
-changed-to did memory = record { did = did; memory = memory }
+changed-to result memory = record { result = result; memory = memory }
 
 -- on at the next place where the element was changed
 unfoldable pub mutated : Registers → ℕ → ℕ → ChangeResult → RegistersResult

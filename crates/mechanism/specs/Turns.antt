@@ -27,10 +27,10 @@ turned machine left (Onto after) = at-hand after (spent left) 0
 turned machine left (Refused refusal) = ended machine left (outcome.Refused refusal)
 
 -- what S_SAVE answers: the length of the image is kept
-unfoldable pub save-went : Machine → SaveResult → MachineResult
-save-went machine (Saved length) =
+unfoldable pub save-result : Machine → SaveResult → MachineResult
+save-result machine (Saved length) =
     Onto (with-saved (machine-at machine (registers-of machine .place + 1) (machine .height)) length)
-save-went machine (NotSaved refusal) = Refused refusal
+save-result machine (NotSaved refusal) = Refused refusal
 
 -- the end of a run
 abbrev pub ran : Progress → RunEnd

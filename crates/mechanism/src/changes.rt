@@ -48,7 +48,7 @@ pub fn refused(task: Task, refusal: Refusal) -> RegistersAndChange
     ensures { λ r. ⌜ r ≡ refused task refusal ⌝ }
 {
     RegistersAndChange {
-        did: RegistersResult::Refused(refusal),
+        result: RegistersResult::Refused(refusal),
         change: keep(task),
     }
 }

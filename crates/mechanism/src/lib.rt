@@ -60,7 +60,7 @@ pub struct Change {
 
 // What such an instruction answers.
 pub struct RegistersAndChange {
-    pub did: RegistersResult,
+    pub result: RegistersResult,
     pub change: Change,
 }
 
@@ -87,7 +87,7 @@ pub enum MachineResult {
 
 // The same, with what it changes in the slot that it names.
 pub struct MachineAndChange {
-    pub went: MachineResult,
+    pub result: MachineResult,
     pub change: Change,
 }
 
@@ -96,5 +96,5 @@ pub struct StateAnswer {
     pub whole: bool,
     pub states: bool,
     pub state: u32,
-    pub went: MachineResult,
+    pub result: MachineResult,
 }

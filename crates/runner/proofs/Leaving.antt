@@ -72,7 +72,7 @@ names-top stack progress is = on-bool (eqb (progress .machine .height) 0) (λ no
 module _ (table : List Task) (stack memory pool ends : List ℕ) (progress : Progress) (fits : length pool < 2 ^ 64) where
   -- the same turn, its answer and its next place given
   abbrev with-next : (ℕ → MachineResult) → ℕ → Acting
-  with-next went next = acting (turned (progress .machine) (progress .left) (went next)) table stack memory pool ends
+  with-next result next = acting (turned (progress .machine) (progress .left) (result next)) table stack memory pool ends
 
   -- END_CALL
   pub returns-turn : op-at pool ends (progress .machine) ≡ END-CALL → acting (returned progress) table stack memory pool ends ≡ task-turn table stack memory pool ends progress
@@ -112,7 +112,7 @@ pub call-turns : (table : List Task) (stack ends : List ℕ) (progress : Progres
     → after slot stack′ ≡ after (slot-of-call stack progress) stack → after task table′ ≡ after (getD table slot blank) table
     → after (after r stack″) ends′ ≡ after (after (called stack′ ends progress task) stack′) ends → entering r table′ stack″ ends′ ≡ call-turn table stack ends progress
 unfolding call-turn
-call-turns table stack ends progress {slot} {stack′} {task} {table′} names read went =
-    ap (λ (a : After (After Progress (List ℕ)) (List ℕ)). entering (a .answer .answer) table′ (a .answer .lent) (a .lent)) went
+call-turns table stack ends progress {slot} {stack′} {task} {table′} names read result =
+    ap (λ (a : After (After Progress (List ℕ)) (List ℕ)). entering (a .answer .answer) table′ (a .answer .lent) (a .lent)) result
     ∙ ap (λ (a : After Task (List Task)). entering (called stack′ ends progress (a .answer)) (a .lent) stack′ ends) read
     ∙ ap (λ (a : After ℕ (List ℕ)). entering (called (a .lent) ends progress (getD table (a .answer) blank)) table (a .lent) ends) names

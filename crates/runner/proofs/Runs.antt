@@ -27,7 +27,7 @@ use Rattle.mechanism.specs.declared.Halt.the-variants as halt
 use Rattle.machine.specs.Machines.{current, code-of}
 use Rattle.mechanism.specs.Registers.{registers-of, settled}
 use Rattle.mechanism.specs.Advance.{ProgressOn, ended as outcome-at, at-hand, wanted, halted-at, after-steps, advance}
-use Rattle.mechanism.specs.Turns.{turned, save-went}
+use Rattle.mechanism.specs.Turns.{turned, save-result}
 use Rattle.runner.specs.Behind.{next-of, save-answered, saved}
 use Rattle.runner.proofs.Leaving.{inside, next-is}
 use Rattle.mechanism.proofs.Whole.{step-is}
@@ -42,7 +42,7 @@ use Rattle.mechanism.proofs.Instruction.{instruct-leaves}
 use Rattle.machine.specs.World.{World, world, at-end}
 use Rattle.machine.specs.Words.{StepResult, next, refused}
 use Rattle.machine.specs.Step.{step}
-use Rattle.mechanism.specs.Step.{outer, inner, inner-did, acts-went, acts, saves-went, saves, step-by-parts}
+use Rattle.mechanism.specs.Step.{outer, inner, inner-result, acts-result, acts, saves-result, saves, step-by-parts}
 use Rattle.machine.specs.Run.{End, end-at, follow, run}
 use Rattle.runner.specs.Going.{Going, going, beside, Acting, after-act, task-turn, slot-at, act-turn, after-save, save-turn, from-acting, from-saving, turn, begins, goes-on}
 use Rattle.runner.proofs.Stating.{acts-on-record}
@@ -109,7 +109,7 @@ module _ (machine : Machine) (table : List Task) (pool ends save : List ℕ) whe
   -- an instruction that is finished
   runs-on : (fuel : ℕ) (registers reached : Registers) (stack memory s m : List ℕ) → ltb (registers .place) (length code) ≡ true → is-outer (getD code (registers .place) 0) ≡ false
       → on-memory (Next reached) s m ≡ instruct stack memory code registers (machine .count) → run (suc fuel) (at registers stack memory) ≡ run fuel (at reached s m)
-  unfolding run at-end step-by-parts inner inner-did follow
+  unfolding run at-end step-by-parts inner inner-result follow
   runs-on fuel registers reached stack memory s m t o e =
       simp (← step-is (at registers stack memory), code-settled, place-settled, registers-settled, op-settled, count-settled, settled-twice, past (registers .place) (length code) t, o, ← e)
 
@@ -121,7 +121,7 @@ module _ (machine : Machine) (table : List Task) (pool ends save : List ℕ) whe
   -- one that is refused
   runs-not : (fuel : ℕ) (registers : Registers) (stack memory : List ℕ) (refusal : Refusal) → ltb (registers .place) (length code) ≡ true → is-outer (getD code (registers .place) 0) ≡ false
       → on-memory (Refused refusal) stack memory ≡ instruct stack memory code registers (machine .count) → Claim (suc fuel) registers stack memory
-  unfolding finishes after-steps halted-at steps core-turn onward run at-end step-by-parts inner inner-did follow
+  unfolding finishes after-steps halted-at steps core-turn onward run at-end step-by-parts inner inner-result follow
   runs-not fuel registers stack memory refusal t o e =
       simp (← step-is (at registers stack memory), code-settled, place-settled, registers-settled, op-settled, count-settled, t, past (registers .place) (length code) t, o, ← e)
 
@@ -164,8 +164,8 @@ more fuel _ (refuses refusal left r s m less) = refuses refusal left r s m (omeg
 more fuel _ (waits left r s m less some) = waits left r s m (omega arith) some
 
 module _ (code : List ℕ) (count : ℕ) where
-  onward-spare : (fuel : ℕ) → ((s m : List ℕ) (r : Registers) → Spare fuel (steps fuel s m code r count)) → (registers : Registers) (s m : List ℕ) (did : RegistersResult)
-      → Spare (suc fuel) (onward (λ s m r. steps fuel s m code r count) (suc fuel) registers s m did)
+  onward-spare : (fuel : ℕ) → ((s m : List ℕ) (r : Registers) → Spare fuel (steps fuel s m code r count)) → (registers : Registers) (s m : List ℕ) (result : RegistersResult)
+      → Spare (suc fuel) (onward (λ s m r. steps fuel s m code r count) (suc fuel) registers s m result)
   unfolding onward
   onward-spare fuel others registers s m (Next reached) = more fuel _ (others s m reached)
   onward-spare fuel others registers s m (Refused refusal) = refuses refusal (suc fuel) registers s m (omega arith)
@@ -240,8 +240,8 @@ data Turns (g : Going) : Going → StepResult → Type 0 where
   stays : (refusal : Refusal) → Turns g (going (outcome-at (g .progress .machine) (g .progress .left) (outcomes.Refused refusal)) (g .table) (g .stack) (g .memory) (g .pool) (g .ends) (g .save)) (refused refusal)
 
 acts-turns : (g : Going) (slot : ℕ) (a : OnAll) → acts-law.Leaves (g .stack) (g .memory) (g .pool) (g .ends) (getD (g .table) slot blank) a
-    → Turns g (from-acting (after-act (g .progress) slot (g .table) a) (g .save)) (acts-went (world-of g) slot a (a .acted .went))
-unfolding turned acts-went applied
+    → Turns g (from-acting (after-act (g .progress) slot (g .table) a) (g .save)) (acts-result (world-of g) slot a (a .acted .result))
+unfolding turned acts-result applied
 acts-turns g slot _ (acts-law.finished machine change s m p e) = on machine _ s m p e (g .save)
 acts-turns g slot _ (acts-law.kept refusal) = stays refusal
 
@@ -260,8 +260,8 @@ save-leaves next-id table pool e entries save = saved-leaves _ _ save
 
 saves-turns : (g : Going) (a : SavedTable) → Saves (g .save) a
     → next-of (g .progress .machine) ≡ registers-of (g .progress .machine) .place + 1
-    → Turns g (from-saving (after-save (g .progress) (g .table) (g .pool) (g .ends) a) (g .stack) (g .memory)) (saves-went (world-of g) (a .save) (save-went (g .progress .machine) (a .answer)))
-unfolding saved save-answered turned save-went saves-went
+    → Turns g (from-saving (after-save (g .progress) (g .table) (g .pool) (g .ends) a) (g .stack) (g .memory)) (saves-result (world-of g) (a .save) (save-result (g .progress .machine) (a .answer)))
+unfolding saved save-answered turned save-result saves-result
 saves-turns g _ (has-saved length after) behind = rw behind (on _ (g .table) (g .stack) (g .memory) (g .pool) (g .ends) after)
 saves-turns g _ (not-saved refusal) behind = stays refusal
 

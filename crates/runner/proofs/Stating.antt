@@ -27,7 +27,7 @@ use Rattle.bytecode.specs.Opcodes.{T-GET-FIELD, T-SET-FIELD, CALL, END-CALL}
 use Rattle.machine.specs.declared.Machine.{Machine}
 use Rattle.mechanism.specs.Registers.{registers-of}
 use Rattle.mechanism.specs.Registers.{machine-at}
-use Rattle.mechanism.specs.Act.{OnAll, on-all, acted, went-by, tasked-by, after-memory, on-task, on-frames, act, bare}
+use Rattle.mechanism.specs.Act.{OnAll, on-all, acted, settled-by, tasked-by, after-memory, on-task, on-frames, act, bare}
 use Rattle.machine.specs.Machines.{op-at}
 use Rattle.mechanism.specs.Turns.{turned}
 use Rattle.mechanism.specs.declared.Progress.{Progress}
@@ -120,15 +120,15 @@ module _ (stack memory : List ℕ) (machine : Machine) (next : ℕ) (task : Task
 module _ (stack memory pool ends : List ℕ) (machine : Machine) (task : Task) where
   -- what it leaves, by its answer
   abbrev leaves : After StateAnswer (List ℕ) → OnAll
-  leaves a = on-all (acted (a .answer .went) (cond (a .answer .states) (restate task (a .answer .state)) (keep task))) (a .lent) memory pool ends
+  leaves a = on-all (acted (a .answer .result) (cond (a .answer .states) (restate task (a .answer .state)) (keep task))) (a .lent) memory pool ends
 
   -- the state is set
   abbrev set-to : ℕ → StateAnswer
-  set-to state = record { whole = false; states = true; state = state; went = went-on machine (machine .height - 3) }
+  set-to state = record { whole = false; states = true; state = state; result = went-on machine (machine .height - 3) }
 
   module _ (fits : length pool < 2 ^ 64) (named : names-state stack (machine .height) task ≡ true) where
     got-acts : op-at pool ends machine ≡ T-GET-FIELD → act stack memory pool ends machine task ≡ leaves (got stack machine task)
-    unfolding got on-frames went-by bare
+    unfolding got on-frames settled-by bare
     got-acts at =
         acts-bare stack memory pool ends machine task T-GET-FIELD at (λ none. omega arith) refl
         ∙ ap (λ (m : OnMemory). after-memory machine m pool ends task) (get-is stack memory machine (place pool ends machine + 1) task named)
@@ -137,7 +137,7 @@ module _ (stack memory pool ends : List ℕ) (machine : Machine) (task : Task) w
 
     set-acts : 3 ≤ machine .height → to-u32 (getD stack (machine .height - 3) 0) < task .state .len → to-u32 (getD stack (machine .height - 3) 0) < 255 → op-at pool ends machine ≡ T-SET-FIELD
         → act stack memory pool ends machine task ≡ leaves (after (set-to (to-u32 (getD stack (machine .height - 3) 0))) stack)
-    unfolding on-frames on-task tasked-by went-by bare
+    unfolding on-frames on-task tasked-by settled-by bare
     set-acts third has few at =
         acts-bare stack memory pool ends machine task T-SET-FIELD at (λ none. omega arith) refl
         ∙ ap (λ (t : RegistersAndChange). on-all (tasked-by machine t) stack memory pool ends) (set-is stack memory machine (place pool ends machine + 1) task named third has few)
@@ -195,9 +195,9 @@ module _ (table : List Task) (stack memory pool ends : List ℕ) (progress : Pro
       → state-turn table memory pool ends progress slot (after s stack′) ≡ task-turn table stack memory pool ends progress
   unfolding state-turn task-turn
   is-stated s stack′ small acts =
-      let told : cond (s .whole) (task-turn table stack′ memory pool ends progress) (acting (turned (progress .machine) (progress .left) (s .went)) (restated table slot s) stack′ memory pool ends)
-      ≡ acting (turned (progress .machine) (progress .left) (s .went)) (restated table slot s) stack′ memory pool ends = simp (small) in
-      told ∙ ap (λ (t : List Task). acting (turned (progress .machine) (progress .left) (s .went)) t stack′ memory pool ends) (restates table slot record-of s)
+      let told : cond (s .whole) (task-turn table stack′ memory pool ends progress) (acting (turned (progress .machine) (progress .left) (s .result)) (restated table slot s) stack′ memory pool ends)
+      ≡ acting (turned (progress .machine) (progress .left) (s .result)) (restated table slot s) stack′ memory pool ends = simp (small) in
+      told ∙ ap (λ (t : List Task). acting (turned (progress .machine) (progress .left) (s .result)) t stack′ memory pool ends) (restates table slot record-of s)
       ∙ sym (ap (after-act progress slot table) acts)
 
   by-answer : (op : ℕ) → Answered stack memory pool ends (progress .machine) record-of op → state-turn table memory pool ends progress slot (stated stack (progress .machine) op record-of) ≡ task-turn table stack memory pool ends progress

@@ -54,7 +54,7 @@ module _ (table : List Task) (slot : ℕ) (change : Change) where
 -- the slot named, its record read, the instruction done, its change made
 pub task-turns : (table : List Task) (stack memory pool ends : List ℕ) (progress : Progress) {slot : ℕ} {stack′ : List ℕ} {task : Task} {table′ table″ : List Task} {acted : MachineAndChange} {stack″ memory′ pool′ ends′ : List ℕ} {r : Progress}
     → after slot stack′ ≡ after (slot-at stack progress) stack → after task table′ ≡ after (getD table slot blank) table → on-all acted stack″ memory′ pool′ ends′ ≡ act stack′ memory pool ends (progress .machine) task
-    → table″ ≡ applied table′ slot (acted .change) → r ≡ turned (progress .machine) (progress .left) (acted .went)
+    → table″ ≡ applied table′ slot (acted .change) → r ≡ turned (progress .machine) (progress .left) (acted .result)
     → acting r table″ stack″ memory′ pool′ ends′ ≡ task-turn table stack memory pool ends progress
 unfolding task-turn
 task-turns table stack memory pool ends progress {slot} {stack′} {task} {table′} {table″} {acted} {stack″} {memory′} {pool′} {ends′} names read did made went =
@@ -92,11 +92,11 @@ module _ (table : List Task) (stack memory pool ends : List ℕ) (progress : Pro
         made ∙ sym with-it ∙ told
 
     -- without it
-    pub acts-stating : {r : Progress} {table″ : List Task} → s .whole ≡ false → table″ ≡ restated table′ slot s → r ≡ turned (progress .machine) (progress .left) (s .went)
+    pub acts-stating : {r : Progress} {table″ : List Task} → s .whole ≡ false → table″ ≡ restated table′ slot s → r ≡ turned (progress .machine) (progress .left) (s .result)
         → acting r table″ stack″ memory pool ends ≡ act-turn table stack memory pool ends progress
     unfolding state-turn
     acts-stating small made went =
-        let without : state-turn table′ memory pool ends progress slot (after s stack″) ≡ acting (turned (progress .machine) (progress .left) (s .went)) (restated table′ slot s) stack″ memory pool ends = simp (small) in
+        let without : state-turn table′ memory pool ends progress slot (after s stack″) ≡ acting (turned (progress .machine) (progress .left) (s .result)) (restated table′ slot s) stack″ memory pool ends = simp (small) in
         (λ j. acting (went j) (made j) stack″ memory pool ends) ∙ sym without ∙ told
 
 -- ---- S_SAVE

@@ -51,7 +51,7 @@ acting progress table stack memory pool ends = record { progress = progress; tab
 
 abbrev pub after-act : Progress → ℕ → List Task → OnAll → Acting
 after-act progress slot table after =
-    acting (turned (progress .machine) (progress .left) (after .acted .went)) (applied table slot (after .acted .change)) (after .stack) (after .memory) (after .pool) (after .ends)
+    acting (turned (progress .machine) (progress .left) (after .acted .result)) (applied table slot (after .acted .change)) (after .stack) (after .memory) (after .pool) (after .ends)
 
 -- the slot that the instruction at hand names
 abbrev pub slot-at : List ℕ → Progress → ℕ
@@ -97,7 +97,7 @@ from-entering e memory pool = acting (e .progress) (e .table) (e .stack) memory 
 unfoldable pub state-turn : List Task → List ℕ → List ℕ → List ℕ → Progress → ℕ → After StateAnswer (List ℕ) → Acting
 state-turn table memory pool ends progress slot a =
     cond (a .answer .whole) (task-turn table (a .lent) memory pool ends progress)
-    (acting (turned (progress .machine) (progress .left) (a .answer .went)) (restated table slot (a .answer)) (a .lent) memory pool ends)
+    (acting (turned (progress .machine) (progress .left) (a .answer .result)) (restated table slot (a .answer)) (a .lent) memory pool ends)
 
 unfoldable pub act-turn : List Task → List ℕ → List ℕ → List ℕ → List ℕ → Progress → Acting
 act-turn table stack memory pool ends progress =

@@ -25,7 +25,7 @@ names-state stack height task =
 
 -- nothing is done
 abbrev pub whole : Machine → StateAnswer
-whole machine = record { whole = true; states = false; state = 0; went = Onto machine }
+whole machine = record { whole = true; states = false; state = 0; result = Onto machine }
 
 -- it is done, and leaves the machine behind it
 abbrev pub went-on : Machine → ℕ → MachineResult
@@ -34,7 +34,7 @@ went-on machine height = Onto (machine-at machine (next-of machine) height)
 -- the state is read
 unfoldable pub got : List ℕ → Machine → Task → After StateAnswer (List ℕ)
 got stack machine task =
-    after (record { whole = false; states = false; state = 0; went = went-on machine (machine .height - 1) })
+    after (record { whole = false; states = false; state = 0; result = went-on machine (machine .height - 1) })
     (set stack (machine .height - 2) (to-u32-val (task .state .state)))
 
 -- the state is set, if the task has it
@@ -42,7 +42,7 @@ unfoldable pub sets-to : ℕ → Machine → Task → StateAnswer
 sets-to state machine task =
     cond (leb (task .state .len) state) (whole machine)
     (cond (leb 255 state) (whole machine)
-    (record { whole = false; states = true; state = state; went = went-on machine (machine .height - 3) }))
+    (record { whole = false; states = true; state = state; result = went-on machine (machine .height - 3) }))
 
 unfoldable pub set-third : List ℕ → Machine → Task → StateAnswer
 set-third stack machine task =

@@ -5,7 +5,7 @@ ghost use lib.ListN.{getD, length};
 ghost use Rattle.pools.specs.Pool.{pooled, start-of};
 ghost use Rattle.mechanism.specs.Frames.{intern-calldata, with-entry, on-pool, push-calldata};
 ghost use Rattle.bytecode.specs.Operands.{extent};
-ghost use Rattle.mechanism.specs.Act.{went-by, created, tasked-by, created-by, bare, on-all, on-frames, on-task, cut, act};
+ghost use Rattle.mechanism.specs.Act.{settled-by, created, tasked-by, created-by, bare, on-all, on-frames, on-task, cut, act};
 use bytecode::Extent;
 use bytecode::OperandResult;
 use bytecode::extents::extent;
@@ -119,20 +119,20 @@ fn push_calldata(
 }
 
 // The machine after an instruction's registers.
-fn went_by(machine: Machine, did: RegistersResult) -> MachineResult
-    ensures { λ r. ⌜ r ≡ went-by machine did ⌝ }
+fn settled_by(machine: Machine, result: RegistersResult) -> MachineResult
+    ensures { λ r. ⌜ r ≡ settled-by machine result ⌝ }
 {
-    match did {
+    match result {
         RegistersResult::Next(registers) => MachineResult::Onto(settled(machine, registers)),
         RegistersResult::Refused(refusal) => MachineResult::Refused(refusal),
     }
 }
 
 // After T_CREATE there is one more id.
-fn created(machine: Machine, did: RegistersResult) -> MachineResult
-    ensures { λ r. ⌜ r ≡ created machine did ⌝ }
+fn created(machine: Machine, result: RegistersResult) -> MachineResult
+    ensures { λ r. ⌜ r ≡ created machine result ⌝ }
 {
-    match did {
+    match result {
         RegistersResult::Next(registers) => {
             let mut after = settled(machine, registers);
             let next_id = TaskId(std::num::wrapping_add_u32(machine.next_id.0, 1));
@@ -148,10 +148,10 @@ fn created(machine: Machine, did: RegistersResult) -> MachineResult
 fn tasked_by(machine: Machine, tasked: RegistersAndChange) -> MachineAndChange
     ensures { λ r. ⌜ r ≡ tasked-by machine tasked ⌝ }
 {
-    let did = tasked.did;
+    let result = tasked.result;
     let change = tasked.change;
     MachineAndChange {
-        went: went_by(machine, did),
+        result: settled_by(machine, result),
         change,
     }
 }
@@ -160,10 +160,10 @@ fn tasked_by(machine: Machine, tasked: RegistersAndChange) -> MachineAndChange
 fn created_by(machine: Machine, tasked: RegistersAndChange) -> MachineAndChange
     ensures { λ r. ⌜ r ≡ created-by machine tasked ⌝ }
 {
-    let did = tasked.did;
+    let result = tasked.result;
     let change = tasked.change;
     MachineAndChange {
-        went: created(machine, did),
+        result: created(machine, result),
         change,
     }
 }
@@ -194,7 +194,7 @@ fn on_task(
         return tasked_by(machine, op_t_delete(stack, registers, next, task));
     }
     MachineAndChange {
-        went: MachineResult::Onto(settled(machine, moved(registers, next, machine.height))),
+        result: MachineResult::Onto(settled(machine, moved(registers, next, machine.height))),
         change: keep(task),
     }
 }
@@ -216,26 +216,26 @@ fn on_frames(
 {
     if op == PUSH_CALLDATA {
         return MachineAndChange {
-            went: push_calldata(stack, pool, ends, machine, place, next),
+            result: push_calldata(stack, pool, ends, machine, place, next),
             change: keep(task),
         };
     }
     if op == T_GET_FIELD {
-        let did = op_t_get_field(stack, memory, registers_of(machine), next, task);
+        let result = op_t_get_field(stack, memory, registers_of(machine), next, task);
         return MachineAndChange {
-            went: went_by(machine, did),
+            result: settled_by(machine, result),
             change: keep(task),
         };
     }
     if op == CALL {
         return MachineAndChange {
-            went: op_call(stack, ends, machine, next, task),
+            result: op_call(stack, ends, machine, next, task),
             change: keep(task),
         };
     }
     if op == END_CALL {
         return MachineAndChange {
-            went: op_end_call(machine, next),
+            result: op_end_call(machine, next),
             change: keep(task),
         };
     }
@@ -273,7 +273,7 @@ fn cut(task: Task) -> MachineAndChange
     ensures { λ r. ⌜ r ≡ cut task ⌝ }
 {
     MachineAndChange {
-        went: MachineResult::Refused(Refusal::UnexpectedEOB),
+        result: MachineResult::Refused(Refusal::UnexpectedEOB),
         change: keep(task),
     }
 }

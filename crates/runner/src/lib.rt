@@ -53,7 +53,7 @@ fn task_turn(
     let task = table::get(table, slot);
     let acted = act(stack, memory, pool, ends, progress.machine, task);
     apply(table, slot, acted.change);
-    crate::progress::turned(progress.machine, progress.left, acted.went)
+    crate::progress::turned(progress.machine, progress.left, acted.result)
 }
 
 // The state that an instruction sets in the slot that it names.
@@ -105,7 +105,7 @@ fn act_turn(
         return task_turn(table, stack, memory, pool, ends, progress);
     }
     restate(table, slot, stated);
-    crate::progress::turned(progress.machine, progress.left, stated.went)
+    crate::progress::turned(progress.machine, progress.left, stated.result)
 }
 
 // S_SAVE, at hand.

@@ -41,10 +41,10 @@ fn spent(left: u64) -> u64
 }
 
 // After an instruction: on its way again, or refused, the machine as before it.
-pub(crate) fn turned(machine: Machine, left: u64, went: MachineResult) -> Progress
-    ensures { λ r. ⌜ r ≡ turned machine left went ⌝ }
+pub(crate) fn turned(machine: Machine, left: u64, result: MachineResult) -> Progress
+    ensures { λ r. ⌜ r ≡ turned machine left result ⌝ }
 {
-    match went {
+    match result {
         MachineResult::Onto(after) => Progress {
             machine: after,
             left: spent(left),
@@ -74,8 +74,8 @@ pub(crate) fn next_of(machine: Machine) -> usize
 pub(crate) fn returned(progress: Progress) -> Progress
     ensures { λ r. ⌜ r ≡ returned progress ⌝ }
 {
-    let went = stepper::entering::op_end_call(progress.machine, next_of(progress.machine));
-    turned(progress.machine, progress.left, went)
+    let result = stepper::entering::op_end_call(progress.machine, next_of(progress.machine));
+    turned(progress.machine, progress.left, result)
 }
 
 // After CALL, which changes no slot.
@@ -87,14 +87,14 @@ pub(crate) fn called(
 ) -> Progress
     ensures { λ r. ⌜ after (after r (now (stack .exit))) (now (ends .exit)) ≡ after (after (called (now (stack .entry)) (now (ends .entry)) progress task) (now (stack .entry))) (now (ends .entry)) ⌝ }
 {
-    let went = stepper::entering::op_call(
+    let result = stepper::entering::op_call(
         stack,
         ends,
         progress.machine,
         next_of(progress.machine),
         task,
     );
-    turned(progress.machine, progress.left, went)
+    turned(progress.machine, progress.left, result)
 }
 
 // After S_SAVE: the length of the image is kept.

@@ -38,7 +38,7 @@ fn whole(machine: Machine) -> StateAnswer
         whole: true,
         states: false,
         state: 0,
-        went: MachineResult::Onto(machine),
+        result: MachineResult::Onto(machine),
     }
 }
 
@@ -50,7 +50,7 @@ fn got(stack: &mut [u64; 1000], machine: Machine, task: Task) -> StateAnswer
     let height = machine.height;
     stack[height - 2] = values::boxing::to_u32_val(task.state.state as u32);
     let registers = registers_of(machine);
-    let went = MachineResult::Onto(settled(
+    let result = MachineResult::Onto(settled(
         machine,
         moved(registers, next_of(machine), height - 1),
     ));
@@ -58,7 +58,7 @@ fn got(stack: &mut [u64; 1000], machine: Machine, task: Task) -> StateAnswer
         whole: false,
         states: false,
         state: 0,
-        went,
+        result,
     }
 }
 
@@ -89,7 +89,7 @@ fn set(stack: &[u64; 1000], machine: Machine, task: Task) -> StateAnswer
         return whole(machine);
     }
     let registers = registers_of(machine);
-    let went = MachineResult::Onto(settled(
+    let result = MachineResult::Onto(settled(
         machine,
         moved(registers, next_of(machine), height - 3),
     ));
@@ -97,7 +97,7 @@ fn set(stack: &[u64; 1000], machine: Machine, task: Task) -> StateAnswer
         whole: false,
         states: true,
         state,
-        went,
+        result,
     }
 }
 

@@ -20,12 +20,12 @@ use Rattle.mechanism.specs.Fields.{op-t-get-field, op-t-set-field}
 use Rattle.mechanism.specs.declared.Change.{Change}
 use Rattle.mechanism.specs.Registers.{registers-of}
 use Rattle.mechanism.specs.Frames.{op-end-call}
-use Rattle.mechanism.specs.Act.{acted, OnAll, on-all, went-by, created, tasked-by, created-by, on-task, on-frames, act-by, act-at, act}
-use Rattle.mechanism.specs.Turns.{save-went}
+use Rattle.mechanism.specs.Act.{acted, OnAll, on-all, settled-by, created, tasked-by, created-by, on-task, on-frames, act-by, act-at, act}
+use Rattle.mechanism.specs.Turns.{save-result}
 use Rattle.mechanism.specs.declared.MachineResult.{MachineResult}
 use Rattle.machine.specs.World.{World, place, at-end}
 use Rattle.machine.specs.World as worlds
-use Rattle.mechanism.specs.Step.{acts-went, acted-at, acts, saves-went, saves}
+use Rattle.mechanism.specs.Step.{acts-result, acted-at, acts, saves-result, saves}
 use Rattle.machine.specs.Opcodes.{saving}
 use Rattle.labels.specs.declared.Kind.{Kind}
 use Rattle.labels.specs.declared.Kind.the-variants.{Number, Calldata}
@@ -55,17 +55,17 @@ module _ (w : World) (labels : ℕ → Label) (lent : length (w .stack) ≡ 1000
   next = behind code here
 
   abbrev StepsBy : ℕ → OnAll → Type 0
-  StepsBy slot after = Steps code labels (acts-went w slot after (after .acted .went))
+  StepsBy slot after = Steps code labels (acts-result w slot after (after .acted .result))
 
   -- ---- what an instruction's registers leave
 
-  by-registers : {did : RegistersResult} {stack : List ℕ} (slot : ℕ) (memory : List ℕ) (change : Change) → Good code labels did stack → StepsBy slot (on-all (acted (went-by (w .machine) did) change) stack memory (w .pool) (w .ends))
-  unfolding acts-went went-by
+  by-registers : {result : RegistersResult} {stack : List ℕ} (slot : ℕ) (memory : List ℕ) (change : Change) → Good code labels result stack → StepsBy slot (on-all (acted (settled-by (w .machine) result) change) stack memory (w .pool) (w .ends))
+  unfolding acts-result settled-by
   by-registers slot memory change (goes-on {registers = registers} long holds) = steps-to (settles (w .machine) registers _ _ memory (w .pool) (w .ends) (w .save) long main holds)
   by-registers slot memory change (may-end may) = may-stop may
 
-  by-creation : {did : RegistersResult} {stack : List ℕ} (slot : ℕ) (memory : List ℕ) (change : Change) → Good code labels did stack → StepsBy slot (on-all (acted (created (w .machine) did) change) stack memory (w .pool) (w .ends))
-  unfolding acts-went created
+  by-creation : {result : RegistersResult} {stack : List ℕ} (slot : ℕ) (memory : List ℕ) (change : Change) → Good code labels result stack → StepsBy slot (on-all (acted (created (w .machine) result) change) stack memory (w .pool) (w .ends))
+  unfolding acts-result created
   by-creation {stack = stack} slot memory change (goes-on {registers = registers} long holds) =
       let s = settles (w .machine) registers (w .table) stack memory (w .pool) (w .ends) (w .save) long main holds in
       steps-to (record { lent = s .lent; main = s .main; holds = s .holds })
@@ -102,7 +102,7 @@ module _ (w : World) (labels : ℕ → Label) (lent : length (w .stack) ≡ 1000
       let n : next ≡ here + 1 = behind-set code here e in
       let a : At code labels next kinds opens = subst (λ (i : ℕ). At code labels i kinds opens) (sym n) at in
       by-acting T-SET-FIELD slot inside e (omega arith)
-      (by-registers slot _ _ (subst (λ (k : ℕ). Good code labels (op-t-set-field (w .stack) (w .memory) (registers-at here k (w .machine .loops) (w .machine .memory)) next (getD (w .table) slot blank) .did) (w .stack)) (sym high)
+      (by-registers slot _ _ (subst (λ (k : ℕ). Good code labels (op-t-set-field (w .stack) (w .memory) (registers-at here k (w .machine .loops) (w .machine .memory)) next (getD (w .table) slot blank) .result) (w .stack)) (sym high)
       (set-good code labels here (w .machine .memory) next (w .stack) (w .memory) lent (w .machine .loops) (getD (w .table) slot blank) few top fielded a kinded looping)))
 
   -- ---- at an element's start
@@ -137,14 +137,14 @@ module _ (w : World) (labels : ℕ → Label) (lent : length (w .stack) ≡ 1000
     unchanged is-unchanged k = k
 
     -- END_CALL in main
-    end-call-is : op-end-call (w .machine) next ≡ went-by (w .machine) (Next (registers-at next (w .machine .height) (w .machine .loops) (w .machine .memory)))
-    unfolding op-end-call went-by registers-of
+    end-call-is : op-end-call (w .machine) next ≡ settled-by (w .machine) (Next (registers-at next (w .machine .height) (w .machine .loops) (w .machine .memory)))
+    unfolding op-end-call settled-by registers-of
     end-call-is = simp (le-leb (w .machine .frames .count) 1 (omega (arith, main .one-frame)))
 
     pub end-call-acts : (slot : ℕ) → getD code here 0 ≡ END-CALL → Steps code labels (acts w slot)
     unfolding on-frames whole-element plain-element moving-element
     end-call-acts slot e = by-kinds END-CALL Unchanged e refl refl (λ left s a. by-acting END-CALL slot inside e whole-here
-        (subst (λ (went : MachineResult). StepsBy slot (on-all (acted went (keep (getD (w .table) slot blank))) (w .stack) (w .memory) (w .pool) (w .ends))) (sym end-call-is)
+        (subst (λ (result : MachineResult). StepsBy slot (on-all (acted result (keep (getD (w .table) slot blank))) (w .stack) (w .memory) (w .pool) (w .ends))) (sym end-call-is)
         (by-registers slot (w .memory) (keep (getD (w .table) slot blank)) (goes-on lent (starts a (unchanged s kinded) looping)))))
 
     -- PUSH_CALLDATA
@@ -176,8 +176,8 @@ module _ (w : World) (labels : ℕ → Label) (lent : length (w .stack) ≡ 1000
 
     -- S_SAVE
     saved-steps : {answer : SaveResult} {left : List Kind} (save : List ℕ) → here + 1 ≡ next → Shape Unchanged kinds left → At code labels next left opens → SavesAs answer
-        → Steps code labels (saves-went w save (save-went (w .machine) answer))
-    unfolding saves-went save-went registers-of
+        → Steps code labels (saves-result w save (save-result (w .machine) answer))
+    unfolding saves-result save-result registers-of
     saved-steps {left = left} save n s a is-saved =
         let b : At code labels (here + 1) left opens = subst (λ (i : ℕ). At code labels i left opens) (sym n) a in
         let t = settles (w .machine) (moved (registers-of (w .machine)) (here + 1) (w .machine .height)) (w .table) (w .stack) (w .memory) (w .pool) (w .ends) save lent main (starts b (unchanged s kinded) looping) in

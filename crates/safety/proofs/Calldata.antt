@@ -17,7 +17,7 @@ use Rattle.mechanism.specs.Frames.{OnPool, intern-sized, intern-calldata, with-
 use Rattle.mechanism.specs.Act.{after-pool}
 use Rattle.machine.specs.World.{World, place}
 use Rattle.machine.specs.World as worlds
-use Rattle.mechanism.specs.Step.{acts-went}
+use Rattle.mechanism.specs.Step.{acts-result}
 use Rattle.mechanism.proofs.Settled.{current-changed}
 use Rattle.labels.specs.declared.Kind.{Kind}
 use Rattle.labels.specs.declared.Kind.the-variants.{Calldata}
@@ -34,7 +34,7 @@ module _ (w : World) (labels : ℕ → Label) (lent : length (w .stack) ≡ 1000
     (looping : Looping (worlds.code w) labels (w .machine .loops) opens) where
   -- what is to be shown of what PUSH_CALLDATA leaves
   abbrev Goal : OnPool → Type 0
-  Goal a = Steps (worlds.code w) labels (acts-went w slot (after-pool a (w .memory) task) (a .went))
+  Goal a = Steps (worlds.code w) labels (acts-result w slot (after-pool a (w .memory) task) (a .result))
 
   abbrev height : ℕ
   height = w .machine .height
@@ -45,7 +45,7 @@ module _ (w : World) (labels : ℕ → Label) (lent : length (w .stack) ≡ 1000
   -- the reference is pushed
   joined-steps : (calldata : List ℕ) → Joins (w .pool) (w .ends) (w .machine .pool) (w .machine .entries) calldata
       → Goal (calldata-pushed (w .stack) (w .machine) next (interned (w .pool) (w .ends) (w .machine .pool) (w .machine .entries) calldata) (new-entry (w .machine .entries) (w .machine .pool + length calldata)))
-  unfolding acts-went calldata-pushed with-entry settled registers-of
+  unfolding acts-result calldata-pushed with-entry settled registers-of
   joined-steps calldata j = steps-to (record {
     lent = length-set (w .stack) height (to-calldata-val (w .machine .entries)) ∙ lent;
     main = record {
@@ -63,7 +63,7 @@ module _ (w : World) (labels : ℕ → Label) (lent : length (w .stack) ≡ 1000
 
   interned-steps : (calldata : List ℕ)
       → Goal (calldata-pushed (w .stack) (w .machine) next (interned (w .pool) (w .ends) (w .machine .pool) (w .machine .entries) calldata) (interned (w .pool) (w .ends) (w .machine .pool) (w .machine .entries) calldata .answer))
-  unfolding acts-went calldata-pushed
+  unfolding acts-result calldata-pushed
   interned-steps calldata =
       on-bool (has-room (length (w .pool)) (w .machine .pool) (w .machine .entries) (length calldata))
       (λ held. let j = joins-one (w .pool) (w .ends) (w .machine .pool) (w .machine .entries) calldata (main .ends-lent) (main .pooled) held in

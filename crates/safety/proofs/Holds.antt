@@ -82,10 +82,10 @@ module _ (code : List ℕ) (labels : ℕ → Label) where
     may-end : {refusal : Refusal} {stack : List ℕ} → May refusal → Good (Refused refusal) stack
 
   abbrev pub GoodOn : OnStack → Type 0
-  GoodOn a = Good (a .did) (a .stack)
+  GoodOn a = Good (a .result) (a .stack)
 
   abbrev pub GoodIn : OnMemory → Type 0
-  GoodIn a = Good (a .did) (a .stack)
+  GoodIn a = Good (a .result) (a .stack)
 
   -- a value pushed
   pub push-good : {kind : Kind} {kinds : List Kind} {opens : List Open} (registers : Registers) (next height value : ℕ) (stack : List ℕ) → length stack ≡ 1000 → At next (kind ∷ kinds) opens

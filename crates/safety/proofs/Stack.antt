@@ -86,7 +86,7 @@ module _ (code : List ℕ) (labels : ℕ → Label) (place used next : ℕ) (sta
   unfolding op-jump-if-false jumped
   jump-good target few at there (more {height = h} a rest) looping =
       rw (popped stack h few)
-      (either (λ (did : RegistersResult). Good code labels did stack) (eqb (getD stack h 0) (to-bool-val false)) _ _ (goes-on lent (starts there rest looping)) (goes-on lent (starts at rest looping)))
+      (either (λ (result : RegistersResult). Good code labels result stack) (eqb (getD stack h 0) (to-bool-val false)) _ _ (goes-on lent (starts there rest looping)) (goes-on lent (starts at rest looping)))
 
   -- ---- the loops
 
@@ -116,12 +116,12 @@ module _ (code : List ℕ) (labels : ℕ → Label) (place used next : ℕ) (sta
   loop-good closing at kinded none-open = no-answer closing
   loop-good {kinds = kinds} {rest = rest} closing at kinded (one-open {outer = outer} (goes-back {left = left} back)) =
       let same = kinds-left kinds left [] rest closing in
-      either (λ (did : RegistersResult). Good code labels did stack) (ltb (outer .index + 1) (outer .limit)) _ _
+      either (λ (result : RegistersResult). Good code labels result stack) (ltb (outer .index + 1) (outer .limit)) _ _
       (goes-on lent (starts back (rw (same .0) at kinded) (one-open (goes-back back))))
       (goes-on lent (starts (rw (← same .1) at at) kinded none-open))
   loop-good {kinds = kinds} {rest = rest} closing at kinded (two-open {inner = inner} {first = first} outer (goes-back {left = left} back)) =
       let same = kinds-left kinds left (first ∷ []) rest closing in
-      either (λ (did : RegistersResult). Good code labels did stack) (ltb (inner .index + 1) (inner .limit)) _ _
+      either (λ (result : RegistersResult). Good code labels result stack) (ltb (inner .index + 1) (inner .limit)) _ _
       (goes-on lent (starts back (rw (same .0) at kinded) (two-open outer (goes-back back))))
       (goes-on lent (starts (rw (← same .1) at at) kinded (one-open outer)))
 

@@ -19,7 +19,7 @@ use Rattle.mechanism.specs.Registers.{settled}
 use Rattle.machine.specs.World.{World, world, place}
 use Rattle.machine.specs.World as worlds
 use Rattle.machine.specs.Words.{StepResult, next, refused}
-use Rattle.mechanism.specs.Step.{inner-did}
+use Rattle.mechanism.specs.Step.{inner-result}
 use Rattle.mechanism.proofs.Settled.{current-changed}
 use Rattle.labels.specs.Labels.{Label}
 use Rattle.safety.proofs.Rules.{on-bool}
@@ -81,8 +81,8 @@ settles {code} {labels} machine registers table stack memory pool ends save lent
 }
 
 -- an instruction that needs no task, frame or pool
-pub inner-steps : {code : List ℕ} {labels : ℕ → Label} {did : RegistersResult} {stack : List ℕ} (w : World) (memory : List ℕ) → Main code (w .machine .frames) (w .machine .pool) (w .machine .entries) (w .pool) (w .ends)
-    → Good code labels did stack → Steps code labels (inner-did w stack memory did)
-unfolding inner-did
+pub inner-steps : {code : List ℕ} {labels : ℕ → Label} {result : RegistersResult} {stack : List ℕ} (w : World) (memory : List ℕ) → Main code (w .machine .frames) (w .machine .pool) (w .machine .entries) (w .pool) (w .ends)
+    → Good code labels result stack → Steps code labels (inner-result w stack memory result)
+unfolding inner-result
 inner-steps w memory main (goes-on {registers = registers} lent holds) = steps-to (settles (w .machine) registers (w .table) _ memory (w .pool) (w .ends) (w .save) lent main holds)
 inner-steps w memory main (may-end may) = may-stop may

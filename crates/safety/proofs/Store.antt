@@ -119,7 +119,7 @@ module _ (code : List ℕ) (labels : ℕ → Label) (next : ℕ) (stack memory :
   mutated-good registers at kinded looping (not-changed may) = may-end may
 
   pub m-muta-good : {height : ℕ} {kinds left : List Kind} {opens : List Open} (place used : ℕ) (loops : Loops) → height ≤ 1000 → Shape Changes kinds left → At code labels next left opens
-      → Kinded stack height kinds → Looping code labels loops opens → Good code labels (op-m-muta stack memory (registers-at place height loops used) next .did) stack
+      → Kinded stack height kinds → Looping code labels loops opens → Good code labels (op-m-muta stack memory (registers-at place height loops used) next .result) stack
   unfolding op-m-muta mutate-two mutate-last mutate mutate-at mut-in-use to-fat-pointer
   m-muta-good place used loops few (is-changes {kind = kind} vectors) at (more a (more b (more {height = h} c rest))) looping =
       let v = vector-of (getD stack h 0) kind vectors c in

@@ -59,7 +59,7 @@ field-of-is stack h task few e fielded =
 module _ (code : List ℕ) (labels : ℕ → Label) (place used next : ℕ) (stack memory : List ℕ) (lent : length stack ≡ 1000) (loops : Loops) (task : Task) where
   -- what an instruction on a task did
   abbrev GoodTasked : RegistersAndChange → Type 0
-  GoodTasked t = Good code labels (t .did) stack
+  GoodTasked t = Good code labels (t .result) stack
 
   -- ---- T_CREATE
 

@@ -267,7 +267,7 @@ module _ (stack memory code : List ℕ) (registers : Registers) (count : ℕ) wh
     unfolding by-extent stored-by
     other-by (extents.Next next) = sym (executed-other stack memory code registers next op-at count no-plain no-equality no-number no-byte)
     other-by extents.Cut =
-        ap (λ (did : RegistersResult). on-memory did stack memory) (sym (cut-other stack memory code registers 0 op-at count no-plain no-equality no-number no-byte))
+        ap (λ (result : RegistersResult). on-memory result stack memory) (sym (cut-other stack memory code registers 0 op-at count no-plain no-equality no-number no-byte))
 
     pub instruct-other : whole-or-cut stack memory code registers op-at ≡ instruct stack memory code registers count
     unfolding instruct whole-or-cut

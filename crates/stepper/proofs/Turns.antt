@@ -38,15 +38,15 @@ module _ (stack memory code : List ℕ) (registers : Registers) (count : ℕ) wh
       → on-memory (Refused refusal) s m ≡ instruct stack memory code registers count
       → halted (halt.Refused refusal) fuel registers s m ≡ steps fuel stack memory code registers count
   unfolding steps turn onward
-  refused zero refusal s m some inside inner did = absurd (some refl)
-  refused (suc fuel) refusal s m some inside inner did = simp (lt-ltb _ _ inside, inner, ← did)
+  refused zero refusal s m some inside inner result = absurd (some refl)
+  refused (suc fuel) refusal s m some inside inner result = simp (lt-ltb _ _ inside, inner, ← result)
 
   -- an instruction that is finished
   pub finished : (fuel less : ℕ) (next : Registers) (s m : List ℕ) → (fuel ≡ 0 → ⊥) → less ≡ fuel - 1 → registers .place < length code → is-outer (getD code (registers .place) 0) ≡ false
       → on-memory (Next next) s m ≡ instruct stack memory code registers count
       → steps less s m code next count ≡ steps fuel stack memory code registers count
   unfolding steps turn onward
-  finished zero less next s m some one inside inner did = absurd (some refl)
-  finished (suc fuel) less next s m some one inside inner did =
+  finished zero less next s m some one inside inner result = absurd (some refl)
+  finished (suc fuel) less next s m some one inside inner result =
       let same : less ≡ fuel = omega arith in
-      simp (lt-ltb _ _ inside, inner, ← did, same)
+      simp (lt-ltb _ _ inside, inner, ← result, same)

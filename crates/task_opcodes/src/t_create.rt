@@ -1,4 +1,4 @@
-// T_CREATE.
+// T_CREATE: the record of a new task, from its title, its state count and its instructions.
 ghost use mathlib.Core.Path.{_≡_};
 ghost use Rattle.mechanism.specs.Create.{new, titled, op-t-create};
 use crate::titles::within;
@@ -40,7 +40,7 @@ fn new(
             RoomResult::Room => {
                 let title = memory::reads::get_slice_bytes(memory, pointer);
                 RegistersAndChange {
-                    did: RegistersResult::Next(after),
+                    result: RegistersResult::Next(after),
                     change: put(storage::task_types::new_task(id, title, state, instructions_ref)),
                 }
             }

@@ -1,4 +1,4 @@
-// T_DELETE.
+// T_DELETE: the slot of a task becomes blank.
 ghost use mathlib.Core.Path.{_≡_};
 ghost use Rattle.mechanism.specs.Create.{op-t-delete};
 use inlinevec::PopResult;
@@ -27,7 +27,7 @@ pub fn op_t_delete(
             match storage::ids::find(task, TaskId(values::to_u32(value))) {
                 FindResult::NotFound(refusal) => refused(task, refusal),
                 FindResult::Found => RegistersAndChange {
-                    did: RegistersResult::Next(moved(registers, next, height)),
+                    result: RegistersResult::Next(moved(registers, next, height)),
                     change: put(storage::task_types::blank()),
                 },
             }

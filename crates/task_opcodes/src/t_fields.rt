@@ -133,7 +133,7 @@ fn set_title(memory: &[u8], after: Registers, pointer: FatPointer, task: Task) -
                 task.instructions_ref,
             );
             RegistersAndChange {
-                did: RegistersResult::Next(after),
+                result: RegistersResult::Next(after),
                 change: put(titled),
             }
         }
@@ -149,7 +149,7 @@ fn set_state(after: Registers, state: u32, task: Task) -> RegistersAndChange
     match answer {
         StateResult::NotSet(refusal) => refused(task, refusal),
         StateResult::Set => RegistersAndChange {
-            did: RegistersResult::Next(after),
+            result: RegistersResult::Next(after),
             change: restate(task, state),
         },
     }
@@ -166,7 +166,7 @@ fn set_instructions(
     let mut changed = task;
     changed.instructions_ref = instructions_ref;
     RegistersAndChange {
-        did: RegistersResult::Next(after),
+        result: RegistersResult::Next(after),
         change: put(changed),
     }
 }

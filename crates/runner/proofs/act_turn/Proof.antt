@@ -52,8 +52,8 @@ use Rattle.mechanism.specs.Turns.{turned as turned-of}
 use Rattle.mechanism.specs.declared.StateAnswer.{StateAnswer}
 use Rattle.runner.specs.Going.{acting, task-turn, slot-at, act-turn, returned as returned-of, entering, call-turn}
 use Rattle.runner.specs.States.{stated as stated-of, restated}
-use Rattle.mechanism.proofs.Values.{machine-shut, machine-vals, progress-shut, progress-vals, went-shut, went-vals, stated-shut, stated-vals}
-use Rattle.mechanism.proofs.Fields.{machine-is, left-fits, op-fits, stated-went-is, take-machine, take-left, take-op, take-whole, take-stated-went, is-true, is-false}
+use Rattle.mechanism.proofs.Values.{machine-shut, machine-vals, progress-shut, progress-vals, machine-result-shut, machine-result-vals, stated-shut, stated-vals}
+use Rattle.mechanism.proofs.Fields.{machine-is, left-fits, op-fits, stated-result-is, take-machine, take-left, take-op, take-whole, take-stated-result, is-true, is-false}
 use Rattle.runner.proofs.Turns.{acts-returning, acts-calling, acts-whole, acts-stating}
 use Rattle.runner.proofs.wanted.slot_of.Symbol.{name as #names}
 use Rattle.runner.proofs.progress.returned.Symbol.{name as #leaves}
@@ -67,7 +67,7 @@ use Rattle.runner.proofs.act_turn.Key.{name as #this}
 use Rattle.storage.proofs.Task as task
 use Rattle.storage.proofs.Task.Laws as task-laws
 use Rattle.machine.proofs.Machine as machine
-use Rattle.mechanism.proofs.MachineResult as went
+use Rattle.mechanism.proofs.MachineResult as machine-result
 use Rattle.mechanism.proofs.Progress as progress
 use Rattle.mechanism.proofs.StateAnswer as told
 use Rattle.runner.proofs.wanted.slot_of as names
@@ -100,7 +100,7 @@ use Rattle.runner.proofs.act_turn.Code as code
 use Rattle.runner.proofs.act_turn.Code.Mir as mir
 open Shut progress-shut using (val as progress-val, ty as progress-ty, tells as progress-tells, makes as progress-makes, typed as progress-typed)
 open Shut machine-shut using (makes as machine-makes)
-open Shut went-shut using (makes as went-makes)
+open Shut machine-result-shut using (makes as machine-result-makes)
 open Shut stated-shut using (val as told-val, ty as told-ty, tells as told-tells, makes as told-makes, typed as told-typed)
 
 abbrev stayed : Stays (f.ended .signature .params) (f.ended .kept)
@@ -208,7 +208,7 @@ module _ {M : Type 1} (𝓤 : URA M) (H : Heap 𝓤) (A : Atoms 𝓤) (W : Given
       whole-or-not : (slot : ℕ) (t : Task) (s : StateAnswer) (ts : List Task) (st st′ : List ℕ) → slot < 2 ^ 64 → Is told.the-row s (stated-vals s) → length ts ≡ n₀ → eqb (g .op) END-CALL ≡ false → eqb (g .op) CALL ≡ false
           → after slot st ≡ after (slot-at x₁ g) x₁ → after t ts ≡ after (getD x₀ slot blank) x₀ → after s st′ ≡ stated-of st (g .machine) (g .op) t
           → Sq W (Has ts st′ x₂ x₃ x₄ (‵ (froom (sliceTy (tyRef erased mut table-ty)) l₃₀ 0) ∷ ‵ (fdies (sliceTy (tyRef erased mut table-ty)) l₃₀) ∷ ‵ (froom (tyRef erased mut table-ty) l₂₉ 0) ∷ ‵ (fdies (tyRef erased mut table-ty) l₂₉) ∷ ‵ (froom tyUnit l₂₈ 0) ∷ ‵ (fdies tyUnit l₂₈) ∷ ‵ (froom (tyRef erased mut (tyArray (tyInt w32) 1024)) l₂₇ 0) ∷ ‵ (fdies (tyRef erased mut (tyArray (tyInt w32) 1024)) l₂₇) ∷ ‵ (froom (sliceTy (tyRef erased mut (tyInt w8))) l₂₆ 0) ∷ ‵ (fdies (sliceTy (tyRef erased mut (tyInt w8))) l₂₆) ∷ ‵ (froom (tyRef erased mut (tyInt w8)) l₂₅ 0) ∷ ‵ (fdies (tyRef erased mut (tyInt w8)) l₂₅) ∷ ‵ (froom (sliceTy (tyRef erased mut (tyInt w8))) l₂₄ 0) ∷ ‵ (fdies (sliceTy (tyRef erased mut (tyInt w8))) l₂₄) ∷ ‵ (froom (tyRef erased mut (tyInt w8)) l₂₃ 0) ∷ ‵ (fdies (tyRef erased mut (tyInt w8)) l₂₃) ∷ ‵ (froom (tyRef erased mut (tyArray (tyInt w64) 1000)) l₂₂ 0) ∷ ‵ (fdies (tyRef erased mut (tyArray (tyInt w64) 1000)) l₂₂) ∷ ‵ (froom (sliceTy (tyRef erased mut table-ty)) l₂₁ 0) ∷ ‵ (fdies (sliceTy (tyRef erased mut table-ty)) l₂₁) ∷ ‵ (froom (tyRef erased mut table-ty) l₂₀ 0) ∷ ‵ (fdies (tyRef erased mut table-ty) l₂₀) ∷ ‵ (froom (tyRef erased mut (tyArray (tyInt w64) 1000)) l₁₉ 0) ∷ ‵ (fdies (tyRef erased mut (tyArray (tyInt w64) 1000)) l₁₉) ∷ ‵ (froom (sliceTy (tyRef erased mut table-ty)) l₁₈ 0) ∷ ‵ (fdies (sliceTy (tyRef erased mut table-ty)) l₁₈) ∷ ‵ (froom (tyRef erased mut table-ty) l₁₇ 0) ∷ ‵ (fdies (tyRef erased mut table-ty) l₁₇) ∷ ‵ (froom (tyRef erased mut (tyArray (tyInt w64) 1000)) l₁₆ 0) ∷ ‵ (fdies (tyRef erased mut (tyArray (tyInt w64) 1000)) l₁₆) ∷ ‵ (froom (tyRef erased mut (tyArray (tyInt w32) 1024)) l₁₅ 0) ∷ ‵ (fdies (tyRef erased mut (tyArray (tyInt w32) 1024)) l₁₅) ∷ ‵ (froom (tyRef erased mut (tyArray (tyInt w64) 1000)) l₁₄ 0) ∷ ‵ (fdies (tyRef erased mut (tyArray (tyInt w64) 1000)) l₁₄) ∷ ‵ (froom (sliceTy (tyRef erased mut table-ty)) l₁₃ 0) ∷ ‵ (fdies (sliceTy (tyRef erased mut table-ty)) l₁₃) ∷ ‵ (froom (tyRef erased mut table-ty) l₁₂ 0) ∷ ‵ (fdies (tyRef erased mut table-ty) l₁₂) ∷ ‵ (fat fullShare tyBool l₁₁ 0 (vbool (s .whole))) ∷ ‵ (fdies tyBool l₁₁) ∷ ‵ (fat fullShare told-ty l₁₀ 0 (told-val s)) ∷ ‵ (fdies told-ty l₁₀) ∷ ‵ (froom task-laws.mir l₉ 0) ∷ ‵ (fdies task-laws.mir l₉) ∷ ‵ (fat fullShare (tyInt w64) l₈ 0 (vint w64 slot)) ∷ ‵ (fdies (tyInt w64) l₈) ∷ ‵ (fat fullShare (tyInt w8) l₇ 0 (vint w8 (g .op))) ∷ ‵ (fdies (tyInt w8) l₇) ∷ ‵ (fat fullShare progress-ty l₆ 0 (progress-val g)) ∷ ‵ (fdies progress-ty l₆) ∷ ‵ (fat fullShare (tyRef (named 4) mut (tyArray (tyInt w32) 1024)) l₅ 0 (vptr b₄ o₄)) ∷ ‵ (fdies (tyRef (named 4) mut (tyArray (tyInt w32) 1024)) l₅) ∷ ‵ (fat fullShare (sliceTy (tyRef (named 3) mut (tyInt w8))) l₄ 0 (sliceVal (b₃, o₃) n₃)) ∷ ‵ (fdies (sliceTy (tyRef (named 3) mut (tyInt w8))) l₄) ∷ ‵ (fat fullShare (sliceTy (tyRef (named 2) mut (tyInt w8))) l₃ 0 (sliceVal (b₂, o₂) n₂)) ∷ ‵ (fdies (sliceTy (tyRef (named 2) mut (tyInt w8))) l₃) ∷ ‵ (fat fullShare (tyRef (named 1) mut (tyArray (tyInt w64) 1000)) l₂ 0 (vptr b₁ o₁)) ∷ ‵ (fdies (tyRef (named 1) mut (tyArray (tyInt w64) 1000)) l₂) ∷ ‵ (fat fullShare (sliceTy (tyRef (named 0) mut table-ty)) l₁ 0 (sliceVal (b₀, o₀) n₀)) ∷ ‵ (fdies (sliceTy (tyRef (named 0) mut table-ty)) l₁) ∷ ‵ (froom progress-ty l₀ 0) ∷ ‵ (fdies progress-ty l₀) ∷ [])) (runs C Λ En mir.t-14 (atRet En Post))
-      whole-or-not slot t s ts st st′ fits s-is m₀ not-end not-call names read did =
+      whole-or-not slot t s ts st st′ fits s-is m₀ not-end not-call names read result =
           first ! $ branches ! (load ! (from ! (stop !)) (look ! 40 refl))
           (λ yes.
           assigns ! (addr ! (from ! (fld ! refl (hop ! (look-in ! 60 (sub ! 0 refl (whole !))) (stop !))))) (from ! (stop !)) (init ! 22 refl (tt, tt)) $
@@ -225,7 +225,7 @@ module _ {M : Type 1} (𝓤 : URA M) (H : Heap 𝓤) (A : Atoms 𝓤) (W : Given
           (λ αs δs w₁ r₁ z₁ f₁. heard ! (acting r₁ (z₁ .0) (z₁ .1 .0) (z₁ .1 .1 .0) (z₁ .1 .1 .1 .0) (z₁ .1 .1 .1 .1 .0) ≡ task-turn ts st′ x₂ x₃ x₄ g) (λ e₁. landed-by ! progress.the-row progress-vals progress-tells r₁ w₁ (λ is₁.
           land ! (from ! (stop !)) (init ! 62 refl (progress-typed 𝓤 H A W r₁ is₁)) $
           returns-within ! Post refl (look ! 62 refl) $ emptied ! refl $
-          ends r₁ (z₁ .0) (z₁ .1 .0) (z₁ .1 .1 .0) (z₁ .1 .1 .1 .0) (z₁ .1 .1 .1 .1 .0) is₁ (f₁ .0) (f₁ .1 .1 .0) (f₁ .1 .1 .1 .0) (acts-whole x₀ x₁ x₂ x₃ x₄ g not-end not-call names read did (is-true (s .whole) yes) e₁)))))
+          ends r₁ (z₁ .0) (z₁ .1 .0) (z₁ .1 .1 .0) (z₁ .1 .1 .1 .0) (z₁ .1 .1 .1 .1 .0) is₁ (f₁ .0) (f₁ .1 .1 .0) (f₁ .1 .1 .1 .0) (acts-whole x₀ x₁ x₂ x₃ x₄ g not-end not-call names read result (is-true (s .whole) yes) e₁)))))
           (λ no. skips ! $ exec ! C Λ En mir.t-15 (atRet En Post) $
           assigns ! (addr ! (from ! (fld ! refl (hop ! (look-in ! 60 (sub ! 0 refl (whole !))) (stop !))))) (from ! (stop !)) (init ! 4 refl (tt, tt)) $
           assigns ! (agg ! (and-then ! (load ! (from ! (stop !)) (look ! 4 refl)) (and-then ! (load ! (from ! (fld ! refl (stop !))) (look-in ! 60 (sub ! 1 refl (whole !)))) (no-more !)))) (from ! (stop !)) (init ! 2 refl (tt, (tt, (record { fits = g₀ .0 }, tt)))) $
@@ -235,13 +235,13 @@ module _ {M : Type 1} (𝓤 : URA M) (H : Heap 𝓤) (A : Atoms 𝓤) (W : Given
           (λ αs δs w₁ r₁ z₁ f₁. heard ! (z₁ .0 ≡ restated ts slot s) (λ e₁.
           peeks ! unit (Is unit) (shows 𝓤 H A unit) r₁ (w₁ ∷ []) (λ is₁. drop ! $ land ! (from ! (stop !)) (init ! 6 refl (nothing-lawful 𝓤 H A W .typed r₁ _ is₁ .0)) $
           nothing ! $ nothing ! $
-          lent 0 [] tt (machine.the-row ∷ u64 ∷ went.the-row ∷ []) progress.the-row 𝓤 (turns.clauses 𝓤 H A at-mem run) tt (g .machine, (g .left, (s .went, tt))) (machine-vals (g .machine), (vint w64 (g .left) ∷ [], (went-vals (s .went), tt))) ! (fmOf 𝓤 H (W .laws) 𝓣) known-turns
-          tt tt (machine-makes 𝓤 H A (g .machine) _ (machine-is g g-is), (uint-makes 𝓤 H A W w64 (g .left) _ (refl, left-fits g g-is), (went-makes 𝓤 H A (s .went) _ (stated-went-is s s-is), tt))) (λ αs δs. tt) (λ αs δs. id⊢ 𝓤 (emp 𝓤))
-          (λ αs δs. (and-then ! (take-machine ! 6 52 g refl refl) (and-then ! (take-left ! 6 52 g refl refl) (and-then ! (take-stated-went ! 10 44 s refl refl) (no-more !)))))
-          (λ αs δs w₂ r₂ z₂ f₂. heard ! (r₂ ≡ turned-of (g .machine) (g .left) (s .went)) (λ e₂. landed-by ! progress.the-row progress-vals progress-tells r₂ w₂ (λ is₂.
+          lent 0 [] tt (machine.the-row ∷ u64 ∷ machine-result.the-row ∷ []) progress.the-row 𝓤 (turns.clauses 𝓤 H A at-mem run) tt (g .machine, (g .left, (s .result, tt))) (machine-vals (g .machine), (vint w64 (g .left) ∷ [], (machine-result-vals (s .result), tt))) ! (fmOf 𝓤 H (W .laws) 𝓣) known-turns
+          tt tt (machine-makes 𝓤 H A (g .machine) _ (machine-is g g-is), (uint-makes 𝓤 H A W w64 (g .left) _ (refl, left-fits g g-is), (machine-result-makes 𝓤 H A (s .result) _ (stated-result-is s s-is), tt))) (λ αs δs. tt) (λ αs δs. id⊢ 𝓤 (emp 𝓤))
+          (λ αs δs. (and-then ! (take-machine ! 6 52 g refl refl) (and-then ! (take-left ! 6 52 g refl refl) (and-then ! (take-stated-result ! 10 44 s refl refl) (no-more !)))))
+          (λ αs δs w₂ r₂ z₂ f₂. heard ! (r₂ ≡ turned-of (g .machine) (g .left) (s .result)) (λ e₂. landed-by ! progress.the-row progress-vals progress-tells r₂ w₂ (λ is₂.
           drop ! $ drop ! $ land ! (from ! (stop !)) (init ! 62 refl (progress-typed 𝓤 H A W r₂ is₂)) $
           returns ! (look ! 62 refl) $ emptied ! refl $
-          ends r₂ (z₁ .0) st′ x₂ x₃ x₄ is₂ (f₁ .0) refl refl (acts-stating x₀ x₁ x₂ x₃ x₄ g not-end not-call names read did (is-false (s .whole) no) e₁ e₂))))))))
+          ends r₂ (z₁ .0) st′ x₂ x₃ x₄ is₂ (f₁ .0) refl refl (acts-stating x₀ x₁ x₂ x₃ x₄ g not-end not-call names read result (is-false (s .whole) no) e₁ e₂))))))))
 
       -- behind a test
       abbrev At : Bool → List (Item 𝓤)

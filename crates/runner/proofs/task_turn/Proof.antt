@@ -51,8 +51,8 @@ use Rattle.mechanism.specs.declared.Progress.{Progress}
 use Rattle.mechanism.specs.Act.{on-all, act as act-of}
 use Rattle.mechanism.specs.Turns.{turned as turned-of}
 use Rattle.runner.specs.Going.{acting, slot-at, task-turn}
-use Rattle.mechanism.proofs.Values.{machine-shut, change-shut, acted-shut, acted-vals, progress-shut, progress-vals, went-shut}
-use Rattle.mechanism.proofs.Fields.{went-is, change-is, machine-is, left-fits, take-machine, take-left, take-went, take-change}
+use Rattle.mechanism.proofs.Values.{machine-shut, change-shut, acted-shut, acted-vals, progress-shut, progress-vals, machine-result-shut}
+use Rattle.mechanism.proofs.Fields.{result-is, change-is, machine-is, left-fits, take-machine, take-left, take-result, take-change}
 use Rattle.runner.proofs.Turns.{task-turns}
 use Rattle.runner.proofs.wanted.slot_of.Symbol.{name as #names}
 use Rattle.table.proofs.get.Symbol.{name as #get}
@@ -64,7 +64,7 @@ use Rattle.storage.proofs.Task as task
 use Rattle.storage.proofs.Task.Laws as task-laws
 use Rattle.machine.proofs.Machine as machine
 use Rattle.mechanism.proofs.Change as change
-use Rattle.mechanism.proofs.MachineResult as went
+use Rattle.mechanism.proofs.MachineResult as machine-result
 use Rattle.mechanism.proofs.MachineAndChange as acted
 use Rattle.mechanism.proofs.Progress as progress
 use Rattle.runner.proofs.wanted.slot_of as names
@@ -90,7 +90,7 @@ open Shut machine-shut using (val as machine-val, makes as machine-makes)
 open Shut change-shut using (val as change-val, makes as change-makes)
 open Shut acted-shut using (val as acted-val, ty as acted-ty, tells as acted-tells, typed as acted-typed)
 open Shut progress-shut using (val as progress-val, ty as progress-ty, tells as progress-tells, makes as progress-makes, typed as progress-typed)
-open Shut went-shut using (val as went-val, makes as went-makes)
+open Shut machine-result-shut using (val as machine-result-val, makes as machine-result-makes)
 
 abbrev stayed : Stays (f.ended .signature .params) (f.ended .kept)
 stayed = (stay-slice (0 ∷ []) tt (plain (λ _. R)), (stay-ref (1 ∷ []) tt (plain (λ _. Array u64 1000)), (stay-slice (2 ∷ []) tt (plain (λ _. u8)), (stay-slice (3 ∷ []) tt (plain (λ _. u8)), (stay-ref (4 ∷ []) tt (plain (λ _. Array u32 1024)), (stay-none (λ _. progress.the-row) yes, tt))))))
@@ -188,7 +188,7 @@ module _ {M : Type 1} (𝓤 : URA M) (H : Heap 𝓤) (A : Atoms 𝓤) (W : Given
       changes : (slot : ℕ) (t : Task) (a : MachineAndChange) (ts : List Task) (st st′ me po en : List ℕ) → slot < 2 ^ 64 → Is acted.the-row a (acted-vals a) → length ts ≡ n₀ → length me ≡ n₂ → length po ≡ n₃
           → after slot st ≡ after (slot-at x₁ g) x₁ → after t ts ≡ after (getD x₀ slot blank) x₀ → on-all a st′ me po en ≡ act-of st x₂ x₃ x₄ (g .machine) t
           → Sq W (Has ts st′ me po en (‵ (froom (sliceTy (tyRef erased mut table-ty)) l₂₁ 0) ∷ ‵ (fdies (sliceTy (tyRef erased mut table-ty)) l₂₁) ∷ ‵ (froom (tyRef erased mut table-ty) l₂₀ 0) ∷ ‵ (fdies (tyRef erased mut table-ty) l₂₀) ∷ ‵ (froom tyUnit l₁₉ 0) ∷ ‵ (fdies tyUnit l₁₉) ∷ ‵ (froom (tyRef erased mut (tyArray (tyInt w32) 1024)) l₁₈ 0) ∷ ‵ (fdies (tyRef erased mut (tyArray (tyInt w32) 1024)) l₁₈) ∷ ‵ (froom (sliceTy (tyRef erased mut (tyInt w8))) l₁₇ 0) ∷ ‵ (fdies (sliceTy (tyRef erased mut (tyInt w8))) l₁₇) ∷ ‵ (froom (tyRef erased mut (tyInt w8)) l₁₆ 0) ∷ ‵ (fdies (tyRef erased mut (tyInt w8)) l₁₆) ∷ ‵ (froom (sliceTy (tyRef erased mut (tyInt w8))) l₁₅ 0) ∷ ‵ (fdies (sliceTy (tyRef erased mut (tyInt w8))) l₁₅) ∷ ‵ (froom (tyRef erased mut (tyInt w8)) l₁₄ 0) ∷ ‵ (fdies (tyRef erased mut (tyInt w8)) l₁₄) ∷ ‵ (froom (tyRef erased mut (tyArray (tyInt w64) 1000)) l₁₃ 0) ∷ ‵ (fdies (tyRef erased mut (tyArray (tyInt w64) 1000)) l₁₃) ∷ ‵ (froom (sliceTy (tyRef erased mut table-ty)) l₁₂ 0) ∷ ‵ (fdies (sliceTy (tyRef erased mut table-ty)) l₁₂) ∷ ‵ (froom (tyRef erased mut table-ty) l₁₁ 0) ∷ ‵ (fdies (tyRef erased mut table-ty) l₁₁) ∷ ‵ (froom (tyRef erased mut (tyArray (tyInt w64) 1000)) l₁₀ 0) ∷ ‵ (fdies (tyRef erased mut (tyArray (tyInt w64) 1000)) l₁₀) ∷ ‵ (fat fullShare acted-ty l₉ 0 (acted-val a)) ∷ ‵ (fdies acted-ty l₉) ∷ ‵ (froom task-laws.mir l₈ 0) ∷ ‵ (fdies task-laws.mir l₈) ∷ ‵ (fat fullShare (tyInt w64) l₇ 0 (vint w64 slot)) ∷ ‵ (fdies (tyInt w64) l₇) ∷ ‵ (fat fullShare progress-ty l₆ 0 (progress-val g)) ∷ ‵ (fdies progress-ty l₆) ∷ ‵ (fat fullShare (tyRef (named 4) mut (tyArray (tyInt w32) 1024)) l₅ 0 (vptr b₄ o₄)) ∷ ‵ (fdies (tyRef (named 4) mut (tyArray (tyInt w32) 1024)) l₅) ∷ ‵ (fat fullShare (sliceTy (tyRef (named 3) mut (tyInt w8))) l₄ 0 (sliceVal (b₃, o₃) n₃)) ∷ ‵ (fdies (sliceTy (tyRef (named 3) mut (tyInt w8))) l₄) ∷ ‵ (fat fullShare (sliceTy (tyRef (named 2) mut (tyInt w8))) l₃ 0 (sliceVal (b₂, o₂) n₂)) ∷ ‵ (fdies (sliceTy (tyRef (named 2) mut (tyInt w8))) l₃) ∷ ‵ (fat fullShare (tyRef (named 1) mut (tyArray (tyInt w64) 1000)) l₂ 0 (vptr b₁ o₁)) ∷ ‵ (fdies (tyRef (named 1) mut (tyArray (tyInt w64) 1000)) l₂) ∷ ‵ (fat fullShare (sliceTy (tyRef (named 0) mut table-ty)) l₁ 0 (sliceVal (b₀, o₀) n₀)) ∷ ‵ (fdies (sliceTy (tyRef (named 0) mut table-ty)) l₁) ∷ ‵ (froom progress-ty l₀ 0) ∷ ‵ (fdies progress-ty l₀) ∷ [])) (runs C Λ En mir.t-13 (atRet En Post))
-      changes slot t a ts st st′ me po en fits a-is m₀ m₂ m₃ names read did =
+      changes slot t a ts st st′ me po en fits a-is m₀ m₂ m₃ names read result =
           assigns ! (addr ! (from ! (fld ! refl (hop ! (look-in ! 42 (sub ! 0 refl (whole !))) (stop !))))) (from ! (stop !)) (init ! 4 refl (tt, tt)) $
           assigns ! (agg ! (and-then ! (load ! (from ! (stop !)) (look ! 4 refl)) (and-then ! (load ! (from ! (fld ! refl (stop !))) (look-in ! 42 (sub ! 1 refl (whole !)))) (no-more !)))) (from ! (stop !)) (init ! 2 refl (tt, (tt, (record { fits = g₀ .0 }, tt)))) $
           lent-some 1 All Table (tt, tt) (usize ∷ change.the-row ∷ []) unit 𝓤 (apply.clauses 𝓤 H A at-mem run) (ts, (st′, (me, (po, (en, tt))))) (slot, (a .change, tt)) (vint w64 slot ∷ [], (change-val (a .change) ∷ [], tt)) ! (fmOf 𝓤 H (W .laws) 𝓣) known-apply
@@ -197,13 +197,13 @@ module _ {M : Type 1} (𝓤 : URA M) (H : Heap 𝓤) (A : Atoms 𝓤) (W : Given
           (λ αs δs w₃ r₃ z₃ f₃. heard ! (z₃ .0 ≡ applied ts slot (a .change)) (λ e₃.
           peeks ! unit (Is unit) (shows 𝓤 H A unit) r₃ (w₃ ∷ []) (λ is₃. drop ! $ land ! (from ! (stop !)) (init ! 6 refl (nothing-lawful 𝓤 H A W .typed r₃ _ is₃ .0)) $
           nothing ! $ nothing ! $
-          lent 0 [] tt (machine.the-row ∷ u64 ∷ went.the-row ∷ []) progress.the-row 𝓤 (turned.clauses 𝓤 H A at-mem run) tt (g .machine, (g .left, (a .went, tt))) (machine-val (g .machine) ∷ [], (vint w64 (g .left) ∷ [], (went-val (a .went) ∷ [], tt))) ! (fmOf 𝓤 H (W .laws) 𝓣) known-turned
-          tt tt (machine-makes 𝓤 H A (g .machine) _ (machine-is g g-is), (uint-makes 𝓤 H A W w64 (g .left) _ (refl, left-fits g g-is), (went-makes 𝓤 H A (a .went) _ (went-is a a-is), tt))) (λ αs δs. tt) (λ αs δs. id⊢ 𝓤 (emp 𝓤))
-          (λ αs δs. (and-then ! (take-machine ! 6 34 g refl refl) (and-then ! (take-left ! 6 34 g refl refl) (and-then ! (take-went ! 9 28 a refl refl) (no-more !)))))
-          (λ αs δs w₄ r₄ z₄ f₄. heard ! (r₄ ≡ turned-of (g .machine) (g .left) (a .went)) (λ e₄. landed-by ! progress.the-row progress-vals progress-tells r₄ w₄ (λ is₄.
+          lent 0 [] tt (machine.the-row ∷ u64 ∷ machine-result.the-row ∷ []) progress.the-row 𝓤 (turned.clauses 𝓤 H A at-mem run) tt (g .machine, (g .left, (a .result, tt))) (machine-val (g .machine) ∷ [], (vint w64 (g .left) ∷ [], (machine-result-val (a .result) ∷ [], tt))) ! (fmOf 𝓤 H (W .laws) 𝓣) known-turned
+          tt tt (machine-makes 𝓤 H A (g .machine) _ (machine-is g g-is), (uint-makes 𝓤 H A W w64 (g .left) _ (refl, left-fits g g-is), (machine-result-makes 𝓤 H A (a .result) _ (result-is a a-is), tt))) (λ αs δs. tt) (λ αs δs. id⊢ 𝓤 (emp 𝓤))
+          (λ αs δs. (and-then ! (take-machine ! 6 34 g refl refl) (and-then ! (take-left ! 6 34 g refl refl) (and-then ! (take-result ! 9 28 a refl refl) (no-more !)))))
+          (λ αs δs w₄ r₄ z₄ f₄. heard ! (r₄ ≡ turned-of (g .machine) (g .left) (a .result)) (λ e₄. landed-by ! progress.the-row progress-vals progress-tells r₄ w₄ (λ is₄.
           drop ! $ drop ! $ land ! (from ! (stop !)) (init ! 44 refl (progress-typed 𝓤 H A W r₄ is₄)) $
           returns ! (look ! 44 refl) $ emptied ! refl $
-          ends r₄ (z₃ .0) st′ me po en is₄ (f₃ .0) m₂ m₃ (task-turns x₀ x₁ x₂ x₃ x₄ g names read did e₃ e₄)))))))
+          ends r₄ (z₃ .0) st′ me po en is₄ (f₃ .0) m₂ m₃ (task-turns x₀ x₁ x₂ x₃ x₄ g names read result e₃ e₄)))))))
 
       -- the slot is named and read, and the instruction done
       steps : Sq W (Has x₀ x₁ x₂ x₃ x₄ (‵ (froom (sliceTy (tyRef erased mut table-ty)) l₂₁ 0) ∷ ‵ (fdies (sliceTy (tyRef erased mut table-ty)) l₂₁) ∷ ‵ (froom (tyRef erased mut table-ty) l₂₀ 0) ∷ ‵ (fdies (tyRef erased mut table-ty) l₂₀) ∷ ‵ (froom tyUnit l₁₉ 0) ∷ ‵ (fdies tyUnit l₁₉) ∷ ‵ (froom (tyRef erased mut (tyArray (tyInt w32) 1024)) l₁₈ 0) ∷ ‵ (fdies (tyRef erased mut (tyArray (tyInt w32) 1024)) l₁₈) ∷ ‵ (froom (sliceTy (tyRef erased mut (tyInt w8))) l₁₇ 0) ∷ ‵ (fdies (sliceTy (tyRef erased mut (tyInt w8))) l₁₇) ∷ ‵ (froom (tyRef erased mut (tyInt w8)) l₁₆ 0) ∷ ‵ (fdies (tyRef erased mut (tyInt w8)) l₁₆) ∷ ‵ (froom (sliceTy (tyRef erased mut (tyInt w8))) l₁₅ 0) ∷ ‵ (fdies (sliceTy (tyRef erased mut (tyInt w8))) l₁₅) ∷ ‵ (froom (tyRef erased mut (tyInt w8)) l₁₄ 0) ∷ ‵ (fdies (tyRef erased mut (tyInt w8)) l₁₄) ∷ ‵ (froom (tyRef erased mut (tyArray (tyInt w64) 1000)) l₁₃ 0) ∷ ‵ (fdies (tyRef erased mut (tyArray (tyInt w64) 1000)) l₁₃) ∷ ‵ (froom (sliceTy (tyRef erased mut table-ty)) l₁₂ 0) ∷ ‵ (fdies (sliceTy (tyRef erased mut table-ty)) l₁₂) ∷ ‵ (froom (tyRef erased mut table-ty) l₁₁ 0) ∷ ‵ (fdies (tyRef erased mut table-ty) l₁₁) ∷ ‵ (froom (tyRef erased mut (tyArray (tyInt w64) 1000)) l₁₀ 0) ∷ ‵ (fdies (tyRef erased mut (tyArray (tyInt w64) 1000)) l₁₀) ∷ ‵ (froom acted-ty l₉ 0) ∷ ‵ (fdies acted-ty l₉) ∷ ‵ (froom task-laws.mir l₈ 0) ∷ ‵ (fdies task-laws.mir l₈) ∷ ‵ (froom (tyInt w64) l₇ 0) ∷ ‵ (fdies (tyInt w64) l₇) ∷ ‵ (fat fullShare progress-ty l₆ 0 (progress-val g)) ∷ ‵ (fdies progress-ty l₆) ∷ ‵ (fat fullShare (tyRef (named 4) mut (tyArray (tyInt w32) 1024)) l₅ 0 (vptr b₄ o₄)) ∷ ‵ (fdies (tyRef (named 4) mut (tyArray (tyInt w32) 1024)) l₅) ∷ ‵ (fat fullShare (sliceTy (tyRef (named 3) mut (tyInt w8))) l₄ 0 (sliceVal (b₃, o₃) n₃)) ∷ ‵ (fdies (sliceTy (tyRef (named 3) mut (tyInt w8))) l₄) ∷ ‵ (fat fullShare (sliceTy (tyRef (named 2) mut (tyInt w8))) l₃ 0 (sliceVal (b₂, o₂) n₂)) ∷ ‵ (fdies (sliceTy (tyRef (named 2) mut (tyInt w8))) l₃) ∷ ‵ (fat fullShare (tyRef (named 1) mut (tyArray (tyInt w64) 1000)) l₂ 0 (vptr b₁ o₁)) ∷ ‵ (fdies (tyRef (named 1) mut (tyArray (tyInt w64) 1000)) l₂) ∷ ‵ (fat fullShare (sliceTy (tyRef (named 0) mut table-ty)) l₁ 0 (sliceVal (b₀, o₀) n₀)) ∷ ‵ (fdies (sliceTy (tyRef (named 0) mut table-ty)) l₁) ∷ ‵ (froom progress-ty l₀ 0) ∷ ‵ (fdies progress-ty l₀) ∷ [])) (runs C Λ En mir.t-1 (atRet En Post))

@@ -85,10 +85,10 @@ loop-again c =
     let turn = c .before .before .before .before .before .before .before .before .before .before .before .before .before .loop in
     let given = c .before .before .before .before .before .before .before .before .before .before .before .before .before .before .before .before .args in
     let made = c .before .before .before .plain in
-    let did =
+    let result =
     ap (λ (d : RegistersResult). on-memory d (made .last .0) (turn .memory)) (sym (c .before .next .given .1)) ∙ ap (λ (after : OnStack). kept after (turn .memory)) (made .ensures) ∙ instruct-plain (turn .stack) (turn .memory) (given .code .now) (turn .at) (given .count) inside (sym (c .before .before .before .before .before .before .is-plain .ensures) ∙ c .before .before .before .before .before .if4 .taken) in (
       c .before .before .before .before .before .before .before .before .before .before .before .before .before .loop .inv .0,
-      finished _ _ _ _ _ _ _ _ _ _ (c .before .before .before .before .before .before .before .before .before .before .if2 .left) refl inside (sym (c .before .before .before .before .before .before .before .before .is-outer .ensures) ∙ c .before .before .before .before .before .before .before .if3 .left) did ∙ c .before .before .before .before .before .before .before .before .before .before .before .before .before .loop .inv .1,
+      finished _ _ _ _ _ _ _ _ _ _ (c .before .before .before .before .before .before .before .before .before .before .if2 .left) refl inside (sym (c .before .before .before .before .before .before .before .before .is-outer .ensures) ∙ c .before .before .before .before .before .before .before .if3 .left) result ∙ c .before .before .before .before .before .before .before .before .before .before .before .before .before .loop .inv .1,
     )
 
 enum-known-refusal : tie.Need-enum-known-refusal Inv-loop μ-loop
@@ -109,9 +109,9 @@ returns-3 c =
     let turn = c .before .before .before .before .before .before .before .before .before .before .before .before .before .before .loop in
     let given = c .before .before .before .before .before .before .before .before .before .before .before .before .before .before .before .before .before .args in
     let made = c .before .before .before .before .plain in
-    let did =
+    let result =
     ap (λ (d : RegistersResult). on-memory d (made .last .0) (turn .memory)) (sym (c .before .before .refusal .given .1)) ∙ ap (λ (after : OnStack). kept after (turn .memory)) (made .ensures) ∙ instruct-plain (turn .stack) (turn .memory) (given .code .now) (turn .at) (given .count) inside (sym (c .before .before .before .before .before .before .before .is-plain .ensures) ∙ c .before .before .before .before .before .before .if4 .taken) in
-    ap (λ (r : StepsEnd). stepped r (made .last .0) (turn .memory)) (c .halted3 .ensures) ∙ refused _ _ _ _ _ _ _ _ _ (c .before .before .before .before .before .before .before .before .before .before .before .if2 .left) inside (sym (c .before .before .before .before .before .before .before .before .before .is-outer .ensures) ∙ c .before .before .before .before .before .before .before .before .if3 .left) did ∙ c .before .before .before .before .before .before .before .before .before .before .before .before .before .before .loop .inv .1
+    ap (λ (r : StepsEnd). stepped r (made .last .0) (turn .memory)) (c .halted3 .ensures) ∙ refused _ _ _ _ _ _ _ _ _ (c .before .before .before .before .before .before .before .before .before .before .before .if2 .left) inside (sym (c .before .before .before .before .before .before .before .before .before .is-outer .ensures) ∙ c .before .before .before .before .before .before .before .before .if3 .left) result ∙ c .before .before .before .before .before .before .before .before .before .before .before .before .before .before .loop .inv .1
 
 instruct-requires : tie.Need-instruct-requires Inv-loop μ-loop
 instruct-requires c κs = (
@@ -135,10 +135,10 @@ loop-less-2 c =
 loop-again-2 : tie.Need-loop-again-2 Inv-loop μ-loop
 loop-again-2 c =
     let made = c .before .before .before .before .before .instruct in
-    let did =
+    let result =
     ap (λ (d : RegistersResult). on-memory d (made .last .0) (made .last .1 .0)) (sym (c .before .next2 .given .1)) ∙ made .ensures ∙ instruct-uncounted _ _ _ _ _ (sym (c .before .before .before .before .before .before .before .before .before .is-plain .ensures) ∙ c .before .before .before .before .before .before .before .before .if4 .left) in (
       made .kept .1 .0 ∙ c .before .before .before .before .before .before .before .before .before .before .before .before .before .before .before .before .loop .inv .0,
-      finished _ _ _ _ _ _ _ _ _ _ (c .before .before .before .before .before .before .before .before .before .before .before .before .before .if2 .left) refl (c .before .before .before .before .before .before .before .before .before .before .before .before .before .before .if1 .taken) (sym (c .before .before .before .before .before .before .before .before .before .before .before .is-outer .ensures) ∙ c .before .before .before .before .before .before .before .before .before .before .if3 .left) did ∙ c .before .before .before .before .before .before .before .before .before .before .before .before .before .before .before .before .loop .inv .1,
+      finished _ _ _ _ _ _ _ _ _ _ (c .before .before .before .before .before .before .before .before .before .before .before .before .before .if2 .left) refl (c .before .before .before .before .before .before .before .before .before .before .before .before .before .before .if1 .taken) (sym (c .before .before .before .before .before .before .before .before .before .before .before .is-outer .ensures) ∙ c .before .before .before .before .before .before .before .before .before .before .if3 .left) result ∙ c .before .before .before .before .before .before .before .before .before .before .before .before .before .before .before .before .loop .inv .1,
     )
 
 enum-known-refusal-2 : tie.Need-enum-known-refusal-2 Inv-loop μ-loop
@@ -156,9 +156,9 @@ same-length-4 c =
 returns-4 : tie.Need-returns-4 Inv-loop μ-loop
 returns-4 c =
     let made = c .before .before .before .before .before .before .instruct in
-    let did =
+    let result =
     ap (λ (d : RegistersResult). on-memory d (made .last .0) (made .last .1 .0)) (sym (c .before .before .refusal2 .given .1)) ∙ made .ensures ∙ instruct-uncounted _ _ _ _ _ (sym (c .before .before .before .before .before .before .before .before .before .before .is-plain .ensures) ∙ c .before .before .before .before .before .before .before .before .before .if4 .left) in
-    ap (λ (r : StepsEnd). stepped r (made .last .0) (made .last .1 .0)) (c .halted4 .ensures) ∙ refused _ _ _ _ _ _ _ _ _ (c .before .before .before .before .before .before .before .before .before .before .before .before .before .before .if2 .left) (c .before .before .before .before .before .before .before .before .before .before .before .before .before .before .before .if1 .taken) (sym (c .before .before .before .before .before .before .before .before .before .before .before .before .is-outer .ensures) ∙ c .before .before .before .before .before .before .before .before .before .before .before .if3 .left) did ∙ c .before .before .before .before .before .before .before .before .before .before .before .before .before .before .before .before .before .loop .inv .1
+    ap (λ (r : StepsEnd). stepped r (made .last .0) (made .last .1 .0)) (c .halted4 .ensures) ∙ refused _ _ _ _ _ _ _ _ _ (c .before .before .before .before .before .before .before .before .before .before .before .before .before .before .if2 .left) (c .before .before .before .before .before .before .before .before .before .before .before .before .before .before .before .if1 .taken) (sym (c .before .before .before .before .before .before .before .before .before .before .before .before .is-outer .ensures) ∙ c .before .before .before .before .before .before .before .before .before .before .before .if3 .left) result ∙ c .before .before .before .before .before .before .before .before .before .before .before .before .before .before .before .before .before .loop .inv .1
 
 halted-requires-5 : tie.Need-halted-requires-5 Inv-loop μ-loop
 halted-requires-5 c κs =

@@ -7,7 +7,7 @@ use Rattle.runner.proofs.act.on_frames.Tie as tie
 use Rattle.runner.proofs.act.on_frames.Reads as reads
 use Rattle.runner.proofs.act.on_frames.Lts as lts
 use Rattle.runner.proofs.act.on_task.Reads as on-task-reads
-use Rattle.runner.proofs.act.went_by.Reads as went-by-reads
+use Rattle.runner.proofs.act.settled_by.Reads as settled-by-reads
 use Rattle.stepper.proofs.entering.op_call.Reads as op-call-reads
 use Rattle.stepper.proofs.entering.op_end_call.Reads as op-end-call-reads
 use Rattle.runner.proofs.act.push_calldata.Reads as push-calldata-reads
@@ -35,8 +35,8 @@ registers-of-requires c κs = search needs
 op-t-get-field-requires : tie.Need-op-t-get-field-requires
 op-t-get-field-requires c κs = search needs
 
-went-by-requires : tie.Need-went-by-requires
-went-by-requires c κs = search needs
+settled-by-requires : tie.Need-settled-by-requires
+settled-by-requires c κs = search needs
 
 keep-requires-2 : tie.Need-keep-requires-2
 keep-requires-2 c κs = search needs
@@ -47,7 +47,7 @@ same-length-2 c = search needs
 returns-2 : tie.Need-returns-2
 unfolding on-frames
 returns-2 c =
-    simp (← c .keep2 .ensures, ← c .before .went-by .ensures, ← c .before .before .before .before .op-t-get-field .ensures, ← c .before .before .before .before .before .registers-of .ensures, eq-eqb _ _ (c .before .before .before .before .before .before .before .before .if2 .taken), ne-eqb _ _ (c .before .before .before .before .before .before .before .before .before .if1 .left))
+    simp (← c .keep2 .ensures, ← c .before .settled-by .ensures, ← c .before .before .before .before .op-t-get-field .ensures, ← c .before .before .before .before .before .registers-of .ensures, eq-eqb _ _ (c .before .before .before .before .before .before .before .before .if2 .taken), ne-eqb _ _ (c .before .before .before .before .before .before .before .before .before .if1 .left))
 
 op-call-requires : tie.Need-op-call-requires
 op-call-requires c κs = search needs
@@ -92,7 +92,7 @@ on-frames-spec =
     returns
     registers-of-requires
     op-t-get-field-requires
-    went-by-requires
+    settled-by-requires
     keep-requires-2
     same-length-2
     returns-2

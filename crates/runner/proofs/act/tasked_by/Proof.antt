@@ -5,15 +5,15 @@ use Rattle.runner.proofs.act.tasked_by.Statement.{statement}
 use Rattle.runner.proofs.act.tasked_by.Tie as tie
 use Rattle.runner.proofs.act.tasked_by.Reads as reads
 use Rattle.runner.proofs.act.tasked_by.Lts as lts
-use Rattle.runner.proofs.act.went_by.Reads as went-by-reads
+use Rattle.runner.proofs.act.settled_by.Reads as settled-by-reads
 
-went-by-requires : tie.Need-went-by-requires
-went-by-requires c κs = search needs
+settled-by-requires : tie.Need-settled-by-requires
+settled-by-requires c κs = search needs
 
 returns : tie.Need-returns
 unfolding tasked-by
 returns c =
-    simp (← c .went-by .ensures)
+    simp (← c .settled-by .ensures)
 
 pub tasked-by-spec : {M : Type 1} → statement M
-tasked-by-spec = tie.close (tie.spec went-by-requires returns)
+tasked-by-spec = tie.close (tie.spec settled-by-requires returns)

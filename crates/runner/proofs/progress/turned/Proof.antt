@@ -7,19 +7,19 @@ use Rattle.runner.proofs.progress.turned.Reads as reads
 use Rattle.runner.proofs.progress.turned.Lts as lts
 use Rattle.runner.proofs.progress.spent.Reads as spent-reads
 
-enum-known-went : tie.Need-enum-known-went
-enum-known-went c = search needs
+enum-known-result : tie.Need-enum-known-result
+enum-known-result c = search needs
 
 spent-requires : tie.Need-spent-requires
 spent-requires c κs = search needs
 
-enum-known-went-2 : tie.Need-enum-known-went-2
-enum-known-went-2 c = search needs
+enum-known-result-2 : tie.Need-enum-known-result-2
+enum-known-result-2 c = search needs
 
 returns : tie.Need-returns
 unfolding turned
 returns c =
-    simp (← c .spent .ensures, c .before .before .went .given .1)
+    simp (← c .spent .ensures, c .before .before .result .given .1)
 
 returns-2 : tie.Need-returns-2
 unfolding turned
@@ -28,4 +28,4 @@ returns-2 c =
 
 pub turned-spec : {M : Type 1} → statement M
 turned-spec =
-    tie.close (tie.spec enum-known-went spent-requires enum-known-went-2 returns returns-2)
+    tie.close (tie.spec enum-known-result spent-requires enum-known-result-2 returns returns-2)

@@ -29,10 +29,10 @@ advanced : (stack memory pool ends : List ℕ) (machine : Machine) (fuel : ℕ) 
     → op ≡ getD code (reached .registers .place) 0 → after ≡ settled machine (reached .registers) → r ≡ halted-at after op (reached .left) (reached .halt)
     → progress-on r stack′ memory′ pool ends ≡ advance stack memory pool ends machine fuel
 unfolding advance after-steps
-advanced stack memory pool ends machine fuel {code} {registers} {reached} {stack′} {memory′} {op} {after} {r} of-code of-registers did read put halts =
+advanced stack memory pool ends machine fuel {code} {registers} {reached} {stack′} {memory′} {op} {after} {r} of-code of-registers result read put halts =
     (λ j. progress-on (halts j) stack′ memory′ pool ends)
     ∙ (λ j. progress-on (halted-at (put j) ((read ∙ ap (λ (c : List ℕ). getD c (reached .registers .place) 0) of-code) j) (reached .left) (reached .halt)) stack′ memory′ pool ends)
-    ∙ ap (after-steps pool ends machine) (did ∙ (λ j. steps fuel stack memory (of-code j) (of-registers j) (machine .count)))
+    ∙ ap (after-steps pool ends machine) (result ∙ (λ j. steps fuel stack memory (of-code j) (of-registers j) (machine .count)))
 
 code-of-requires : tie.Need-code-of-requires
 code-of-requires c κs = search needs

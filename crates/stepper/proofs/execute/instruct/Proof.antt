@@ -28,7 +28,7 @@ returns c =
     let start = c .before .before .before .before .before .before .before .before in
     let given = start .args in
     let outside : length (given .code .now) < given .registers .place + 5 = omega (arith, start .pre .0, c .before .before .if2 .taken) in
-    ap (λ (did : RegistersResult). on-memory did (given .stack .now) (given .memory .now)) (c .cut .ensures) ∙ instruct-cut (given .stack .now) (given .memory .now) (given .code .now) (given .registers) 0 outside (sym (c .before .before .before .before .has-number .ensures) ∙ c .before .before .before .if1 .taken)
+    ap (λ (result : RegistersResult). on-memory result (given .stack .now) (given .memory .now)) (c .cut .ensures) ∙ instruct-cut (given .stack .now) (given .memory .now) (given .code .now) (given .registers) 0 outside (sym (c .before .before .before .before .has-number .ensures) ∙ c .before .before .before .if1 .taken)
 
 add-numbered : tie.Need-add-numbered
 add-numbered c = search needs
