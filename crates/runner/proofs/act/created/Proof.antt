@@ -32,7 +32,7 @@ returns c =
 returns-2 : tie.Need-returns-2
 unfolding created
 returns-2 c =
-    simp (c .before .did2 .given .1)
+    simp (c .before .result2 .given .1)
 
 pub created-spec : {M : Type 1} → statement M
 created-spec =

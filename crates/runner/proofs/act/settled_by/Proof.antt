@@ -24,7 +24,7 @@ returns c =
 returns-2 : tie.Need-returns-2
 unfolding settled-by
 returns-2 c =
-    simp (c .before .did2 .given .1)
+    simp (c .before .result2 .given .1)
 
 pub settled-by-spec : {M : Type 1} → statement M
 settled-by-spec =

@@ -24,7 +24,7 @@ returns c =
 returns-2 : tie.Need-returns-2
 unfolding turned
 returns-2 c =
-    simp (c .before .went2 .given .1)
+    simp (c .before .result2 .given .1)
 
 pub turned-spec : {M : Type 1} → statement M
 turned-spec =
