@@ -3,9 +3,9 @@
 
     oracle/model.py < batch
 
-Written from the requirements and docs/DECISIONS.md; it shares nothing with the proved code, and oracle/compare holds it to the Rust. A scalar is
-the pair (tag, payload), a vector the triple (tag, offset, size). Every instruction makes its tests first, in the order of its refusals, and
-changes the machine only when all are passed.
+Written from the requirements and docs/DECISIONS.md; it shares nothing with the proved code, and oracle/compare holds it to the Rust, but for the
+comparisons that the Rust answers otherwise (oracle/outcomes.py). A scalar is the pair (tag, payload), a vector the triple (tag, offset, size).
+Every instruction makes its tests first, in the order of its refusals, and changes the machine only when all are passed.
 """
 import struct, sys
 
@@ -338,14 +338,11 @@ class Machine:
         return place + 1
 
     def equal(self):
+        """Whether the two values on top are equal, which only values of one kind can be: TRUE and FALSE are, a scalar and a vector never."""
         right, left = self.top(1), self.top(2)
-        if left[0] != right[0]:
+        if is_vector(left) != is_vector(right) or left[0] != right[0] and {left, right} != {TRUE, FALSE}:
             raise Refused(6)
-        if not is_vector(left):
-            return number(left) == number(right)
-        if not is_vector(right):
-            raise Refused(5)
-        return self.bytes_of(left) == self.bytes_of(right)
+        return self.bytes_of(left) == self.bytes_of(right) if is_vector(left) else left == right
 
     def eq(self, code, place):
         self.give(2, TRUE if self.equal() else FALSE)

@@ -1,10 +1,18 @@
-"""Every outcome of an opcode (docs/REFERENCE.md, 'Instruction set'), and a machine that notes which ones a case reaches."""
+"""Every outcome of an opcode (docs/REFERENCE.md, 'Instruction set'), and a machine that notes which ones a case reaches.
+
+EQ and NEQ of some values are answered otherwise by the Rust: those of a scalar with a vector of its tag, which among a program's values is a number
+with numbers, and those of TRUE with FALSE. `otherwise` tells them, from the two values alone, and AsRust has the Rust's answers to them.
+"""
 import model
 from model import FALSE, NUMBER, TEXT, TRUE, Refused, is_vector, number
 
+EQ, NEQ = 0x16, 0x17
+OTHERWISE = ["number with numbers", "numbers with number", "true with false", "false with true"]
+
 # By opcode: how it can finish, and its refusals. `3 at 1` is 3 with one value on the stack; `2 after 3` is 2 with three bytes behind the opcode.
-EQUALITY = [f"{kinds} {answer}" for kinds in ("number", "calldata", "text", "numbers", "number with numbers") for answer in ("equal", "unequal")]
-EQUALITY += ["bool equal", "3 at 0", "3 at 1", "6", "5"]
+EQUALITY = [f"{kinds} {answer}" for kinds in ("number", "calldata", "text", "numbers") for answer in ("equal", "unequal")]
+EQUALITY += ["bool equal", *OTHERWISE, "3 at 0", "3 at 1"]
+EQUALITY += [f"6 {left} with {right}" for left in ("scalar", "vector") for right in ("scalar", "vector")]
 COMPARISON = ["true", "false", "3 at 0", "3 at 1", "5"]
 PUSH_U8 = ["finished", "2 after 0", "4"]
 OUTCOMES = {
@@ -28,7 +36,7 @@ OUTCOMES = {
     0x13: ["finished", "3 at 0"],
     0x14: ["finished", "3 at 0", "4"],
     0x15: ["finished", "3 at 0", "3 at 1"],
-    0x16: EQUALITY, 0x17: EQUALITY, 0x18: COMPARISON, 0x19: COMPARISON,
+    EQ: EQUALITY, NEQ: EQUALITY, 0x18: COMPARISON, 0x19: COMPARISON,
     0x1a: ["taken", "not taken", "not taken, cut", "3 at 0"] + [f"2 after {n}" for n in range(4)],
     0x1b: [f"{kind} {how}" for kind in ("text", "numbers") for how in ("with payload", "of zeros", "with another signal")]
     + [f"2 after {n}" for n in range(4)] + ["2 in payload", "5", "4", "23", "padded"],
@@ -55,35 +63,44 @@ def refusal(machine, opcode, code, place, args):
         return f"2 after {rest}"
     if said == 22:
         return "22 entries" if len(machine.pool) == model.ENTRIES else "22 bytes"
+    if said == 6:
+        return "6 " + " with ".join("vector" if is_vector(value) else "scalar" for value in machine.stack[-2:])
     if said == 14 and number(machine.stack[-2]) != args[1] and args[1] < args[2]:
         return "14 wrapped"
     return str(said)
 
 
-def equality(left, right, answer):
-    kinds = {5: "calldata", TEXT: "text", NUMBER: "number"}.get(left[0], "bool")
-    if left[0] == NUMBER and is_vector(left):
-        kinds = "numbers"
-    elif is_vector(right) and kinds == "number":
-        kinds = "number with numbers"
+def equality(value, answer):
+    """The name of a comparison of two values of this one's kind."""
+    kinds = "numbers" if value[0] == NUMBER and is_vector(value) else {5: "calldata", TEXT: "text", NUMBER: "number"}.get(value[0], "bool")
     return f"{kinds} {'equal' if answer else 'unequal'}"
 
 
+def otherwise(left, right):
+    """Which of the comparisons that the Rust answers otherwise these two values make, the right one on top; none if another."""
+    if left[0] == right[0] and is_vector(left) != is_vector(right):
+        return "numbers with number" if is_vector(left) else "number with numbers"
+    return {(TRUE, FALSE): "true with false", (FALSE, TRUE): "false with true"}.get((left, right))
+
+
 class Noted(model.Machine):
-    """The model's machine, with the outcomes that it has reached."""
+    """The model's machine, with the outcomes that it has reached, and those comparisons among them that the Rust answers otherwise."""
 
     def __init__(self, *words):
-        self.reached = set()
+        self.reached, self.otherwise = set(), set()
         super().__init__(*words)
 
     def step(self, code, place):
         opcode, stack, frames, memory = code[place], self.stack[-3:], len(self.frames), len(self.memory)
         top = stack[-1] if stack else None
         known = self.tasks.get(number(top)) if opcode == 0x11 and top else None
+        form = otherwise(*stack[-2:]) if opcode in (EQ, NEQ) and len(stack) > 1 else None
+        if form:
+            self.otherwise.add((opcode, form))
         try:
             goes = super().step(code, place)
         except Refused as refused:
-            self.reached.add((opcode, refusal(self, opcode, code, place, refused.args)))
+            self.reached.add((opcode, form or refusal(self, opcode, code, place, refused.args)))
             raise
         if opcode == 0x04:
             said = "with data" if goes > place + 3 else "empty"
@@ -97,9 +114,8 @@ class Noted(model.Machine):
             said = "entered" if len(self.frames) > frames else "empty" if known else "no task"
         elif opcode == 0x12:
             said = "returned" if len(self.frames) < frames else "in main"
-        elif opcode in (0x16, 0x17):
-            said = equality(stack[-2], top, (self.stack[-1] == TRUE) == (opcode == 0x16))
-            said = "bool equal" if top in (TRUE, FALSE) else said
+        elif opcode in (EQ, NEQ):
+            said = form or equality(top, (self.stack[-1] == TRUE) == (opcode == EQ))
         elif opcode in (0x18, 0x19):
             said = "true" if self.stack[-1] == TRUE else "false"
         elif opcode == 0x1a:
@@ -116,3 +132,15 @@ class Noted(model.Machine):
             said = "finished"
         self.reached.add((opcode, said))
         return goes
+
+
+class AsRust(Noted):
+    """The model's machine with the Rust's answers to the comparisons that it answers otherwise, and to those alone."""
+
+    def equal(self):
+        form = otherwise(*self.stack[-2:]) if len(self.stack) > 1 else None
+        if form == "number with numbers":
+            return number(self.stack[-2]) == number(self.stack[-1])
+        if form:
+            raise Refused(5 if form == "numbers with number" else 6)
+        return super().equal()

@@ -5,7 +5,7 @@ A case is (image, program, calls), a call (verb, fuel). `case(random)` gives one
 import struct
 
 START, GO_ON, SAVE = 0, 1, 2
-END_CALL, UNUSED = b"\x12", (0x00, 0x02, 0x0c, 0x20, 0x7f, 0xff)
+END_CALL, EQ, NEQ, UNUSED = b"\x12", b"\x16", b"\x17", (0x00, 0x02, 0x0c, 0x20, 0x7f, 0xff)
 NUMBERS = (0, 1, 2, 3, 4, 5, 7, 8, 63, 64, 127, 128, 129, 254, 255, 256, 257, 511, 512, 513, 1000, 65535, 65536, 65537, 2 ** 25 - 1, 2 ** 25,
            2 ** 30, 2 ** 30 + 1, 2 ** 31, 2 ** 32 - 2, 2 ** 32 - 1)
 
@@ -190,6 +190,15 @@ def random_instructions(r):
     return some_image(r), program, some_calls(r, 500)
 
 
+def compared(r, push):
+    """Two values and their comparison: mostly of one kind, sometimes a number and numbers, or of any two kinds. `push` makes a value of a kind."""
+    chance, kind = r.random(), r.choice("NSVCB")
+    if kind == "B" and r.random() < 0.4:
+        return push("B") + b"\x14" + r.choice((EQ, NEQ))               # bools that are equal
+    kinds = kind * 2 if chance < 0.9 else r.choice(("NV", "VN")) if chance < 0.98 else kind + r.choice("NSVCB")
+    return push(kinds[0]) + push(kinds[1]) + r.choice((EQ, NEQ))
+
+
 class Maker:
     """A program that mostly succeeds: what it pops has the kind it asks for."""
 
@@ -220,7 +229,7 @@ class Maker:
     def step(self, floor, depth):
         r = self.r
         known = r.randrange(self.tasks) if self.tasks else 0
-        choice = r.randrange(17)
+        choice = r.randrange(18)
         if choice < 4:
             kind = r.choice("NNSVCB")
             self.add(self.push(kind), given=kind)
@@ -251,8 +260,8 @@ class Maker:
                 self.kinds.append(top)
         elif choice == 13 and self.ends("NN", floor):
             self.add(*r.choice(((b"\x16", "NN", "B"), (b"\x17", "NN", "B"), (b"\x18", "NN", "B"), (b"\x19", "NN", "B"), (b"\x15", "", ""))))
-        elif choice == 13 and (self.ends("SS", floor) or self.ends("VV", floor) or self.ends("CC", floor) or self.ends("NV", floor)):
-            self.add(bytes([r.choice((0x16, 0x17))]), "NN", "B")
+        elif choice == 13 and any(self.ends(kind * 2, floor) for kind in "SVCB"):
+            self.add(r.choice((EQ, NEQ)), "??", "B")
         elif choice == 14 and self.ends("N", floor):
             self.add(b"\x1e" + struct.pack(">I", r.randrange(4)) if r.random() < 0.5 else u8(r.randrange(5)) + b"\x1f")
         elif choice == 15:
@@ -263,6 +272,8 @@ class Maker:
                 self.add(u8(index) + u32(r.choice((0x41, 0x61, 0xc3, 2 ** 32 - 1, 0x100))) + b"\x1d")
         elif choice == 16 and len(self.kinds) > floor:
             self.add(b"\x13", "?")
+        elif choice == 17:
+            self.add(compared(r, self.push), given="B")
 
     def steps(self, count, floor, depth):
         for _ in range(count):
@@ -395,7 +406,7 @@ def limits(r):
         create(b"t") + put(u32(n), 0, 2) + call(0) + get(0, 2) + b"\x0b",
         u32(n) + u32(r.choice(NUMBERS)) + b"\x1f", u32(n) + b"\x1e" + struct.pack(">I", r.choice(NUMBERS)),
         u32(n) + bytes([0x1c, r.choice((4, 6))]), m_sti(r.choice((0, 3, 4, 6, 8)), r.choice((4, 6))) + u32(n) + u32(r.choice(NUMBERS)) + b"\x1d",
-        u32(n) + u32(r.choice(NUMBERS)) + b"\x0e\x10\x13\x0f", u32(n) + m_sti(r.choice((0, 512, 4)), 6) + b"\x16",
+        u32(n) + u32(r.choice(NUMBERS)) + b"\x0e\x10\x13\x0f", u32(n) + m_sti(r.choice((0, 512, 4)), 6) + r.choice((EQ, NEQ)),
         m_sti(4, 4) + u32(n) + m_sti(512, 4) + b"\x16", u32(r.randrange(2)) + u32(1) + b"\x18" + jump(n), u32(n) + b"\x0a",
     ))
 
@@ -424,8 +435,9 @@ def orders(r):
         b"\x0d\x0d\x0e" * 2 + r.choice((b"", u8(1))) + b"\x0e", b"\x0d\x0d\x0e" + many + b"\x10", b"\x0d\x1e\x00", text(b"") + b"\x1e\x00", b"\x1e\x00",
         text(b"") + b"\x1e" + bytes(4), text(b"") + u8(0) + b"\x1f", u8(0) + text(b"") + b"\x1f", text(b"") + u8(0) + b"\x18", u8(0) + calldata(b"") + b"\x19",
         m_sti(r.choice((0, 4, 6, 8)), 6) + u32(r.choice((0, 1, 2, 2 ** 30, 2 ** 30 + 1, 2 ** 32 - 1))) + u8(1) + b"\x1d", u8(0) * 3 + b"\x1d", u8(0) + text(b"") + u8(0) + b"\x1d",
-        b"\x0d\x0d" + r.choice((b"\x16", b"\x17")) + b"\x0d\x0d" + r.choice((b"\x16", b"\x17")) + r.choice((b"\x16", b"\x17")), program_as_task(r), r.choice((b"\x0d\x0d\x16", b"\x0d\x0d\x17")) + b"\x1a" + bytes(r.randrange(4)),
-        u8(1) + u8(0) + b"\x0d\x0d\x16\x07", m_sti(6, 6) + u8(0) + b"\x16", u8(0) + m_sti(6, 6) + b"\x17", calldata(b"") + b"\x14" + r.choice((b"\x16", b"\x17")),
+        b"\x0d\x0d" + r.choice((EQ, NEQ)) + b"\x0d\x0d" + r.choice((EQ, NEQ)) + r.choice((EQ, NEQ)), program_as_task(r),
+        b"\x0d\x0d" + r.choice((EQ, NEQ)) + b"\x1a" + bytes(r.randrange(4)), u8(1) + u8(0) + b"\x0d\x0d\x16\x07",
+        m_sti(6, 6) + u8(0) + r.choice((EQ, NEQ)), u8(0) + m_sti(6, 6) + r.choice((EQ, NEQ)), calldata(b"") + b"\x14" + r.choice((EQ, NEQ)),
     ))
 
 

@@ -1,4 +1,5 @@
-// Answers the cases of crates/vectors with the Rust's own functions: the expected output of that program.
+// Answers the cases of crates/vectors with the Rust's own functions: the expected output of that program, but for the comparisons that vectors/make
+// tells apart.
 #[path = "SPACYDO/errors.rs"]
 mod errors;
 #[path = "SPACYDO/memory.rs"]

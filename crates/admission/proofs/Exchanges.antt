@@ -1,5 +1,5 @@
 -- The rule of each element on kinds is what the code makes of the three topmost letters.
-use Prim.Native.Nat.{ℕ, _-_}
+use Prim.Native.Nat.{ℕ}
 use mathlib.Core.Path.{_≡_, refl, sym}
 use mathlib.Core.Bool.{Bool, true, false, cond}
 use mathlib.Core.List.{List, [], _∷_}
@@ -147,12 +147,11 @@ compared : (kinds : List Kind) → Does (compare (at-top kinds) (at-second kinds
 unfolding compare exchanged
 compared [] = refl
 compared (top ∷ []) = refl
-compared (top ∷ second ∷ kinds) = rw (some-letter second) (by (same-kind top second) (same-kind top Boolean))
+compared (top ∷ second ∷ kinds) = rw (some-letter second) (by (same-kind top second))
   where
-    by : (b d : Bool) → performed (cond b (cond d changes.NoChange (changes.Change 2 66 0)) changes.NoChange) (letters (top ∷ second ∷ kinds)) ≡ lettered (cond b (cond d none (some (Boolean ∷ kinds))) none)
-    by true true = refl
-    by true false = refl
-    by false d = refl
+    by : (b : Bool) → performed (cond b (changes.Change 2 66 0) changes.NoChange) (letters (top ∷ second ∷ kinds)) ≡ lettered (cond b (some (Boolean ∷ kinds)) none)
+    by true = refl
+    by false = refl
 
 vector-changed : (kinds : List Kind) → Does (change-vector (at-top kinds) (at-second kinds) (at-third kinds)) kinds (exchanged Changes kinds)
 unfolding change-vector take-two exchanged

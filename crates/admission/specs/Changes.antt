@@ -26,7 +26,7 @@ create first second third =
 -- EQ and NEQ
 unfoldable pub compare : ℕ → ℕ → Change
 compare first second =
-    cond (eqb second 0) changes.NoChange (cond (eqb first second) (cond (eqb first 66) changes.NoChange (changes.Change 2 66 0)) changes.NoChange)
+    cond (eqb second 0) changes.NoChange (cond (eqb first second) (changes.Change 2 66 0) changes.NoChange)
 
 -- M_MUTA
 unfoldable pub change-vector : ℕ → ℕ → ℕ → Change

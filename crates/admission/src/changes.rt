@@ -71,7 +71,7 @@ fn create(first: u32, second: u32, third: u32) -> Change
     }
 }
 
-// EQ and NEQ: two alike, not B, to B.
+// EQ and NEQ: two alike, to B.
 fn compare(first: u32, second: u32) -> Change
     ensures { λ r. ⌜ r ≡ compare first second ⌝ }
 {
@@ -79,9 +79,6 @@ fn compare(first: u32, second: u32) -> Change
         return Change::NoChange;
     }
     if first != second {
-        return Change::NoChange;
-    }
-    if first == 66 {
         return Change::NoChange;
     }
     Change::Change {

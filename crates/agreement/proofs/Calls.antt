@@ -42,6 +42,7 @@ use Rattle.agreement.specs.View.{callers, view}
 use Rattle.agreement.specs.Agreement.{Over, many-tasks, long-title, many-entries, many-bytes, long-memory, long-image, refusal-of}
 use Rattle.agreement.specs.Reads.{Aligned}
 use Rattle.agreement.specs.Runs.{rust-call, rust-left-by, rust-history, at-rest, ReadAlike, Answers, ends, pauses, errs, panics, meets}
+use Rattle.agreement.specs.Exceptions.{permitted-comes, call-comes}
 use Rattle.agreement.proofs.Facts.{facts}
 use Rattle.agreement.proofs.Views.{current-is, callers-are}
 use Rattle.agreement.proofs.Aligned.{Lined, above, Given, given}
@@ -206,13 +207,16 @@ run-is : (turns : ℕ) (w : World) → Sound w → loop.run turns (at-rest w) �
 unfolding loop.run onward
 run-is turns w s = rw (begins w s)
 
--- so a start answers the Rust's run, and a continue its loop
-pub start-told : (fuel : ℕ) (w : World) → Ready w → Told (start fuel w) (loop.run fuel (at-rest w))
-start-told fuel w ready =
-    rw (start-is fuel w ready, run-is fuel w (ready .is-sound)) (told fuel _ _ (run-same fuel (begun w) (place w) (begun-sound w (ready .is-sound)) (ready .bytes)))
+-- so a start answers the Rust's run, and a continue its loop, if they come to no instruction that is left out
+pub start-told : (fuel : ℕ) (w : World) → Ready w → call-comes Start fuel w ≡ false → Told (start fuel w) (loop.run fuel (at-rest w))
+unfolding call-comes permitted-comes allowed
+start-told fuel w ready common =
+    rw (start-is fuel w ready, run-is fuel w (ready .is-sound))
+    (told fuel _ _ (run-same fuel (begun w) (place w) (begun-sound w (ready .is-sound)) (ready .bytes) (simp (ready .is-sound .tested, ready .phase) at common)))
 
-pub go-on-told : (fuel stale : ℕ) (w : World) → Sound w → Bytes (w .pool) → may-continue (w .machine .phase) ≡ true → Told (go-on fuel w) (while fuel (view stale w))
-go-on-told fuel stale w s bytes may = rw (go-on-is fuel w s may) (told fuel _ _ (run-same fuel w stale s bytes))
+pub go-on-told : (fuel stale : ℕ) (w : World) → Sound w → Bytes (w .pool) → may-continue (w .machine .phase) ≡ true → call-comes Continue fuel w ≡ false → Told (go-on fuel w) (while fuel (view stale w))
+unfolding call-comes permitted-comes allowed
+go-on-told fuel stale w s bytes may common = rw (go-on-is fuel w s may) (told fuel _ _ (run-same fuel w stale s bytes (simp (s .tested, may) at common)))
 
 -- ---- the values
 

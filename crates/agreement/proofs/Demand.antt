@@ -1,6 +1,6 @@
 -- Demand 2 as its own statement: from creation on, at every call of every history of a host.
-use Prim.Native.Nat.{ℕ}
-use mathlib.Core.Bool.{true, false}
+use Prim.Native.Nat.{ℕ, _<_}
+use mathlib.Core.Bool.{Bool, true, false, cond, true≢false}
 use mathlib.Core.Path.{_≡_, refl, sym, ap, subst, _∙_}
 use mathlib.Core.List.{List, []}
 use native.Mathlib.Omega.{arith}
@@ -13,25 +13,32 @@ use Rattle.storage.specs.declared.Task.{Task}
 use Rattle.storage.specs.declared.TaskId.{TaskId}
 use Rattle.table_image.specs.declared.creation.CreationResult.{CreationResult}
 use Rattle.table_image.specs.declared.creation.CreationResult.the-variants.{Fit, Unfit}
+use Rattle.machine.specs.declared.Outcome.{Outcome}
+use Rattle.machine.specs.declared.Outcome.the-variants as outcome
 use Rattle.machine.specs.declared.Verb.{Verb}
-use Rattle.machine.specs.World.{World}
-use Rattle.machine.specs.Calls.{Reported, not-allowed, reports, call}
+use Rattle.machine.specs.Machines.{code-of, op-at}
+use Rattle.machine.specs.World.{World, at-end, with-machine}
+use Rattle.machine.specs.Run.{end-at}
+use Rattle.machine.specs.Calls.{Reported, not-allowed, reports, allowed, is-sound, ended, report, reported-end, call-with, call}
 use Rattle.machine.specs.Reads.{task-read}
 use Rattle.machine.specs.Creation.{create-behind, create-fit, create}
 use Rattle.machine.specs.declared.CreateResult.{CreateResult}
 use Rattle.machine.specs.declared.CreateResult.the-variants.{Created, NotCreated}
 use Rattle.machine.specs.History.{FreshWorld, is-created, HostCall, history, world-after}
+use Rattle.laws.specs.Sound.{Sound}
 use Rattle.rust.specs.Errors.{ok}
 use Rattle.rust.specs.Vm.{VM}
-use Rattle.rust.specs.Run.{Ran, returned, init}
+use Rattle.rust.specs.Run.{Ran, returned, running, init}
 use Rattle.rust.specs.Unbox.{print-task}
 use Rattle.agreement.specs.View.{view}
 use Rattle.agreement.specs.Reads.{TaskReads}
 use Rattle.agreement.specs.Runs.{rust-call, rust-takes, rust-history, at-rest, ReadAlike, Answers}
 use Rattle.agreement.specs.Creation.{stored}
-use Rattle.agreement.specs.Demand.{lent-pool, Beginning, RustEnds, it-returns, it-fails, meets-added, NoneMet, SameMachine, SameValues, Equal, same-end, same-refusal, MachineOf, it-rests, in-a-run, before-failing}
+use Rattle.agreement.specs.Demand.{lent-pool, Beginning, RustEnds, it-returns, it-fails, meets-added, NoneMet, SameMachine, SameValues, Equal, same-end, same-refusal, UpTo, MachineOf, it-rests, in-a-run, before-failing}
+use Rattle.agreement.specs.Exceptions.{excepted, comes-to-excepted, permitted-comes, call-comes}
 use Rattle.agreement.proofs.Aligned.{empty, Given, given}
-use Rattle.agreement.proofs.Calls.{Told, told-end, told-err, told-met, done-if-any, read-alike, answers}
+use Rattle.agreement.proofs.Exceptions.{answers-excepted, rust-answers-excepted, comes-before}
+use Rattle.agreement.proofs.Calls.{Told, told-end, told-pause, told-err, told-panic, told-met, done-if-any, read-alike, answers}
 use Rattle.agreement.proofs.Histories.{Related, both-rest, both-run, it-failed, is-met, told-call, given-call, refused-call, sound-related, history-related}
 use Rattle.agreement.proofs.SameMachines as same
 use Rattle.agreement.proofs.Creation.{FromCreation, created-agrees, ok-is, sound-is}
@@ -93,6 +100,64 @@ equal {r} (told-end e leaves) (given _ _ lined) none-met it-returns =
 equal {r} (told-err stale error e leaves f) g none-met it-fails = same-refusal e (same.same-machine (world-after r) (leaves .is-sound) (view stale (world-after r)) refl refl refl)
 equal {r} (told-met stale number vm e f over ran) g none-met ends = is-met (r .report .outcome) e over none-met
 
+-- ---- up to the first instruction that is left out
+
+unfoldable is-paused : Outcome → Bool
+is-paused outcome.Done = false
+is-paused outcome.Paused = true
+is-paused (outcome.Refused number) = false
+
+-- where a call is paused, the Rust is in a run with the same machine
+record BothRun (r : Reported) (ran : Ran) : Type 0 where
+  stale : ℕ
+  same : ran ≡ running (view stale (world-after r))
+  is-sound : Sound (world-after r)
+
+paused-both : {r : Reported} {ran : Ran} → Told r ran → is-paused (r .report .outcome) ≡ true → BothRun r ran
+unfolding is-paused
+paused-both (told-end e leaves) paused = absurd (true≢false (sym paused ∙ ap is-paused e))
+paused-both (told-pause stale e leaves) paused = record { stale = stale; same = refl; is-sound = leaves .is-sound }
+paused-both (told-err stale error e leaves f) paused = absurd (true≢false (sym paused ∙ ap is-paused e))
+paused-both (told-panic stale e leaves f) paused = absurd (true≢false (sym paused ∙ ap is-paused e))
+paused-both (told-met stale number vm e f over ran) paused = absurd (true≢false (sym paused ∙ ap is-paused e))
+
+-- a call that comes to one: it is allowed, and paused after the instructions before that one
+record Comes (verb : Verb) (fuel : ℕ) (w : World) : Type 0 where
+  finished : ℕ
+  fewer : finished < fuel
+  none : call-comes verb finished w ≡ false
+  paused : call verb finished w .report .outcome ≡ outcome.Paused
+  before-end : at-end (world-after (call verb finished w)) ≡ false
+  left-out : excepted (world-after (call verb finished w)) ≡ true
+
+-- what a paused call leaves is at the same instruction
+rests-at : (fuel : ℕ) (reached : World) → at-end reached ≡ false → excepted reached ≡ true
+    → (at-end (world-after (reported-end fuel (end-at reached 0 outcome.Paused))) ≡ false) × (excepted (world-after (reported-end fuel (end-at reached 0 outcome.Paused))) ≡ true)
+unfolding report ended at-end excepted code-of op-at
+rests-at fuel reached before left-out = (before, left-out)
+
+comes : (verb : Verb) (fuel : ℕ) (w : World) → call-comes verb fuel w ≡ true → Comes verb fuel w
+unfolding call-comes permitted-comes call call-with report
+comes verb fuel w e = by (allowed (w .machine) (is-sound w) verb .allowed) refl e
+  where
+    begins : World
+    begins = with-machine w (allowed (w .machine) (is-sound w) verb .machine)
+
+    by : (b : Bool) → allowed (w .machine) (is-sound w) verb .allowed ≡ b → cond b (comes-to-excepted fuel begins) false ≡ true → Comes verb fuel w
+    by true may e =
+        let l = comes-before fuel begins e in
+        let is : call verb (l .finished) w ≡ reported-end (l .finished) (end-at (l .reached) 0 outcome.Paused) = rw (may, l .paused) in
+        let at = rests-at (l .finished) (l .reached) (l .before-end) (l .is-excepted) in
+        record {
+          finished = l .finished;
+          fewer = l .fewer;
+          none = rw may (l .none);
+          paused = ap (λ (r : Reported). r .report .outcome) is;
+          before-end = subst (λ (r : Reported). at-end (world-after r) ≡ false) (sym is) (at .0);
+          left-out = subst (λ (r : Reported). excepted (world-after r) ≡ true) (sym is) (at .1);
+        }
+    by false may e = absurd (true≢false (sym e))
+
 -- ---- demand 2
 
 -- the Rust's init, on the tasks that the image holds, makes what the created machine shows
@@ -102,7 +167,7 @@ init-agrees {program} fresh pool-bytes image-bytes program-bytes image read =
     let made = created-is fresh pool-bytes image-bytes program-bytes in
     ap (λ (i : Image). init program (stored i)) (sound-is (sym read ∙ made .read)) ∙ made .init-is
 
--- from creation on, any history of a host in which no limit that this port adds is reached
+-- from creation on, any history of a host in which no limit that this port adds is reached and no instruction is left out
 module _ {program image : List ℕ} {first : World} {vm : VM} (both : Beginning program image first vm) (calls : List HostCall) (none-met : NoneMet calls first) where
   -- the machine then, and the Rust
   abbrev later : World
@@ -118,13 +183,30 @@ module _ {program image : List ℕ} {first : World} {vm : VM} (both : Beginning 
       history-related calls none-met (subst (λ (v : VM). Related first (returned [] v)) (ok-is (sym shown ∙ both .is-initialised)) (first-related (both .fresh) made))
 
   -- a start or a continue that the Rust takes answers the Rust's run of as many turns, or reaches a limit that this port adds, with its reason
-  pub call-answers : (verb : Verb) (fuel : ℕ) → rust-takes verb rust-later ≡ true → Answers (call verb fuel later) (rust-call verb fuel rust-later)
-  call-answers verb fuel takes = answers (told-call verb fuel related takes) (given-call verb fuel related takes)
+  pub call-answers : (verb : Verb) (fuel : ℕ) → rust-takes verb rust-later ≡ true → call-comes verb fuel later ≡ false → Answers (call verb fuel later) (rust-call verb fuel rust-later)
+  call-answers verb fuel takes common = answers (told-call verb fuel related takes common) (given-call verb fuel related takes)
 
-  -- demand 2: values, tasks, memory and refusals equal the Rust's wherever the Rust ends without a panic and no limit that this port adds is reached
-  pub demand-2 : (verb : Verb) (fuel : ℕ) → rust-takes verb rust-later ≡ true → meets-added (call verb fuel later .report .outcome) ≡ false → RustEnds (rust-call verb fuel rust-later)
-      → Equal (call verb fuel later) (rust-call verb fuel rust-later)
-  demand-2 verb fuel takes not-met ends = equal (told-call verb fuel related takes) (given-call verb fuel related takes) not-met ends
+  -- demand 2: values, tasks, memory and refusals equal the Rust's wherever the Rust ends without a panic and no limit that this port adds is reached, except where the Rust compares a scalar with a vector, or TRUE with FALSE
+  pub demand-2 : (verb : Verb) (fuel : ℕ) → rust-takes verb rust-later ≡ true → meets-added (call verb fuel later .report .outcome) ≡ false → call-comes verb fuel later ≡ false
+      → RustEnds (rust-call verb fuel rust-later) → Equal (call verb fuel later) (rust-call verb fuel rust-later)
+  demand-2 verb fuel takes not-met common ends = equal (told-call verb fuel related takes common) (given-call verb fuel related takes) not-met ends
+
+  -- up to the first instruction that is left out: a call that comes to one has the same machine as the Rust before it, and both answers there are known
+  pub up-to-excepted : (verb : Verb) (fuel : ℕ) → rust-takes verb rust-later ≡ true → call-comes verb fuel later ≡ true → UpTo verb fuel later rust-later
+  unfolding is-paused
+  up-to-excepted verb fuel takes e =
+      let c = comes verb fuel later e in
+      let b = paused-both (told-call verb (c .finished) related takes (c .none)) (ap is-paused (c .paused)) in
+      record {
+        finished = c .finished;
+        fewer = c .fewer;
+        paused = c .paused;
+        stale = b .stale;
+        same = b .same;
+        left-out = c .left-out;
+        answer = answers-excepted _ (b .is-sound) (c .before-end) (c .left-out);
+        rust-answer = rust-answers-excepted _ (b .stale) (b .is-sound) (c .before-end) (c .left-out);
+      }
 
   -- a start or a continue that the Rust does not take is 26, and changes nothing
   pub not-taken : (verb : Verb) (fuel : ℕ) → rust-takes verb rust-later ≡ false → call verb fuel later ≡ reports (not-allowed (later .machine)) later

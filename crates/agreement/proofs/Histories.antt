@@ -29,6 +29,7 @@ use Rattle.agreement.specs.View.{view}
 use Rattle.agreement.specs.Agreement.{Over, many-tasks, long-title, many-entries, many-bytes, long-memory, long-image}
 use Rattle.agreement.specs.Runs.{rust-call, rust-takes, rust-left-by, rust-history, at-rest}
 use Rattle.agreement.specs.Demand.{is-added, meets-added, call-meets, NoneMet, no-call, not-met}
+use Rattle.agreement.specs.Exceptions.{call-comes, host-call-comes}
 use Rattle.agreement.proofs.Aligned.{Lined, Given, given, not-yet, while-given, run-given}
 use Rattle.agreement.proofs.Calls.{phase-by, Leaves, Told, told-end, told-pause, told-err, told-panic, told-met, Ready, DoneIfAny, done-if-any, start-told, go-on-told}
 
@@ -67,17 +68,17 @@ may-not Stopped may = refl
 
 module _ {w : World} where
   -- that the Rust takes
-  pub told-call : {ran : Ran} (verb : Verb) (fuel : ℕ) → Related w ran → rust-takes verb ran ≡ true → Told (call verb fuel w) (rust-call verb fuel ran)
+  pub told-call : {ran : Ran} (verb : Verb) (fuel : ℕ) → Related w ran → rust-takes verb ran ≡ true → call-comes verb fuel w ≡ false → Told (call verb fuel w) (rust-call verb fuel ran)
   unfolding rust-takes rust-call may-continue
-  told-call Start fuel (both-rest ready done lined values-are is) takes = subst (λ (v : VM). Told (call Start fuel w) (rust-call Start fuel (returned [] v))) is (start-told fuel w ready)
-  told-call Start fuel (both-run stale s bytes phase lined is) takes = absurd (true≢false (sym takes))
-  told-call Start fuel (it-failed stale s phase is) takes = absurd (true≢false (sym takes))
-  told-call Start fuel (it-panicked s phase) takes = absurd (true≢false (sym takes))
-  told-call Continue fuel (both-rest ready done lined values-are is) takes = absurd (true≢false (sym takes))
-  told-call Continue fuel (both-run stale s bytes phase lined is) takes =
-      subst (λ (v : VM). Told (call Continue fuel w) (rust-call Continue fuel (running v))) is (go-on-told fuel stale w s bytes (ap may-continue phase))
-  told-call Continue fuel (it-failed stale s phase is) takes = absurd (true≢false (sym takes))
-  told-call Continue fuel (it-panicked s phase) takes = absurd (true≢false (sym takes))
+  told-call Start fuel (both-rest ready done lined values-are is) takes common = subst (λ (v : VM). Told (call Start fuel w) (rust-call Start fuel (returned [] v))) is (start-told fuel w ready common)
+  told-call Start fuel (both-run stale s bytes phase lined is) takes common = absurd (true≢false (sym takes))
+  told-call Start fuel (it-failed stale s phase is) takes common = absurd (true≢false (sym takes))
+  told-call Start fuel (it-panicked s phase) takes common = absurd (true≢false (sym takes))
+  told-call Continue fuel (both-rest ready done lined values-are is) takes common = absurd (true≢false (sym takes))
+  told-call Continue fuel (both-run stale s bytes phase lined is) takes common =
+      subst (λ (v : VM). Told (call Continue fuel w) (rust-call Continue fuel (running v))) is (go-on-told fuel stale w s bytes (ap may-continue phase) common)
+  told-call Continue fuel (it-failed stale s phase is) takes common = absurd (true≢false (sym takes))
+  told-call Continue fuel (it-panicked s phase) takes common = absurd (true≢false (sym takes))
 
   pub given-call : {ran : Ran} (verb : Verb) (fuel : ℕ) → Related w ran → rust-takes verb ran ≡ true → Given (rust-call verb fuel ran)
   unfolding rust-takes rust-call view
@@ -133,11 +134,11 @@ left-related {r} (told-err stale error e leaves f) g none-met = it-failed stale 
 left-related {r} (told-panic stale e leaves f) g none-met = it-panicked (leaves .is-sound) (stopped-is r e leaves)
 left-related {r} (told-met stale number vm e f over ran) g none-met = is-met (r .report .outcome) e over none-met
 
-call-related : {w : World} {ran : Ran} (verb : Verb) (fuel : ℕ) → Related w ran → meets-added (call verb fuel w .report .outcome) ≡ false → Related (world-after (call verb fuel w)) (rust-call verb fuel ran)
-call-related {w} {ran} verb fuel related none-met = by (rust-takes verb ran) refl
+call-related : {w : World} {ran : Ran} (verb : Verb) (fuel : ℕ) → Related w ran → meets-added (call verb fuel w .report .outcome) ≡ false → call-comes verb fuel w ≡ false → Related (world-after (call verb fuel w)) (rust-call verb fuel ran)
+call-related {w} {ran} verb fuel related none-met common = by (rust-takes verb ran) refl
   where
     by : (b : Bool) → rust-takes verb ran ≡ b → Related (world-after (call verb fuel w)) (rust-call verb fuel ran)
-    by true takes = left-related (told-call verb fuel related takes) (given-call verb fuel related takes) none-met
+    by true takes = left-related (told-call verb fuel related takes common) (given-call verb fuel related takes) none-met
     by false takes =
         subst (λ (r : Reported). Related (world-after r) (rust-call verb fuel ran)) (sym (refused-call verb fuel related takes)) (subst (λ (x : Ran). Related w x) (sym (not-taken verb fuel ran takes)) related)
 
@@ -179,14 +180,14 @@ sound-related (it-panicked s phase) = s
 
 -- ---- a history
 
-left-by-related : {w : World} {ran : Ran} (one : HostCall) → Related w ran → call-meets one w ≡ false → Related (left-by one w) (rust-left-by one ran)
-unfolding left-by rust-left-by call-meets value-read task-read
-left-by-related (runs verb fuel) related none-met = call-related verb fuel related none-met
-left-by-related {w} saves related none-met = image-related (save-is w) (left-sound saves w (sound-related related)) related
-left-by-related (reads-value position) related none-met = related
-left-by-related (reads-task id) related none-met = related
+left-by-related : {w : World} {ran : Ran} (one : HostCall) → Related w ran → call-meets one w ≡ false → host-call-comes one w ≡ false → Related (left-by one w) (rust-left-by one ran)
+unfolding left-by rust-left-by call-meets host-call-comes value-read task-read
+left-by-related (runs verb fuel) related none-met common = call-related verb fuel related none-met common
+left-by-related {w} saves related none-met common = image-related (save-is w) (left-sound saves w (sound-related related)) related
+left-by-related (reads-value position) related none-met common = related
+left-by-related (reads-task id) related none-met common = related
 
 pub history-related : {w : World} {ran : Ran} (calls : List HostCall) → NoneMet calls w → Related w ran → Related (history calls w) (rust-history calls ran)
 unfolding history rust-history
 history-related [] no-call related = related
-history-related (one ∷ others) (not-met none-met later) related = history-related others later (left-by-related one related none-met)
+history-related (one ∷ others) (not-met none-met common later) related = history-related others later (left-by-related one related none-met common)

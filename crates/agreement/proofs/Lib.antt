@@ -11,6 +11,8 @@ pub mod Slots
 pub mod Tasks
 pub mod Frames
 pub mod Saves
+pub mod LeftOut
+pub mod Exceptions
 pub mod Step
 pub mod Run
 pub mod Unbox

@@ -1,6 +1,6 @@
 -- One run: our run of some fuel beside as many turns of the Rust's loop.
 use Prim.Native.Nat.{ℕ, zero, suc}
-use mathlib.Core.Bool.{Bool, true, false}
+use mathlib.Core.Bool.{Bool, true, false, cond, true≢false}
 use mathlib.Core.Path.{_≡_, refl}
 use lib.Dec.{ltb}
 use lib.ListN.{length}
@@ -23,6 +23,7 @@ use Rattle.rust.specs.Vm.{VM}
 use Rattle.rust.specs.Run.{Ran, running, failed, panicked, onward, finished, while}
 use Rattle.agreement.specs.View.{view}
 use Rattle.agreement.specs.Agreement.{Agree, goes-on, lacks, errs, panics, Over, refusal-of}
+use Rattle.agreement.specs.Exceptions.{excepted, comes-later, comes-to-excepted}
 use Rattle.agreement.proofs.Facts.{facts}
 use Rattle.agreement.proofs.Step.{agrees}
 
@@ -50,24 +51,36 @@ module _ (w : World) (stale : ℕ) (s : Sound w) where
   stops past = rw code-is (le-ltb (place w) (length (code w)) (leb-true _ _ past))
 
 -- on from an instruction
-module _ (others : World → End) (turn : VM → Ran) (alike : (v : World) (stale : ℕ) → Sound v → Bytes (v .pool) → Same (others v) (turn (view stale v))) where
-  follows : (w : World) (stale left : ℕ) (a : StepResult) (o : Out VM) → Sound w → Bytes (w .pool) → step w ≡ a → rust.step (view stale w) ≡ o → Agree w a o
+module _ (others : World → End) (comes : World → Bool) (turn : VM → Ran) (alike : (v : World) (stale : ℕ) → Sound v → Bytes (v .pool) → comes v ≡ false → Same (others v) (turn (view stale v))) where
+  follows : (w : World) (stale left : ℕ) (a : StepResult) (o : Out VM) → Sound w → Bytes (w .pool) → step w ≡ a → rust.step (view stale w) ≡ o → comes-later comes a ≡ false → Agree w a o
       → Same (follow others w left a) (onward turn (view stale w) o)
-  unfolding follow onward
-  follows w stale left _ _ s bytes e o (goes-on later after) = alike _ later (step-sound w _ s e) after
-  follows w stale left _ _ s bytes e o (lacks {r} {vm} over) = meets stale w left r vm _ o over
-  follows w stale left _ _ s bytes e o (errs error) = both-err stale w left error s bytes o
-  follows w stale left _ _ s bytes e o panics = both-panic stale w left s bytes o
+  unfolding follow onward comes-later
+  follows w stale left _ _ s bytes e o common (goes-on later after) = alike _ later (step-sound w _ s e) after common
+  follows w stale left _ _ s bytes e o common (lacks {r} {vm} over) = meets stale w left r vm _ o over
+  follows w stale left _ _ s bytes e o common (errs error) = both-err stale w left error s bytes o
+  follows w stale left _ _ s bytes e o common panics = both-panic stale w left s bytes o
 
-pub run-same : (fuel : ℕ) (w : World) (stale : ℕ) → Sound w → Bytes (w .pool) → Same (run fuel w) (while fuel (view stale w))
-unfolding run while
-run-same zero w stale s bytes = by (at-end w) refl
+-- the instruction at hand is not left out, and none behind it
+none-excepted : (w : World) (comes : Bool) → cond (excepted w) true comes ≡ false → (excepted w ≡ false) × (comes ≡ false)
+none-excepted w comes = by (excepted w)
+  where
+    by : (b : Bool) → cond b true comes ≡ false → (b ≡ false) × (comes ≡ false)
+    by true e = absurd (true≢false e)
+    by false e = (refl, e)
+
+pub run-same : (fuel : ℕ) (w : World) (stale : ℕ) → Sound w → Bytes (w .pool) → comes-to-excepted fuel w ≡ false → Same (run fuel w) (while fuel (view stale w))
+unfolding run while comes-to-excepted
+run-same zero w stale s bytes common = by (at-end w) refl
   where
     by : (b : Bool) → at-end w ≡ b → Same (run zero w) (while zero (view stale w))
     by true e = rw (e, stops w stale s e) (both-end stale w 0 s bytes)
     by false e = rw (e, goes w stale s e) (both-pause stale w s bytes)
-run-same (suc fuel) w stale s bytes = by (at-end w) refl (λ v later sound more. run-same fuel v later sound more)
+run-same (suc fuel) w stale s bytes common = by (at-end w) refl (λ v later sound more none. run-same fuel v later sound more none)
   where
-    by : (b : Bool) → at-end w ≡ b → ((v : World) (later : ℕ) → Sound v → Bytes (v .pool) → Same (run fuel v) (while fuel (view later v))) → Same (run (suc fuel) w) (while (suc fuel) (view stale w))
+    by : (b : Bool) → at-end w ≡ b → ((v : World) (later : ℕ) → Sound v → Bytes (v .pool) → comes-to-excepted fuel v ≡ false → Same (run fuel v) (while fuel (view later v)))
+        → Same (run (suc fuel) w) (while (suc fuel) (view stale w))
     by true e ih = rw (e, stops w stale s e) (both-end stale w (suc fuel) s bytes)
-    by false e ih = rw (e, goes w stale s e) (follows (λ v. run fuel v) (while fuel) ih w stale (suc fuel) (step w) (rust.step (view stale w)) s bytes refl refl (agrees w stale s bytes e))
+    by false e ih =
+        let none = none-excepted w (comes-later (λ v. comes-to-excepted fuel v) (step w)) (simp e at common) in
+        rw (e, goes w stale s e)
+        (follows (λ v. run fuel v) (λ v. comes-to-excepted fuel v) (while fuel) ih w stale (suc fuel) (step w) (rust.step (view stale w)) s bytes refl refl (none .1) (agrees w stale s bytes e (none .0)))

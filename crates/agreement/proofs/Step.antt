@@ -1,11 +1,12 @@
 -- Demand 2 for one instruction: the machine's step beside the Rust's, whatever the opcode.
-use Prim.Native.Nat.{ℕ, _+_, _<_}
+use Prim.Native.Nat.{ℕ, suc, _+_, _-_, _<_}
 use mathlib.Core.Bool.{Bool, true, false, cond, _||_, true≢false}
 use mathlib.Core.Path.{_≡_, refl, sym, _∙_, subst}
 use mathlib.Core.List.{List}
 use lib.Dec.{eqb}
 use lib.ListN.{length, getD}
-use borrow.Author.Tests.{leb-false, eqb-true, lt-leb}
+use native.Mathlib.Omega.{arith}
+use borrow.Author.Tests.{leb-false, eqb-true, le-leb, lt-leb}
 use Rattle.bytecode.specs.Opcodes.{PUSH-U32, PUSH-STATE, PUSH-CALLDATA, PUSH-TASK-FIELD, PUSH-MAX-STATES, T-CREATE, T-GET-FIELD, T-SET-FIELD, T-DELETE, S-SAVE, S-LEN, DO, LOOP, LOOP-INDEX, CALL, END-CALL, DROP, DUP, SWAP, EQ, NEQ, LT, GT, JUMP-IF-FALSE, M-STI, M-ST, M-MUTA, MULI, MUL, operand-size}
 use Rattle.bytecode.specs.Operands.{extent}
 use Rattle.bytecode.specs.declared.Extent.{Extent}
@@ -37,6 +38,7 @@ use Rattle.rust.specs.Vm as rust
 use Rattle.rust.specs.Vm.{VM, at, exec}
 use Rattle.agreement.specs.View.{storage-of, view}
 use Rattle.agreement.specs.Agreement.{Agree}
+use Rattle.agreement.specs.Exceptions.{excepted}
 use Rattle.agreement.proofs.Facts.{Facts, facts}
 use Rattle.agreement.proofs.Views.{stepped, moves, pushed}
 use Rattle.agreement.proofs.Stack as stack
@@ -49,6 +51,11 @@ use Rattle.agreement.proofs.Tasks as tasks
 use Rattle.agreement.proofs.Tasks.{acted-as}
 use Rattle.agreement.proofs.Frames as frames
 use Rattle.agreement.proofs.Saves as saving
+
+-- neither of two
+none-of : (a b : Bool) → (a || b) ≡ false → (a ≡ false) × (b ≡ false)
+none-of true b e = absurd (true≢false e)
+none-of false b e = (refl, e)
 
 none-left : (a b d : Bool) → (a || b || d) ≡ false → a ≡ false
 none-left true b d e = e
@@ -64,7 +71,7 @@ none-right true b d e = absurd (true≢false e)
 none-right false true d e = absurd (true≢false e)
 none-right false false d e = e
 
-module _ (w : World) (stale : ℕ) (h : Facts w) (bytes : Bytes (w .pool)) (inside : place w < length (code w)) where
+module _ (w : World) (stale : ℕ) (h : Facts w) (bytes : Bytes (w .pool)) (inside : place w < length (code w)) (common : excepted w ≡ false) where
   abbrev m : Machine
   m = w .machine
 
@@ -140,13 +147,21 @@ module _ (w : World) (stale : ℕ) (h : Facts w) (bytes : Bytes (w .pool)) (insi
   unfolding is-outer operand-size by-extent execute is-equality operated plain
   s-len e = inner-step S-LEN e refl _ (reach-next S-LEN e refl refl refl) s-len-pushed
 
+  -- the two values that EQ and NEQ compare are not left out
+  not-left-out : (n : ℕ) → getD c p 0 ≡ n → (eqb n EQ || eqb n NEQ) ≡ true → equality.NotLeftOut w stale h bytes (p + 1)
+  unfolding excepted op-at
+  not-left-out n e compares i two =
+      let right-is : m .height - 1 ≡ suc i = omega arith in
+      let left-is : m .height - 2 ≡ i = omega arith in
+      none-of _ _ (simp (e, compares, le-leb 2 (m .height) (omega arith), right-is, left-is) at common)
+
   eq : getD c p 0 ≡ EQ → Agree w (step-by-parts w) (rust.eq (p + 1) vm)
   unfolding is-outer operand-size by-extent execute is-equality
-  eq e = inner-step EQ e refl _ (reach-next EQ e refl refl refl) (equality.eq w stale h bytes (p + 1))
+  eq e = inner-step EQ e refl _ (reach-next EQ e refl refl refl) (equality.eq w stale h bytes (p + 1) (not-left-out EQ e refl))
 
   neq : getD c p 0 ≡ NEQ → Agree w (step-by-parts w) (rust.neq (p + 1) vm)
   unfolding is-outer operand-size by-extent execute is-equality
-  neq e = inner-step NEQ e refl _ (reach-next NEQ e refl refl refl) (equality.neq w stale h bytes (p + 1))
+  neq e = inner-step NEQ e refl _ (reach-next NEQ e refl refl refl) (equality.neq w stale h bytes (p + 1) (not-left-out NEQ e refl))
 
   m-muta : getD c p 0 ≡ M-MUTA → Agree w (step-by-parts w) (rust.m-muta (p + 1) vm)
   unfolding is-outer operand-size by-extent execute is-equality
@@ -309,10 +324,10 @@ module _ (w : World) (stale : ℕ) (h : Facts w) (bytes : Bytes (w .pool)) (insi
       either (eqb n END-CALL) (λ t. end-call (e ∙ eqb-true _ _ t)) (λ f26.
       unused n e (record { not-PUSH-U32 = f1; not-PUSH-CALLDATA = f2; not-PUSH-STATE = none-left (eqb n PUSH-STATE) (eqb n PUSH-MAX-STATES) (eqb n PUSH-TASK-FIELD) fg; not-PUSH-MAX-STATES = none-middle (eqb n PUSH-STATE) (eqb n PUSH-MAX-STATES) (eqb n PUSH-TASK-FIELD) fg; not-PUSH-TASK-FIELD = none-right (eqb n PUSH-STATE) (eqb n PUSH-MAX-STATES) (eqb n PUSH-TASK-FIELD) fg; not-MUL = f3; not-MULI = f4; not-T-CREATE = f5; not-T-GET-FIELD = f6; not-T-SET-FIELD = f7; not-T-DELETE = f8; not-S-SAVE = f9; not-S-LEN = f10; not-DO = f11; not-LOOP = f12; not-LOOP-INDEX = f13; not-JUMP-IF-FALSE = f14; not-DUP = f15; not-SWAP = f16; not-EQ = f17; not-NEQ = f18; not-LT = f19; not-GT = f20; not-M-STI = f21; not-M-ST = f22; not-M-MUTA = f23; not-DROP = f24; not-CALL = f25; not-END-CALL = f26 }))))))))))))))))))))))))))))
 
--- from a sound world before its code's end: on to the same view, a limit that this port adds is reached with its reason, the error's refusal, or 2 for a panic
-pub agrees : (w : World) (stale : ℕ) → Sound w → Bytes (w .pool) → at-end w ≡ false → Agree w (step w) (rust.step (view stale w))
+-- from a sound world before its code's end, at an instruction that is not left out: on to the same view, a limit that this port adds is reached with its reason, the error's refusal, or 2 for a panic
+pub agrees : (w : World) (stale : ℕ) → Sound w → Bytes (w .pool) → at-end w ≡ false → excepted w ≡ false → Agree w (step w) (rust.step (view stale w))
 unfolding at-end rust.step view code-of
-agrees w stale s bytes before =
+agrees w stale s bytes before common =
     subst (λ (a : StepResult). Agree w a (rust.step (view stale w))) (step-is w)
     (rw (getD-entries (w .pool) (w .ends) (w .machine .entries) (current (w .machine .frames) .entry .0) (facts s .frame))
-    (all w stale (facts s) bytes (leb-false _ _ before) _ refl))
+    (all w stale (facts s) bytes (leb-false _ _ before) common _ refl))

@@ -1,14 +1,12 @@
 -- The calculations of values.rs: their refusals are the Rust's errors, and what they give is given on.
 use Prim.Native.Nat.{ℕ, _*_, _^_}
-use mathlib.Core.Bool.{Bool, true, false, cond, _&&_, _||_}
-use mathlib.Core.Path.{_≡_}
+use mathlib.Core.Bool.{Bool, true, false, cond, _&&_, _||_, not, true≢false}
+use mathlib.Core.Path.{_≡_, refl}
 use lib.Dec.{eqb, ltb}
-use Rattle.values.specs.Values.{is-qnan, is-vec, is-u32-val, raw-tag, to-u32, to-bool-val, bool-not, fat-pointer, product, mul-checked, mul-checked-i, alike, value-eq, value-neq, turned, value-cmp, tag-of, to-fat-pointer}
+use Rattle.values.specs.Values.{is-qnan, is-vec, is-u32-val, raw-tag, to-u32, to-bool-val, bool-not, fat-pointer, product, mul-checked, mul-checked-i, is-bool, one-vector, of-one-kind, alike, value-eq, turned, value-cmp, to-fat-pointer}
 use Rattle.values.specs.declared.FatPointer.{FatPointer}
 use Rattle.values.specs.declared.ValueResult.{ValueResult}
 use Rattle.values.specs.declared.ValueResult.the-variants.{Value, NoValue}
-use Rattle.values.specs.declared.TagResult.{TagResult}
-use Rattle.values.specs.declared.TagResult.the-variants.{Tag, NoTag}
 use Rattle.values.specs.declared.PointerResult.{PointerResult}
 use Rattle.values.specs.declared.PointerResult.the-variants.{Pointer, NoPointer}
 use Rattle.errors.specs.declared.Refusal.the-variants as refusal
@@ -18,6 +16,7 @@ use Rattle.rust.specs.Errors.{VMError, InvalidType, TypeMismatch, Multiplicatio
 use Rattle.rust.specs.Values as rust
 use Rattle.rust.specs.Vm.{VM}
 use Rattle.agreement.specs.Agreement.{Agree, refusal-of}
+use Rattle.agreement.specs.Exceptions.{scalar-with-vector, true-with-false}
 use Rattle.agreement.proofs.Laws.{same}
 
 module _ {w : World} (f : ValueResult → StepResult) (k : ℕ → Out VM) (given : (value : ℕ) → Agree w (f (Value value)) (k value))
@@ -68,14 +67,31 @@ module _ {w : World} (f : ValueResult → StepResult) (k : ℕ → Out VM) (give
       by false false false true = given _
       by false false false false = missed InvalidType
 
-  pub eq-agrees : (left right : ℕ) → Agree w (f (value-eq left right)) (rust.value-eq left right k)
-  unfolding value-eq rust.value-eq rust.tag
-  eq-agrees left right =
+  -- of two values that are not left out; what the Rust does with two of one tag is o
+  pub eq-agrees : (left right : ℕ) (o : Out VM) → scalar-with-vector left right ≡ false → true-with-false left right ≡ false
+      → (is-qnan left ≡ true → is-qnan right ≡ true → eqb (raw-tag left) (raw-tag right) ≡ true → one-vector left right ≡ false → Agree w (f (alike (raw-tag left) left right)) o)
+      → Agree w (f (value-eq left right)) (rust.tag left λ tag-left. rust.tag right λ tag-right. cond (eqb tag-left tag-right) o (err TypeMismatch))
+  unfolding value-eq rust.tag scalar-with-vector true-with-false of-one-kind
+  eq-agrees left right o no-vector no-bools compares =
       same f (is-qnan left)
       (λ t. same f (is-qnan right)
-      (λ u. same f (eqb (raw-tag left) (raw-tag right)) (λ v. alike-agrees (raw-tag left) left right) (λ v. missed TypeMismatch))
+      (λ u. by (one-vector left right) (eqb (raw-tag left) (raw-tag right)) (is-bool left) (is-bool right) (simp (t, u) at no-vector) no-bools (compares t u))
       (λ u. missed InvalidType))
       (λ t. missed InvalidType)
+    where
+      by : (one same-tag a b : Bool) → (one && same-tag) ≡ false → (a && b && not same-tag) ≡ false → (same-tag ≡ true → one ≡ false → Agree w (f (alike (raw-tag left) left right)) o)
+          → Agree w (f (cond one (NoValue refusal.TypeMismatch) (cond (cond same-tag true (cond a b false)) (alike (raw-tag left) left right) (NoValue refusal.TypeMismatch)))) (cond same-tag o (err TypeMismatch))
+      by true true a b no-vector no-bools compares = absurd (true≢false no-vector)
+      by false true a b no-vector no-bools compares = compares refl refl
+      by true false a b no-vector no-bools compares = missed TypeMismatch
+      by false false true true no-vector no-bools compares = absurd (true≢false no-bools)
+      by false false true false no-vector no-bools compares = missed TypeMismatch
+      by false false false b no-vector no-bools compares = missed TypeMismatch
+
+  -- two scalars of one tag
+  pub scalars-agree : (left right : ℕ) → is-qnan left ≡ true → is-qnan right ≡ true → eqb (raw-tag left) (raw-tag right) ≡ true → Agree w (f (alike (raw-tag left) left right)) (rust.value-eq left right k)
+  unfolding rust.value-eq rust.tag
+  scalars-agree left right t u e = rw (t, u, e) (alike-agrees (raw-tag left) left right)
 
 -- NEQ: the answer turned round on both sides
 module _ {w : World} (f : ValueResult → StepResult) (k : ℕ → Out VM) (given : (value : ℕ) → Agree w (f (Value value)) (k value))
@@ -88,15 +104,9 @@ module _ {w : World} (f : ValueResult → StepResult) (k : ℕ → Out VM) (give
   unfolding turned
   turned-given value = given (bool-not value)
 
-  pub neq-agrees : (left right : ℕ) → Agree w (f (turned (value-eq left right))) (rust.value-neq left right k)
+  pub scalars-differ : (left right : ℕ) → is-qnan left ≡ true → is-qnan right ≡ true → eqb (raw-tag left) (raw-tag right) ≡ true → Agree w (f (turned (alike (raw-tag left) left right))) (rust.value-neq left right k)
   unfolding rust.value-neq
-  neq-agrees left right = eq-agrees (λ r. f (turned r)) (λ v. k (bool-not v)) turned-given turned-missed left right
-
--- the tag of a boxed value
-pub tag-agrees : {w : World} (f : TagResult → StepResult) (k : ℕ → Out VM) (v : ℕ) → (is-qnan v ≡ true → Agree w (f (Tag (raw-tag v))) (k (raw-tag v)))
-    → Agree w (f (NoTag refusal.InvalidType)) (err InvalidType) → Agree w (f (tag-of v)) (rust.tag v k)
-unfolding tag-of rust.tag
-tag-agrees f k v given missed = same f (is-qnan v) given (λ t. missed)
+  scalars-differ left right = scalars-agree (λ r. f (turned r)) (λ v. k (bool-not v)) turned-given turned-missed left right
 
 -- the place of a vector
 pub pointer-agrees : {w : World} (f : PointerResult → StepResult) (k : FatPointer → Out VM) (v : ℕ) → (is-vec v ≡ true → Agree w (f (Pointer (fat-pointer v))) (k (fat-pointer v)))

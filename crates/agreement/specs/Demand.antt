@@ -1,6 +1,6 @@
--- Demand 2, word by word: values, tasks, memory and refusals equal the Rust's wherever the Rust ends without a panic and no limit that this port adds is reached, call after call of a host until a refusal.
-use Prim.Native.Nat.{ℕ}
-use mathlib.Core.Bool.{Bool, false, cond, _&&_}
+-- Demand 2, word by word: values, tasks, memory and refusals equal the Rust's wherever the Rust ends without a panic and no limit that this port adds is reached, call after call of a host until a refusal, except where the Rust compares a scalar with a vector, or TRUE with FALSE.
+use Prim.Native.Nat.{ℕ, _<_}
+use mathlib.Core.Bool.{Bool, true, false, cond, _&&_}
 use mathlib.Core.Path.{_≡_}
 use mathlib.Core.List.{List, [], _∷_}
 use mathlib.Core.Option.{Option, none, some}
@@ -16,18 +16,22 @@ use Rattle.storage.specs.declared.Task.{Task}
 use Rattle.storage.specs.Tasks.{blank}
 use Rattle.machine.specs.declared.Outcome.{Outcome}
 use Rattle.machine.specs.declared.Outcome.the-variants as outcome
+use Rattle.machine.specs.declared.Verb.{Verb}
 use Rattle.machine.specs.World.{World, memory-in-use}
+use Rattle.machine.specs.Step.{step}
 use Rattle.machine.specs.Calls.{Reported, call}
 use Rattle.machine.specs.History.{FreshWorld, is-created, HostCall, runs, saves, reads-value, reads-task, left-by, world-after}
 use Rattle.rust.specs.Errors.{VMError, ok}
 use Rattle.rust.specs.TaskTypes.{TaskVM}
 use Rattle.rust.specs.Storage.{get}
+use Rattle.rust.specs.Vm as rust
 use Rattle.rust.specs.Vm.{VM}
 use Rattle.rust.specs.Run.{init, Ran, returned, running, failed}
-use Rattle.agreement.specs.View.{storage-of}
+use Rattle.agreement.specs.View.{storage-of, view}
 use Rattle.agreement.specs.Agreement.{refusal-of}
-use Rattle.agreement.specs.Runs.{ReadAlike}
+use Rattle.agreement.specs.Runs.{rust-call, ReadAlike}
 use Rattle.agreement.specs.Creation.{stored}
+use Rattle.agreement.specs.Exceptions.{excepted, excepted-answer, rust-excepted-answer, host-call-comes}
 
 -- ---- where it holds
 
@@ -67,10 +71,10 @@ call-meets saves w = false
 call-meets (reads-value position) w = false
 call-meets (reads-task id) w = false
 
--- no limit that this port adds is reached in a history
+-- in a history no limit that this port adds is reached, and no run comes to an instruction that is left out
 pub data NoneMet : List HostCall → World → Type 0 where
   no-call : {w : World} → NoneMet [] w
-  not-met : {one : HostCall} {others : List HostCall} {w : World} → call-meets one w ≡ false → NoneMet others (left-by one w) → NoneMet (one ∷ others) w
+  not-met : {one : HostCall} {others : List HostCall} {w : World} → call-meets one w ≡ false → host-call-comes one w ≡ false → NoneMet others (left-by one w) → NoneMet (one ∷ others) w
 
 -- ---- what is equal
 
@@ -112,6 +116,19 @@ pub data Equal (r : Reported) : Ran → Type 0 where
   same-refusal : {error : VMError} {before : VM} → r .report .outcome ≡ outcome.Refused (refusal-of error)
       → SameMachine (world-after r) before
       → Equal r (failed error before)
+
+-- ---- up to the first instruction that is left out
+
+-- a call that comes to one: so many instructions before it, both machines are in a run and the same, and what each of them answers then
+pub record UpTo (verb : Verb) (fuel : ℕ) (w : World) (ran : Ran) : Type 0 where
+  pub finished : ℕ
+  pub fewer : finished < fuel
+  pub paused : call verb finished w .report .outcome ≡ outcome.Paused
+  pub stale : ℕ
+  pub same : rust-call verb finished ran ≡ running (view stale (world-after (call verb finished w)))
+  pub left-out : excepted (world-after (call verb finished w)) ≡ true
+  pub answer : step (world-after (call verb finished w)) ≡ excepted-answer (world-after (call verb finished w))
+  pub rust-answer : rust.step (view stale (world-after (call verb finished w))) ≡ rust-excepted-answer stale (world-after (call verb finished w))
 
 -- ---- between two calls
 

@@ -15,7 +15,7 @@ use Rattle.machine.specs.Step as machine-step
 use Rattle.machine.specs.Run as machine-run
 use Rattle.machine.specs.declared.Outcome.the-variants as outcome
 use Rattle.storage.specs.Tasks.{blank}
-use Rattle.values.specs.Values.{to-u32-val, to-calldata-val}
+use Rattle.values.specs.Values.{to-calldata-val}
 use Rattle.image.specs.declared.SaveResult.the-variants.{Saved, NotSaved}
 use Rattle.memory.specs.declared.unbox.Return.the-variants.{U32, CallData, NoReturn}
 use Rattle.machine.specs.declared.CreateResult.the-variants.{Created, NotCreated}
@@ -209,7 +209,7 @@ pub record Examples : Type 0 where
   pub save-unsound : saved 13 (high 1001) .report .result ≡ NotSaved WrongPhaseOrUnsound
 
 pub examples : Examples
-unfolding bytecode-opcodes.operand-size bytecode-operands.big-endian bytecode-operands.operand bytecode-operands.data-size bytecode-operands.behind bytecode-operands.extent inlinevec-stacks.if-room inlinevec-stacks.if-some inlinevec-stacks.push inlinevec-stacks.pop inlinevec-stacks.push-two inlinevec-stacks.last-two inlinevec-stacks.pop-two inlinevec-stacks.change-two inlinevec-stacks.push-loop inlinevec-stacks.pop-loop values-values.make-scalar-tagged values-values.is-qnan values-values.is-scalar values-values.is-vec values-values.raw-tag values-values.tag-of values-values.to-u32 values-values.scalar-type values-values.get-value-type pools-pool.end-of pools-pool.start-of pools-pool.bounds pools-pool.entry-of pools-pool.has-room pools-pool.interned pools-pool.part-in-use pools-pool.never-fall pools-pool.end-to-end storage-tasks.blank storage-tasks.title-of storage-tasks.new-task storage-storage.slot-of storage-storage.find storage-table.sound-slot storage-table.sound-slots storage-table.sound-counts storage-table.sound-table vm-sound.sound-frames vm-sound.sound-lengths vm-sound.sound-record vm-sound.sound-world vm-calls.may-start vm-calls.may-continue vm-calls.allowed vm-calls.ended vm-calls.report vm-calls.call-with vm-calls.call vm-reads.is-done vm-reads.readable vm-reads.value-at vm-reads.value-read vm-reads.readable-unless vm-reads.if-found vm-reads.task-result vm-reads.task-read vm-reads.host-saved vm-reads.host-save vm-creation.create vm-creation.create-fit vm-creation.create-behind creation-creation.image-tests creation-creation.creation-tests unbox-unbox.where-bounded unbox-unbox.by-type unbox-unbox.unbox-value image-image.record-of image-image.header image-image.body image-image.task-at image-image.headed image-image.good image-image.task-before image-image.read-from image-image.with-count image-image.read-image slices-numbers.little-endian slices-numbers.number-at image-reading.s-len-of image-reading.instruction-bytes image-reading.image-result image-slots.loaded-task image-slots.saved-task image-table.living-tasks image-table.refusal-by image-table.task-refusal image-table.or-else image-table.first-refusal image-table.image-of-tasks image-table.saved-over image-table.saved-unless image-table.save-tasks image-table.save-table image-table.bytes-after image-table.entries-after image-table.next-reference image-slots.task-in utf8-grammar.UTF8-char utf8-utf8.holds utf8-utf8.lead utf8-utf8.from utf8-utf8.valid machine-machines.current machine-machines.with-current machine-machines.code-of machine-machines.op-at machine-machines.placed machine-machines.rewound machine-fields.within machine-fields.title-bytes machine-world.at-end machine-words.test machine-words.operand-found machine-words.popped machine-words.looked-at machine-words.push machine-words.calculated machine-words.pointed machine-words.tagged machine-words.bytes-of machine-words.allocated machine-words.store machine-words.element-changed machine-words.loop-pushed machine-words.loop-popped machine-words.loop-looked-at machine-words.frame-pushed machine-words.frame-popped machine-words.bounds-found machine-words.interned machine-words.found machine-words.first-state machine-words.has-state machine-words.with-room machine-words.saved machine-opcodes.push-u32 machine-opcodes.push-byte machine-opcodes.push-calldata machine-opcodes.mul machine-opcodes.muli machine-opcodes.compare machine-opcodes.t-create machine-opcodes.get-field machine-opcodes.t-get-field machine-opcodes.set-field machine-opcodes.t-set-field machine-opcodes.t-delete machine-opcodes.s-save machine-opcodes.s-len machine-opcodes.«do» machine-opcodes.loop machine-opcodes.loop-index machine-opcodes.enter machine-opcodes.call-task machine-opcodes.end-call machine-opcodes.jump-if-false machine-opcodes.drops machine-opcodes.dup machine-opcodes.swap machine-opcodes.equal machine-opcodes.eq machine-opcodes.neq machine-opcodes.m-sti machine-opcodes.m-st machine-opcodes.m-muta machine-step.execute machine-step.step machine-run.follow machine-run.run image-image.written image-image.records image-table.load-slot image-table.load-tasks image-table.load-read image-table.load-table
+unfolding bytecode-opcodes.operand-size bytecode-operands.big-endian bytecode-operands.operand bytecode-operands.data-size bytecode-operands.behind bytecode-operands.extent inlinevec-stacks.if-room inlinevec-stacks.if-some inlinevec-stacks.push inlinevec-stacks.pop inlinevec-stacks.push-two inlinevec-stacks.last-two inlinevec-stacks.pop-two inlinevec-stacks.change-two inlinevec-stacks.push-loop inlinevec-stacks.pop-loop values-values.make-scalar-tagged values-values.is-qnan values-values.is-scalar values-values.is-vec values-values.raw-tag values-values.tag-of values-values.to-u32 values-values.scalar-type values-values.get-value-type pools-pool.end-of pools-pool.start-of pools-pool.bounds pools-pool.entry-of pools-pool.has-room pools-pool.interned pools-pool.part-in-use pools-pool.never-fall pools-pool.end-to-end storage-tasks.blank storage-tasks.title-of storage-tasks.new-task storage-storage.slot-of storage-storage.find storage-table.sound-slot storage-table.sound-slots storage-table.sound-counts storage-table.sound-table vm-sound.sound-frames vm-sound.sound-lengths vm-sound.sound-record vm-sound.sound-world vm-calls.may-start vm-calls.may-continue vm-calls.allowed vm-calls.ended vm-calls.report vm-calls.call-with vm-calls.call vm-reads.is-done vm-reads.readable vm-reads.value-at vm-reads.value-read vm-reads.readable-unless vm-reads.if-found vm-reads.task-result vm-reads.task-read vm-reads.host-saved vm-reads.host-save vm-creation.create vm-creation.create-fit vm-creation.create-behind creation-creation.image-tests creation-creation.creation-tests unbox-unbox.where-bounded unbox-unbox.by-type unbox-unbox.unbox-value image-image.record-of image-image.header image-image.body image-image.task-at image-image.headed image-image.good image-image.task-before image-image.read-from image-image.with-count image-image.read-image slices-numbers.little-endian slices-numbers.number-at image-reading.s-len-of image-reading.instruction-bytes image-reading.image-result image-slots.loaded-task image-slots.saved-task image-table.living-tasks image-table.refusal-by image-table.task-refusal image-table.or-else image-table.first-refusal image-table.image-of-tasks image-table.saved-over image-table.saved-unless image-table.save-tasks image-table.save-table image-table.bytes-after image-table.entries-after image-table.next-reference image-slots.task-in utf8-grammar.UTF8-char utf8-utf8.holds utf8-utf8.lead utf8-utf8.from utf8-utf8.valid machine-machines.current machine-machines.with-current machine-machines.code-of machine-machines.op-at machine-machines.placed machine-machines.rewound machine-fields.within machine-fields.title-bytes machine-world.at-end machine-words.test machine-words.operand-found machine-words.popped machine-words.looked-at machine-words.push machine-words.calculated machine-words.pointed machine-words.bytes-of machine-words.allocated machine-words.store machine-words.element-changed machine-words.loop-pushed machine-words.loop-popped machine-words.loop-looked-at machine-words.frame-pushed machine-words.frame-popped machine-words.bounds-found machine-words.interned machine-words.found machine-words.first-state machine-words.has-state machine-words.with-room machine-words.saved machine-opcodes.push-u32 machine-opcodes.push-byte machine-opcodes.push-calldata machine-opcodes.mul machine-opcodes.muli machine-opcodes.compare machine-opcodes.t-create machine-opcodes.get-field machine-opcodes.t-get-field machine-opcodes.set-field machine-opcodes.t-set-field machine-opcodes.t-delete machine-opcodes.s-save machine-opcodes.s-len machine-opcodes.«do» machine-opcodes.loop machine-opcodes.loop-index machine-opcodes.enter machine-opcodes.call-task machine-opcodes.end-call machine-opcodes.jump-if-false machine-opcodes.drops machine-opcodes.dup machine-opcodes.swap machine-opcodes.equal machine-opcodes.eq machine-opcodes.neq machine-opcodes.m-sti machine-opcodes.m-st machine-opcodes.m-muta machine-step.execute machine-step.step machine-run.follow machine-run.run image-image.written image-image.records image-table.load-slot image-table.load-tasks image-table.load-read image-table.load-table
 examples = record {
   end-call-in-main = refl;
   calldata-value = refl;

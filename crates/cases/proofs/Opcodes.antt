@@ -4,7 +4,7 @@ use mathlib.Core.Bool.{true, false}
 use mathlib.Core.List.{List, [], _∷_, _++_}
 use mathlib.Core.Path.{_≡_, refl}
 use lib.ListN.{replicate, take, getD}
-use Rattle.errors.specs.declared.Refusal.the-variants.{UnexpectedEOB, StackUnderflow, StackOverflow, InvalidType, MSliceParamOverflow, MSliceOutOfBounds, InvalidTaskField, TitleTooLong}
+use Rattle.errors.specs.declared.Refusal.the-variants.{UnexpectedEOB, StackUnderflow, StackOverflow, TypeMismatch, InvalidType, MSliceParamOverflow, MSliceOutOfBounds, InvalidTaskField, TitleTooLong}
 use Rattle.bytecode.specs.Opcodes.{PUSH-U32, PUSH-STATE, PUSH-CALLDATA, PUSH-TASK-FIELD, PUSH-MAX-STATES, T-CREATE, T-GET-FIELD, T-SET-FIELD, S-LOAD, S-LEN, DO, LOOP, LOOP-INDEX, DROP, DUP, SWAP, EQ, NEQ, LT, GT, JUMP-IF-FALSE, M-STI, M-ST, M-MUTA, MULI, MUL}
 use Rattle.inlinevec.specs.declared.Loop.{Loop}
 use Rattle.storage.specs.declared.Task.{Task}
@@ -23,6 +23,8 @@ use Rattle.inlinevec.specs.Stacks as inlinevec-stacks
 use Rattle.values.specs.Values as values-values
 use Rattle.memory.specs.Allocation as memory-allocation
 use Rattle.memory.specs.Change as memory-change
+use Rattle.memory.specs.Reads as memory-reads
+use Rattle.slices.specs.Same as slices-same
 use Rattle.slices.specs.Numbers as slices-numbers
 use Rattle.pools.specs.Pool as pools-pool
 use Rattle.storage.specs.Tasks as storage-tasks
@@ -51,6 +53,10 @@ True = number 1 ++ number 1 ++ (EQ ∷ [])
 
 abbrev False : List ℕ
 False = number 1 ++ number 2 ++ (EQ ∷ [])
+
+-- four bytes of numbers from place 0 on: a vector that reads as the number 0
+abbrev Numbers : List ℕ
+Numbers = M-STI ∷ 0 ∷ 4 ∷ 6 ∷ 0 ∷ []
 
 -- behind one of these: to the end over a 7, or on at the 7
 abbrev Jump : List ℕ
@@ -206,6 +212,21 @@ pub record Opcodes : Type 0 where
   pub eq : values (Two ++ (EQ ∷ [])) ≡ to-bool-val false ∷ []
   -- NEQ
   pub neq : values (Two ++ (NEQ ∷ [])) ≡ to-bool-val true ∷ []
+  -- a number and a vector are 6, whichever is on the left
+  pub eq-vector-right : run-end (number 0 ++ Numbers ++ (EQ ∷ [])) .outcome ≡ Refused TypeMismatch
+  pub eq-vector-left : run-end (Numbers ++ number 0 ++ (EQ ∷ [])) .outcome ≡ Refused TypeMismatch
+  pub neq-vector-right : run-end (number 0 ++ Numbers ++ (NEQ ∷ [])) .outcome ≡ Refused TypeMismatch
+  pub neq-vector-left : run-end (Numbers ++ number 0 ++ (NEQ ∷ [])) .outcome ≡ Refused TypeMismatch
+  -- two bools are compared
+  pub eq-true-false : values (True ++ False ++ (EQ ∷ [])) ≡ to-bool-val false ∷ []
+  pub eq-false-true : values (False ++ True ++ (EQ ∷ [])) ≡ to-bool-val false ∷ []
+  pub eq-true-true : values (True ++ True ++ (EQ ∷ [])) ≡ to-bool-val true ∷ []
+  pub neq-true-false : values (True ++ False ++ (NEQ ∷ [])) ≡ to-bool-val true ∷ []
+  pub neq-false-true : values (False ++ True ++ (NEQ ∷ [])) ≡ to-bool-val true ∷ []
+  pub neq-false-false : values (False ++ False ++ (NEQ ∷ [])) ≡ to-bool-val false ∷ []
+  -- two vectors are compared by their bytes, and of different tags they are 6
+  pub eq-texts : values (Text ++ Text ++ (EQ ∷ [])) ≡ to-bool-val true ∷ []
+  pub eq-text-numbers : run-end (Text ++ Numbers ++ (EQ ∷ [])) .outcome ≡ Refused TypeMismatch
   -- JUMP_IF_FALSE jumps on FALSE, which it pops
   pub jump : values (False ++ Jump) ≡ []
   -- and not on TRUE
@@ -228,7 +249,7 @@ pub record Opcodes : Type 0 where
   pub m-muta-outside : with-less-memory 1 3 Changed ≡ Refused (MSliceOutOfBounds 0 2)
 
 pub opcodes : Opcodes
-unfolding bytecode-operands.big-endian bytecode-operands.operand inlinevec-stacks.if-room inlinevec-stacks.if-some inlinevec-stacks.pop inlinevec-stacks.last inlinevec-stacks.push-two inlinevec-stacks.last-two inlinevec-stacks.pop-two inlinevec-stacks.change-two inlinevec-stacks.push-loop inlinevec-stacks.pop-loop inlinevec-stacks.last-loop inlinevec-stacks.push-frame values-values.make-scalar-tagged values-values.make-vec-tagged values-values.to-vec-val values-values.to-bool-val values-values.is-qnan values-values.is-scalar values-values.is-vec values-values.raw-tag values-values.tag-of values-values.is-u32-val values-values.to-u32 values-values.fat-pointer values-values.to-fat-pointer values-values.bool-not values-values.product values-values.mul-checked values-values.mul-checked-i values-values.alike values-values.value-eq values-values.value-cmp memory-allocation.offset-aligned memory-allocation.is-element-tag memory-allocation.vector memory-allocation.filling memory-allocation.vector-stored memory-allocation.alloc memory-change.element-size-bytes memory-change.inside memory-change.changed memory-change.mut-vec slices-numbers.little-endian pools-pool.end-of pools-pool.start-of pools-pool.bounds pools-pool.entry-of pools-pool.has-room pools-pool.interned pools-pool.part-in-use storage-tasks.blank storage-tasks.default-state storage-tasks.with-state storage-tasks.title-of storage-tasks.new-task storage-storage.slot-of storage-storage.find storage-storage.room storage-storage.len-after machine-machines.current machine-machines.with-current machine-machines.code-of machine-machines.op-at machine-machines.placed machine-titles.title-bytes machine-world.at-end machine-words.test machine-words.operand-found machine-words.popped machine-words.looked-at machine-words.push machine-words.calculated machine-words.pointed machine-words.tagged machine-words.bytes-of machine-words.allocated machine-words.store machine-words.element-changed machine-words.loop-pushed machine-words.loop-popped machine-words.loop-looked-at machine-words.frame-pushed machine-words.bounds-found machine-words.interned machine-words.found machine-words.first-state machine-words.has-state machine-words.with-room machine-opcodes.push-u32 machine-opcodes.push-byte machine-opcodes.push-calldata machine-opcodes.mul machine-opcodes.muli machine-opcodes.compare machine-opcodes.t-create machine-opcodes.get-field machine-opcodes.t-get-field machine-opcodes.set-field machine-opcodes.t-set-field machine-opcodes.t-delete machine-opcodes.s-len machine-opcodes.«do» machine-opcodes.loop machine-opcodes.loop-index machine-opcodes.enter machine-opcodes.call-task machine-opcodes.end-call machine-opcodes.jump-if-false machine-opcodes.drops machine-opcodes.dup machine-opcodes.swap machine-opcodes.equal machine-opcodes.eq machine-opcodes.neq machine-opcodes.m-sti machine-opcodes.m-st machine-opcodes.m-muta machine-step.execute machine-step.step machine-run.follow machine-run.run
+unfolding bytecode-operands.big-endian bytecode-operands.operand inlinevec-stacks.if-room inlinevec-stacks.if-some inlinevec-stacks.pop inlinevec-stacks.last inlinevec-stacks.push-two inlinevec-stacks.last-two inlinevec-stacks.pop-two inlinevec-stacks.change-two inlinevec-stacks.push-loop inlinevec-stacks.pop-loop inlinevec-stacks.last-loop inlinevec-stacks.push-frame values-values.make-scalar-tagged values-values.make-vec-tagged values-values.to-vec-val values-values.to-bool-val values-values.is-qnan values-values.is-scalar values-values.is-vec values-values.raw-tag values-values.tag-of values-values.is-u32-val values-values.to-u32 values-values.fat-pointer values-values.to-fat-pointer values-values.bool-not values-values.product values-values.mul-checked values-values.mul-checked-i values-values.is-bool values-values.one-vector values-values.of-one-kind values-values.alike values-values.value-eq values-values.value-cmp memory-allocation.offset-aligned memory-allocation.is-element-tag memory-allocation.vector memory-allocation.filling memory-allocation.vector-stored memory-allocation.alloc memory-change.element-size-bytes memory-change.inside memory-change.changed memory-change.mut-vec slices-numbers.little-endian pools-pool.end-of pools-pool.start-of pools-pool.bounds pools-pool.entry-of pools-pool.has-room pools-pool.interned pools-pool.part-in-use storage-tasks.blank storage-tasks.default-state storage-tasks.with-state storage-tasks.title-of storage-tasks.new-task storage-storage.slot-of storage-storage.find storage-storage.room storage-storage.len-after machine-machines.current machine-machines.with-current machine-machines.code-of machine-machines.op-at machine-machines.placed machine-titles.title-bytes machine-world.at-end machine-words.test machine-words.operand-found machine-words.popped machine-words.looked-at machine-words.push machine-words.calculated machine-words.pointed machine-words.bytes-of machine-words.allocated machine-words.store machine-words.element-changed machine-words.loop-pushed machine-words.loop-popped machine-words.loop-looked-at machine-words.frame-pushed machine-words.bounds-found machine-words.interned machine-words.found machine-words.first-state machine-words.has-state machine-words.with-room machine-opcodes.push-u32 machine-opcodes.push-byte machine-opcodes.push-calldata machine-opcodes.mul machine-opcodes.muli machine-opcodes.compare machine-opcodes.t-create machine-opcodes.get-field machine-opcodes.t-get-field machine-opcodes.set-field machine-opcodes.t-set-field machine-opcodes.t-delete machine-opcodes.s-len machine-opcodes.«do» machine-opcodes.loop machine-opcodes.loop-index machine-opcodes.enter machine-opcodes.call-task machine-opcodes.end-call machine-opcodes.jump-if-false machine-opcodes.drops machine-opcodes.dup machine-opcodes.swap machine-opcodes.equal machine-opcodes.eq machine-opcodes.neq machine-opcodes.m-sti machine-opcodes.m-st machine-opcodes.m-muta machine-step.execute machine-step.step machine-run.follow machine-run.run memory-reads.is-m-slice-eq slices-same.same
 opcodes = record {
   push-u32 = refl;
   push-u32-place = refl;
@@ -270,6 +291,18 @@ opcodes = record {
   swap = refl;
   eq = refl;
   neq = refl;
+  eq-vector-right = refl;
+  eq-vector-left = refl;
+  neq-vector-right = refl;
+  neq-vector-left = refl;
+  eq-true-false = refl;
+  eq-false-true = refl;
+  eq-true-true = refl;
+  neq-true-false = refl;
+  neq-false-true = refl;
+  neq-false-false = refl;
+  eq-texts = refl;
+  eq-text-numbers = refl;
   jump = refl;
   no-jump = refl;
   jump-cut = refl;

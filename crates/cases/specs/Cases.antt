@@ -1,6 +1,6 @@
 -- The cases C1 to C12 (docs/REFERENCE.md, 'Cases') as one table, and beside it small programs for single instructions.
 use Prim.Native.Nat.{ℕ}
-use mathlib.Core.Bool.{true}
+use mathlib.Core.Bool.{false}
 use mathlib.Core.List.{List, [], _∷_, _++_}
 use mathlib.Core.Path.{_≡_}
 use lib.ListN.{length, replicate, take, getD}
@@ -164,8 +164,8 @@ pub record Cases : Type 0 where
   pub c2 : to-u32-val 99 ≡ 0x7FFC0000018C0006
   -- numbers at 4, size 6
   pub c3 : to-vec-val 4 6 6 ≡ Value 0xFFFC000008000C06
-  -- number 512 on the left equals C3: the two values before EQ, and the one after it
-  pub c4 : (take 2 (run 4 (fresh-world C4) .world .stack) ≡ to-u32-val 512 ∷ 0xFFFC000008000C06 ∷ []) × ((run-end C4 .world .machine .height ≡ 1) × (getD (run-end C4 .world .stack) 0 0 ≡ to-bool-val true))
+  -- number 512 on the left of C3, which reads as 512, gives 6: the two values before EQ, which stay
+  pub c4 : (take 2 (run 4 (fresh-world C4) .world .stack) ≡ to-u32-val 512 ∷ 0xFFFC000008000C06 ∷ []) × ((run-end C4 .world .machine .height ≡ 2) × (run-end C4 .outcome ≡ Refused TypeMismatch))
   -- M_MUTA on C3: index 0 works, and writes 7 in 4 bytes from 4 on; 1 gives 14
   pub c5 : (run-end C5-0 .outcome ≡ Done)
       × ((getD (run-end C5-0 .world .stack) 1 0 ≡ 0xFFFC000008000C06)
@@ -180,8 +180,8 @@ pub record Cases : Type 0 where
   pub c9 : (run-end C9-stands .outcome ≡ Done) × ((getD (run-end C9-stands .world .stack) 0 0 ≡ to-u32-val 4294967295) × (run-end C9-7 .outcome ≡ Refused MultiplicationOverflowed))
   -- code `01 00` gives 2
   pub c10 : run-end C10 .outcome ≡ Refused UnexpectedEOB
-  -- TRUE EQ FALSE gives 6
-  pub c11 : run-end C11 .outcome ≡ Refused TypeMismatch
+  -- TRUE EQ FALSE gives FALSE
+  pub c11 : (run-end C11 .outcome ≡ Done) × ((run-end C11 .world .machine .height ≡ 1) × (getD (run-end C11 .world .stack) 0 0 ≡ to-bool-val false))
   -- image I1 loads: the machine that is created, its tasks, and the same bytes from the host's save and from S_SAVE
   pub c12 : (I1-made .answer ≡ Created (new-machine 1 2 1 1))
       × ((image-of-tasks 1 (living-tasks (I1-made .table)) (I1-made .pool) (I1-made .ends) ≡ Ab) × ((host-save I1-world .save ≡ I1 ++ (9 ∷ [])) × (start 1 I1-world .save ≡ I1 ++ (9 ∷ []))))

@@ -8,7 +8,7 @@ use Rattle.memory.specs.Change.{mut-vec}
 use Rattle.memory.specs.Reads.{get-slice-bytes, is-m-slice-eq}
 use Rattle.memory.specs.Unbox.{part-of, unbox-value}
 use Rattle.pools.specs.Pool.{bounds, end-to-end, entry-of, has-room, interned, part-in-use, pooled}
-use Rattle.values.specs.Values.{bool-not, get-value-type, is-vec, mul-checked, mul-checked-i, raw-tag, tag-of, to-bool-val, to-calldata-val, to-fat-pointer, to-u32, to-u32-val, to-vec-val, value-cmp, value-eq, value-neq}
+use Rattle.values.specs.Values.{bool-not, fat-pointer, get-value-type, is-vec, mul-checked, mul-checked-i, raw-tag, tag-of, to-bool-val, to-calldata-val, to-fat-pointer, to-u32, to-u32-val, to-vec-val, value-cmp, value-eq, value-neq}
 use Rattle.memory.specs.Allocation as memory-allocation
 use Rattle.memory.specs.Change as memory-change
 use Rattle.bytecode.proofs as bytecode
@@ -206,6 +206,13 @@ values-to-u32 _ v r =
 
 pub values-to-u32-says : {M : Type 1} → values.to_u32.Statement.statement M → Answers M values.to_u32.ended values.to_u32.Symbol.routine values-to-u32
 values-to-u32-says met = met
+
+abbrev pub values-fat-pointer : Line values.fat_pointer.ended
+values-fat-pointer _ v r =
+    r ≡ fat-pointer (v .entry)
+
+pub values-fat-pointer-says : {M : Type 1} → values.fat_pointer.Statement.statement M → Answers M values.fat_pointer.ended values.fat_pointer.Symbol.routine values-fat-pointer
+values-fat-pointer-says met = met
 
 abbrev pub values-to-fat-pointer : Line values.to_fat_pointer.ended
 values-to-fat-pointer _ v r =

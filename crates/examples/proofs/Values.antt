@@ -3,7 +3,7 @@ use Prim.Native.Nat.{ℕ}
 use mathlib.Core.Bool.{true, false}
 use mathlib.Core.Path.{_≡_, refl}
 use Rattle.errors.specs.declared.Refusal.the-variants.{MSliceParamOverflow, MultiplicationOverflowed, InvalidType, TypeMismatch}
-use Rattle.values.specs.Values.{to-u32-val, to-calldata-val, to-bool-val, to-vec-val, bool-not, mul-checked, mul-checked-i, value-eq, value-neq, value-cmp, get-value-type, is-vec, raw-tag, tag-of, to-u32, to-fat-pointer, make-scalar-tagged, make-vec-tagged, is-qnan, is-scalar, is-u32-val, fat-pointer, product, alike, turned, vec-type, scalar-type}
+use Rattle.values.specs.Values.{to-u32-val, to-calldata-val, to-bool-val, to-vec-val, bool-not, mul-checked, mul-checked-i, value-eq, value-neq, value-cmp, get-value-type, is-vec, raw-tag, tag-of, to-u32, to-fat-pointer, make-scalar-tagged, make-vec-tagged, is-qnan, is-scalar, is-u32-val, fat-pointer, product, is-bool, one-vector, of-one-kind, alike, turned, vec-type, scalar-type}
 use Rattle.values.specs.declared.PointerResult.the-variants.{Pointer, NoPointer}
 use Rattle.values.specs.declared.TagResult.the-variants.{Tag, NoTag}
 use Rattle.values.specs.declared.ValueResult.the-variants.{Value, NoValue}
@@ -45,11 +45,18 @@ pub record Examples : Type 0 where
   pub muli : mul-checked-i (to-u32-val 3) 5 ≡ Value (to-u32-val 15)
   -- words that are numbers but for a QNAN bit, or for the sign
   pub muli-with-sign : mul-checked-i 0xFFFC000000040006 5 ≡ NoValue InvalidType
-  -- TRUE and FALSE have different tags: 6
-  pub eq-bools : value-eq TRUE FALSE ≡ NoValue TypeMismatch
+  -- TRUE and FALSE are compared, and other values of different tags are not
+  pub eq-bools : value-eq TRUE FALSE ≡ Value FALSE
   pub eq-tags : value-eq one entry-one ≡ NoValue TypeMismatch
+  -- a number and a vector that reads as that number are not compared, whichever is on the left
+  pub eq-vector-right : value-eq 0x7FFC000002000006 two-at-one ≡ NoValue TypeMismatch
+  pub eq-vector-left : value-eq two-at-one 0x7FFC000002000006 ≡ NoValue TypeMismatch
+  -- words that are no boxes stay 5, beside a vector too
+  pub eq-no-box : value-eq 6 two-at-one ≡ NoValue InvalidType
   pub neq-equal : value-neq one one ≡ Value FALSE
   pub neq-tags : value-neq one entry-one ≡ NoValue TypeMismatch
+  pub neq-bools : value-neq FALSE TRUE ≡ Value TRUE
+  pub neq-vector : value-neq two-at-one 0x7FFC000002000006 ≡ NoValue TypeMismatch
   pub lt : value-cmp (to-u32-val 2) (to-u32-val 3) true ≡ Value TRUE
   pub gt : value-cmp (to-u32-val 3) (to-u32-val 2) false ≡ Value TRUE
   pub bool-type : get-value-type FALSE ≡ kind.Boolean
@@ -61,11 +68,12 @@ pub record Examples : Type 0 where
   -- no box
   pub no-tag : tag-of 0x7FF8000000000006 ≡ NoTag InvalidType
   pub read : to-u32 (to-u32-val 65536) ≡ 65536
+  pub read-pointer : fat-pointer two-at-one ≡ record { offset = 1; size = 2 }
   pub pointer : to-fat-pointer two-at-one ≡ Pointer (record { offset = 1; size = 2 })
   pub no-pointer : to-fat-pointer one ≡ NoPointer InvalidType
 
 pub examples : Examples
-unfolding make-scalar-tagged make-vec-tagged to-vec-val to-bool-val is-qnan is-scalar is-vec raw-tag tag-of is-u32-val to-u32 fat-pointer to-fat-pointer bool-not product mul-checked mul-checked-i alike value-eq turned value-neq value-cmp vec-type scalar-type get-value-type
+unfolding make-scalar-tagged make-vec-tagged to-vec-val to-bool-val is-qnan is-scalar is-vec raw-tag tag-of is-u32-val to-u32 fat-pointer to-fat-pointer bool-not product mul-checked mul-checked-i is-bool one-vector of-one-kind alike value-eq turned value-neq value-cmp vec-type scalar-type get-value-type
 examples = record {
   number = refl;
   calldata = refl;
@@ -82,8 +90,13 @@ examples = record {
   muli-with-sign = refl;
   eq-bools = refl;
   eq-tags = refl;
+  eq-vector-right = refl;
+  eq-vector-left = refl;
+  eq-no-box = refl;
   neq-equal = refl;
   neq-tags = refl;
+  neq-bools = refl;
+  neq-vector = refl;
   lt = refl;
   gt = refl;
   bool-type = refl;
@@ -94,6 +107,7 @@ examples = record {
   tag = refl;
   no-tag = refl;
   read = refl;
+  read-pointer = refl;
   pointer = refl;
   no-pointer = refl;
 }

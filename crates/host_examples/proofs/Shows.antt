@@ -77,7 +77,7 @@ pub record Examples : Type 0 where
   pub not-created : asked 1 [] saves .save ≡ replicate 16 255
 
 pub examples : Examples
-unfolding bytecode-opcodes.operand-size bytecode-operands.big-endian bytecode-operands.operand bytecode-operands.data-size bytecode-operands.behind bytecode-operands.extent inlinevec-stacks.if-room inlinevec-stacks.if-some inlinevec-stacks.push inlinevec-stacks.pop inlinevec-stacks.push-two inlinevec-stacks.last-two inlinevec-stacks.pop-two inlinevec-stacks.change-two inlinevec-stacks.push-loop inlinevec-stacks.pop-loop values-values.make-scalar-tagged values-values.to-u32 pools-pool.end-of pools-pool.start-of pools-pool.entry-of pools-pool.has-room pools-pool.interned pools-pool.never-fall pools-pool.end-to-end storage-table.sound-slot storage-table.sound-slots storage-table.sound-counts storage-table.sound-table storage-tasks.blank creation-creation.image-tests creation-creation.creation-tests image-image.record-of image-image.header image-image.read-image slices-numbers.little-endian slices-numbers.number-at image-reading.s-len-of image-reading.instruction-bytes image-reading.image-result image-table.living-tasks image-table.refusal-by image-table.task-refusal image-table.or-else image-table.first-refusal image-table.image-of-tasks image-table.saved-over image-table.saved-unless image-table.save-tasks image-table.save-table vm-calls.may-start vm-calls.may-continue vm-calls.allowed vm-calls.ended vm-calls.report vm-calls.call-with vm-calls.call vm-creation.create vm-creation.create-fit vm-creation.create-behind vm-reads.host-save vm-sound.sound-frames vm-sound.sound-lengths vm-sound.sound-record vm-sound.sound-world shows-asked.call-at shows-asked.verb-at shows-asked.fuel-at shows-asked.verb-of shows-asked.ran vm-creation.machine-of shows-asked.count-of shows-shows.performed shows-shows.after-call shows-shows.after-calls shows-shows.played vm-creation.blank-table shows-shows.own machine-machines.current machine-machines.with-current machine-machines.code-of machine-machines.op-at machine-machines.placed machine-machines.rewound machine-fields.within machine-fields.title-bytes machine-world.at-end machine-words.test machine-words.operand-found machine-words.popped machine-words.looked-at machine-words.push machine-words.calculated machine-words.pointed machine-words.tagged machine-words.bytes-of machine-words.allocated machine-words.store machine-words.element-changed machine-words.loop-pushed machine-words.loop-popped machine-words.loop-looked-at machine-words.frame-pushed machine-words.frame-popped machine-words.bounds-found machine-words.interned machine-words.found machine-words.first-state machine-words.has-state machine-words.with-room machine-words.saved machine-opcodes.push-u32 machine-opcodes.push-byte machine-opcodes.push-calldata machine-opcodes.mul machine-opcodes.muli machine-opcodes.compare machine-opcodes.t-create machine-opcodes.get-field machine-opcodes.t-get-field machine-opcodes.set-field machine-opcodes.t-set-field machine-opcodes.t-delete machine-opcodes.s-save machine-opcodes.s-len machine-opcodes.«do» machine-opcodes.loop machine-opcodes.loop-index machine-opcodes.enter machine-opcodes.call-task machine-opcodes.end-call machine-opcodes.jump-if-false machine-opcodes.drops machine-opcodes.dup machine-opcodes.swap machine-opcodes.equal machine-opcodes.eq machine-opcodes.neq machine-opcodes.m-sti machine-opcodes.m-st machine-opcodes.m-muta machine-step.execute machine-step.step machine-run.follow machine-run.run image-image.written image-image.records image-table.load-slot image-table.load-tasks image-table.load-read image-table.load-table
+unfolding bytecode-opcodes.operand-size bytecode-operands.big-endian bytecode-operands.operand bytecode-operands.data-size bytecode-operands.behind bytecode-operands.extent inlinevec-stacks.if-room inlinevec-stacks.if-some inlinevec-stacks.push inlinevec-stacks.pop inlinevec-stacks.push-two inlinevec-stacks.last-two inlinevec-stacks.pop-two inlinevec-stacks.change-two inlinevec-stacks.push-loop inlinevec-stacks.pop-loop values-values.make-scalar-tagged values-values.to-u32 pools-pool.end-of pools-pool.start-of pools-pool.entry-of pools-pool.has-room pools-pool.interned pools-pool.never-fall pools-pool.end-to-end storage-table.sound-slot storage-table.sound-slots storage-table.sound-counts storage-table.sound-table storage-tasks.blank creation-creation.image-tests creation-creation.creation-tests image-image.record-of image-image.header image-image.read-image slices-numbers.little-endian slices-numbers.number-at image-reading.s-len-of image-reading.instruction-bytes image-reading.image-result image-table.living-tasks image-table.refusal-by image-table.task-refusal image-table.or-else image-table.first-refusal image-table.image-of-tasks image-table.saved-over image-table.saved-unless image-table.save-tasks image-table.save-table vm-calls.may-start vm-calls.may-continue vm-calls.allowed vm-calls.ended vm-calls.report vm-calls.call-with vm-calls.call vm-creation.create vm-creation.create-fit vm-creation.create-behind vm-reads.host-save vm-sound.sound-frames vm-sound.sound-lengths vm-sound.sound-record vm-sound.sound-world shows-asked.call-at shows-asked.verb-at shows-asked.fuel-at shows-asked.verb-of shows-asked.ran vm-creation.machine-of shows-asked.count-of shows-shows.performed shows-shows.after-call shows-shows.after-calls shows-shows.played vm-creation.blank-table shows-shows.own machine-machines.current machine-machines.with-current machine-machines.code-of machine-machines.op-at machine-machines.placed machine-machines.rewound machine-fields.within machine-fields.title-bytes machine-world.at-end machine-words.test machine-words.operand-found machine-words.popped machine-words.looked-at machine-words.push machine-words.calculated machine-words.pointed machine-words.bytes-of machine-words.allocated machine-words.store machine-words.element-changed machine-words.loop-pushed machine-words.loop-popped machine-words.loop-looked-at machine-words.frame-pushed machine-words.frame-popped machine-words.bounds-found machine-words.interned machine-words.found machine-words.first-state machine-words.has-state machine-words.with-room machine-words.saved machine-opcodes.push-u32 machine-opcodes.push-byte machine-opcodes.push-calldata machine-opcodes.mul machine-opcodes.muli machine-opcodes.compare machine-opcodes.t-create machine-opcodes.get-field machine-opcodes.t-get-field machine-opcodes.set-field machine-opcodes.t-set-field machine-opcodes.t-delete machine-opcodes.s-save machine-opcodes.s-len machine-opcodes.«do» machine-opcodes.loop machine-opcodes.loop-index machine-opcodes.enter machine-opcodes.call-task machine-opcodes.end-call machine-opcodes.jump-if-false machine-opcodes.drops machine-opcodes.dup machine-opcodes.swap machine-opcodes.equal machine-opcodes.eq machine-opcodes.neq machine-opcodes.m-sti machine-opcodes.m-st machine-opcodes.m-muta machine-step.execute machine-step.step machine-run.follow machine-run.run image-image.written image-image.records image-table.load-slot image-table.load-tasks image-table.load-read image-table.load-table
 examples = record {
   started = refl;
   paused = refl;

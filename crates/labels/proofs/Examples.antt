@@ -10,7 +10,7 @@ use Rattle.bytecode.specs.Opcodes.{operand-size}
 use Rattle.bytecode.specs.Operands.{big-endian, operand, data-size, behind}
 use Rattle.labels.specs.Check.{admission, admitted, refused, label-from, label-at, first-failing, first-without-rule, first-wrong-jump, swept}
 use Rattle.labels.specs.Elements.{element-end, joined, tag-kind, field-kind, with-kind, field-element, jump-element, moving-element, plain-element, whole-element, element}
-use Rattle.labels.specs.Labels.{exchanged, kinds-after, bounded, label, loops-after, rule, next-label}
+use Rattle.labels.specs.Labels.{exchanged, kinds-after, bounded, loops-after, rule, next-label}
 use Rattle.labels.specs.declared.Element.the-variants.{LoopIndex}
 use Rattle.labels.specs.declared.Exchange.the-variants.{Creates}
 use Rattle.labels.specs.declared.Kind.the-variants.{Calldata, Boolean, Number, Numbers, Text}
@@ -30,6 +30,10 @@ Less = 0x03 ∷ 0x00 ∷ 0x14 ∷ 0x18 ∷ []
 -- the same with DUP and EQ behind it: two bools
 abbrev Equal-bools : List ℕ
 Equal-bools = 0x03 ∷ 0x00 ∷ 0x14 ∷ 0x18 ∷ 0x14 ∷ 0x16 ∷ []
+
+-- PUSH_STATE 0, DUP, DUP, LT, EQ: a number and a bool
+abbrev Equal-unlike : List ℕ
+Equal-unlike = 0x03 ∷ 0x00 ∷ 0x14 ∷ 0x14 ∷ 0x18 ∷ 0x16 ∷ []
 
 -- PUSH_STATE 0, PUSH_CALLDATA of no bytes, SWAP
 abbrev Swapped : List ℕ
@@ -61,8 +65,10 @@ pub record Examples : Type 0 where
   pub less : admission Less ≡ admitted (Boolean ∷ [])
   -- SWAP
   pub swapped : admission Swapped ≡ admitted (Number ∷ Calldata ∷ [])
-  -- EQ does not take B
-  pub equal-bools : admission Equal-bools ≡ refused (NotAdmitted 5)
+  -- EQ takes two B
+  pub equal-bools : admission Equal-bools ≡ admitted (Boolean ∷ [])
+  -- and no N with a B
+  pub equal-unlike : admission Equal-unlike ≡ refused (NotAdmitted 5)
   -- tag 6 gives V
   pub no-numbers : admission No-numbers ≡ admitted (Numbers ∷ [])
   -- CALL has no rule
@@ -80,6 +86,7 @@ examples = record {
   less = refl;
   swapped = refl;
   equal-bools = refl;
+  equal-unlike = refl;
   no-numbers = refl;
   call = refl;
 }

@@ -66,11 +66,11 @@ gives kind (some kinds) = some (kind ∷ kinds)
 abbrev pub with-free-place : List Kind → Option (List Kind) → Option (List Kind)
 with-free-place kinds result = cond (ltb (length kinds) 1000) result none
 
--- two alike, not B, to B
+-- two alike, to B
 abbrev pub compares : List Kind → Option (List Kind)
 compares [] = none
 compares (b ∷ []) = none
-compares (b ∷ a ∷ kinds) = cond (same-kind b a) (cond (same-kind b Boolean) none (some (Boolean ∷ kinds))) none
+compares (b ∷ a ∷ kinds) = cond (same-kind b a) (some (Boolean ∷ kinds)) none
 
 -- S or V stays
 abbrev pub keeps-vector : List Kind → Option (List Kind)

@@ -1,6 +1,6 @@
 -- An instruction of a machine that passes the test of 26 is refused with another number than 26.
 use Prim.Native.Nat.{ℕ, _+_, _-_, _*_, _/_, _^_, _≤_, min}
-use mathlib.Core.Bool.{Bool, true, false, _||_}
+use mathlib.Core.Bool.{Bool, true, false, _&&_, _||_}
 use mathlib.Core.List.{List, [], _∷_}
 use mathlib.Core.Option.{Option, none, some}
 use mathlib.Core.Path.{_≡_, refl, subst}
@@ -25,10 +25,9 @@ use Rattle.inlinevec.specs.declared.PopLoopResult.{PopLoopResult}
 use Rattle.inlinevec.specs.declared.LastLoopResult.{LastLoopResult}
 use Rattle.inlinevec.specs.declared.FramesResult.{FramesResult}
 use Rattle.inlinevec.specs.declared.PopFrameResult.{PopFrameResult}
-use Rattle.values.specs.Values.{is-qnan, is-vec, is-u32-val, raw-tag, to-u32, to-bool-val, tag-of, to-fat-pointer, product, mul-checked, mul-checked-i, alike, value-eq, value-cmp, to-vec-val}
+use Rattle.values.specs.Values.{is-qnan, is-vec, is-u32-val, raw-tag, to-u32, to-bool-val, to-fat-pointer, one-vector, of-one-kind, product, mul-checked, mul-checked-i, alike, value-eq, value-cmp, to-vec-val}
 use Rattle.values.specs.declared.FatPointer.{FatPointer}
 use Rattle.values.specs.declared.PointerResult.{PointerResult}
-use Rattle.values.specs.declared.TagResult.{TagResult}
 use Rattle.values.specs.declared.ValueResult.{ValueResult}
 use Rattle.values.specs.declared.ValueResult.the-variants.{Value, NoValue}
 use Rattle.memory.specs.Allocation.{is-element-tag, offset-aligned, vector, vector-stored, alloc}
@@ -55,7 +54,7 @@ use Rattle.image.specs.Image.{written}
 use Rattle.image.specs.Slots.{title-in}
 use Rattle.image.specs.Table.{living-tasks, refusal-by, task-refusal, or-else, first-refusal, image-of-tasks, SavedTable, saved-over, saved-unless, save-tasks, save-table}
 use Rattle.machine.specs.World.{World, code, place, height, memory-in-use, op, at-end}
-use Rattle.machine.specs.Words.{StepResult, next, refused, test, operand-found, operand, popped, pop, looked-at, last, push, calculated, pointed, pointer, tagged, tag, bytes-of, allocated, store, element-changed, loop-pushed, push-loop, loop-popped, pop-loop, loop-looked-at, last-loop, frame-pushed, push-frame, frame-popped, pop-frame, bounds-found, bounds, interned, intern, task-of, found, find, first-state, has-state, with-room, room, saved}
+use Rattle.machine.specs.Words.{StepResult, next, refused, test, operand-found, operand, popped, pop, looked-at, last, push, calculated, pointed, pointer, bytes-of, allocated, store, element-changed, loop-pushed, push-loop, loop-popped, pop-loop, loop-looked-at, last-loop, frame-pushed, push-frame, frame-popped, pop-frame, bounds-found, bounds, interned, intern, task-of, found, find, first-state, has-state, with-room, room, saved}
 use Rattle.machine.specs.Opcodes.{push-u32, push-calldata, push-byte, id-of, t-create, get-field, t-get-field, set-field, t-set-field, t-delete, saving, s-save, s-len, «do», loop, loop-index, enter, call-task, end-call, drops, dup, swap, equal, eq, neq, compare, jump-if-false, m-sti, m-st, m-muta, muli, mul}
 use Rattle.machine.specs.Step.{execute, step}
 use Rattle.laws.specs.Sound.{Passes}
@@ -152,7 +151,8 @@ unfolding value-eq
 scalars-other left right =
     either Calculates (is-qnan left) _ _
     (λ _. either Calculates (is-qnan right) _ _
-    (λ _. either Calculates (eqb (raw-tag left) (raw-tag right)) _ _ (λ _. alike-other _ _ _) (λ _. no-value _ refl)) (λ _. no-value _ refl))
+    (λ _. either Calculates (one-vector left right) _ _ (λ _. no-value _ refl)
+    (λ _. either Calculates (of-one-kind left right) _ _ (λ _. alike-other _ _ _) (λ _. no-value _ refl))) (λ _. no-value _ refl))
     (λ _. no-value _ refl)
 
 slices-other : (memory : List ℕ) (left right : FatPointer) → Calculates (is-m-slice-eq memory left right)
@@ -171,10 +171,6 @@ vector-other used size tag =
 pointer-fine : (value : ℕ) (onward : FatPointer → StepResult) → ((vector : FatPointer) → Fine (onward vector)) → Fine (pointer value onward)
 unfolding pointed to-fat-pointer
 pointer-fine value onward fine = either (λ (r : PointerResult). Fine (pointed r onward)) (is-vec value) _ _ (λ _. fine _) (λ _. stops _ refl)
-
-tag-fine : (value : ℕ) (onward : ℕ → StepResult) → ((number : ℕ) → Fine (onward number)) → Fine (tag value onward)
-unfolding tagged tag-of
-tag-fine value onward fine = either (λ (r : TagResult). Fine (tagged r onward)) (is-qnan value) _ _ (λ _. fine _) (λ _. stops _ refl)
 
 bytes-fine : (w : World) (vector : FatPointer) (onward : List ℕ → StepResult) → ((bytes : List ℕ) → Fine (onward bytes)) → Fine (bytes-of w vector onward)
 unfolding bytes-of
@@ -411,12 +407,9 @@ module _ (w : World) (high : w .machine .height ≤ 1000) (few : w .machine .loo
   equal-fine : (left right : ℕ) (onward : ℕ → StepResult) → ((answer : ℕ) → Fine (onward answer)) → Fine (equal w left right onward)
   unfolding equal
   equal-fine left right onward fine =
-      tag-fine left _
-      (λ left-tag. tag-fine right _
-      (λ right-tag. test-fine (eqb left-tag right-tag) _ _ refl
-      (either Fine (is-vec left) _ _
-      (λ _. pointer-fine left _ (λ first. pointer-fine right _ (λ second. calculated-fine _ _ (slices-other (memory-in-use w) first second) fine)))
-      (λ _. calculated-fine _ _ (scalars-other left right) fine))))
+      either Fine (is-vec left && is-vec right) _ _
+      (λ _. test-fine (eqb (raw-tag left) (raw-tag right)) _ _ refl (calculated-fine _ _ (slices-other (memory-in-use w) _ _) fine))
+      (λ _. calculated-fine _ _ (scalars-other left right) fine)
 
   eq-fine : Fine (eq w)
   unfolding eq

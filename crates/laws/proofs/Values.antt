@@ -1,22 +1,18 @@
 -- What a calculation gives is no vector.
 use Prim.Native.Nat.{ℕ, _*_, _^_}
-use mathlib.Core.Bool.{Bool, true, false, not, false≢true}
+use mathlib.Core.Bool.{Bool, true, false, _&&_, not, false≢true}
 use mathlib.Core.List.{List}
 use mathlib.Core.Path.{_≡_, sym, _∙_, subst}
 use lib.Dec.{eqb, ltb}
 use Rattle.errors.specs.declared.Refusal.{Refusal}
-use Rattle.values.specs.Values.{make-scalar-tagged, to-bool-val, is-vec, is-qnan, is-u32-val, raw-tag, tag-of, to-u32, to-fat-pointer, product, mul-checked, mul-checked-i, alike, value-eq, turned, value-cmp}
+use Rattle.values.specs.Values.{make-scalar-tagged, to-bool-val, is-vec, is-qnan, is-u32-val, raw-tag, to-u32, one-vector, of-one-kind, product, mul-checked, mul-checked-i, alike, value-eq, turned, value-cmp}
 use Rattle.values.specs.declared.FatPointer.{FatPointer}
-use Rattle.values.specs.declared.PointerResult.{PointerResult}
-use Rattle.values.specs.declared.PointerResult.the-variants.{Pointer, NoPointer}
-use Rattle.values.specs.declared.TagResult.{TagResult}
-use Rattle.values.specs.declared.TagResult.the-variants.{Tag, NoTag}
 use Rattle.values.specs.declared.ValueResult.{ValueResult}
 use Rattle.values.specs.declared.ValueResult.the-variants.{Value, NoValue}
 use Rattle.values.proofs.Laws.{scalar-is-scalar, scalar-no-vec, bool-turned}
 use Rattle.memory.specs.Change.{inside}
 use Rattle.memory.specs.Reads.{is-m-slice-eq}
-use Rattle.mechanism.specs.Equality.{eq-right, eq-left, eq-vectors, eq-tagged, eq-right-tag, eq-left-tag, eq-values, turned-if}
+use Rattle.mechanism.specs.Equality.{eq-vectors, eq-values, turned-if}
 use Rattle.laws.specs.Sound.{Inside}
 use Rattle.laws.proofs.Either.{either}
 
@@ -84,7 +80,8 @@ unfolding value-eq
 value-eq-boolean left right =
     either Boolean (is-qnan left) _ _
     (λ _. either Boolean (is-qnan right) _ _
-    (λ _. either Boolean (eqb (raw-tag left) (raw-tag right)) _ _ (λ _. alike-boolean (raw-tag left) left right) (λ _. no-boolean _))
+    (λ _. either Boolean (one-vector left right) _ _ (λ _. no-boolean _)
+    (λ _. either Boolean (of-one-kind left right) _ _ (λ _. alike-boolean (raw-tag left) left right) (λ _. no-boolean _)))
     (λ _. no-boolean _))
     (λ _. no-boolean _)
 
@@ -98,32 +95,12 @@ slices-boolean memory left right =
     (λ _. no-boolean _)))
     (λ _. boolean false)
 
-right-boolean : (memory : List ℕ) (left : FatPointer) (result : PointerResult) → Boolean (eq-right memory left result)
-unfolding eq-right
-right-boolean memory left (Pointer right) = slices-boolean memory left right
-right-boolean memory left (NoPointer refusal) = no-boolean refusal
-
-left-boolean : (memory : List ℕ) (right : ℕ) (result : PointerResult) → Boolean (eq-left memory right result)
-unfolding eq-left
-left-boolean memory right (Pointer left) = right-boolean memory left (to-fat-pointer right)
-left-boolean memory right (NoPointer refusal) = no-boolean refusal
-
-tagged-boolean : (memory : List ℕ) (left right left-tag right-tag : ℕ) → Boolean (eq-tagged memory left right left-tag right-tag)
-unfolding eq-tagged eq-vectors
-tagged-boolean memory left right left-tag right-tag =
-    either Boolean (eqb left-tag right-tag) _ _
-    (λ _. either Boolean (is-vec left) _ _ (λ _. left-boolean memory right (to-fat-pointer left)) (λ _. value-eq-boolean left right))
-    (λ _. no-boolean _)
-
-right-tag-boolean : (memory : List ℕ) (left right left-tag : ℕ) (result : TagResult) → Boolean (eq-right-tag memory left right left-tag result)
-unfolding eq-right-tag
-right-tag-boolean memory left right left-tag (Tag right-tag) = tagged-boolean memory left right left-tag right-tag
-right-tag-boolean memory left right left-tag (NoTag refusal) = no-boolean refusal
-
-left-tag-boolean : (memory : List ℕ) (left right : ℕ) (result : TagResult) → Boolean (eq-left-tag memory left right result)
-unfolding eq-left-tag
-left-tag-boolean memory left right (Tag left-tag) = right-tag-boolean memory left right left-tag (tag-of right)
-left-tag-boolean memory left right (NoTag refusal) = no-boolean refusal
+eq-boolean : (memory : List ℕ) (left right : ℕ) → Boolean (eq-values memory left right)
+unfolding eq-values eq-vectors
+eq-boolean memory left right =
+    either Boolean (is-vec left && is-vec right) _ _
+    (λ _. either Boolean (eqb (raw-tag left) (raw-tag right)) _ _ (λ _. slices-boolean memory _ _) (λ _. no-boolean _))
+    (λ _. value-eq-boolean left right)
 
 turned-boolean : (result : ValueResult) → Boolean result → Boolean (turned result)
 unfolding turned
@@ -136,5 +113,4 @@ turned-if-boolean true result b = b
 turned-if-boolean false result b = turned-boolean result b
 
 pub eq-scalar : (memory : List ℕ) (is-eq : Bool) (left right : ℕ) → Scalar (turned-if is-eq (eq-values memory left right))
-unfolding eq-values
-eq-scalar memory is-eq left right = boolean-scalar _ (turned-if-boolean is-eq _ (left-tag-boolean memory left right (tag-of left)))
+eq-scalar memory is-eq left right = boolean-scalar _ (turned-if-boolean is-eq _ (eq-boolean memory left right))

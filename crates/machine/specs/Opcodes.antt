@@ -1,12 +1,11 @@
 -- What each opcode does, a definition each, in the order of opcodes.rs within its kind. The numbers are its refusals in the order of their tests.
 use Prim.Native.Nat.{ℕ, _+_, _%_}
-use mathlib.Core.Bool.{Bool, false, cond}
+use mathlib.Core.Bool.{Bool, false, cond, _&&_}
 use mathlib.Core.List.{List, [], _++_}
 use lib.Dec.{eqb, ltb, leb}
 use lib.ListN.{take, drop, set}
 use Rattle.errors.specs.declared.Refusal.the-variants.{StackOverflow, InvalidTaskField, TitleTooLong, TypeMismatch, MSliceParamOverflow}
-use Rattle.inlinevec.specs.declared.Loop.{Loop}
-use Rattle.values.specs.Values.{is-vec, raw-tag, to-u32, to-u32-val, to-calldata-val, to-bool-val, mul-checked, mul-checked-i, value-eq, value-cmp, bool-not}
+use Rattle.values.specs.Values.{is-vec, raw-tag, fat-pointer, to-u32, to-u32-val, to-calldata-val, to-bool-val, mul-checked, mul-checked-i, value-eq, value-cmp, bool-not}
 use Rattle.values.specs.declared.FatPointer.{FatPointer}
 use Rattle.memory.specs.Change as change
 use Rattle.memory.specs.Reads.{is-m-slice-eq}
@@ -20,7 +19,7 @@ use Rattle.image.specs.Table.{SavedTable, save-table}
 use Rattle.machine.specs.Machines.{current}
 use Rattle.machine.specs.Titles.{title-length, title-bytes, retitled, retargeted}
 use Rattle.machine.specs.World.{World, code, place, height, memory-in-use, moved, with-stack, with-memory, looping, framed, with-task, numbering, with-save}
-use Rattle.machine.specs.Words.{StepResult, next, test, operand, has-data, pop, last, push, calculated, pointer, tag, bytes-of, store, element-changed, next-round, push-loop, pop-loop, last-loop, push-frame, pop-frame, bounds, intern, task-of, find, first-state, has-state, room, saved}
+use Rattle.machine.specs.Words.{StepResult, next, test, operand, has-data, pop, last, push, calculated, pointer, bytes-of, store, element-changed, next-round, push-loop, pop-loop, last-loop, push-frame, pop-frame, bounds, intern, task-of, find, first-state, has-state, room, saved}
 
 -- the world behind an opcode without operands, with another height
 abbrev pub onward : World → ℕ → World
@@ -248,17 +247,13 @@ swap w =
 
 -- ---- equality
 
--- the tags are looked at first, the left one before the right one: 5, 5, 6; then two vectors, 5, 14, or two scalars
+-- like with like: two vectors, 6 for different tags, then by the bytes of memory in use, 14; any other two values, 5, 6
 unfoldable pub equal : World → ℕ → ℕ → (ℕ → StepResult) → StepResult
 equal w left right onward =
-    tag left λ left-tag.
-    tag right λ right-tag.
-    test (eqb left-tag right-tag) TypeMismatch
-    (cond (is-vec left)
-    (pointer left λ left-vector.
-    pointer right λ right-vector.
-    calculated (is-m-slice-eq (memory-in-use w) left-vector right-vector) onward)
-    (calculated (value-eq left right) onward))
+    cond (is-vec left && is-vec right)
+    (test (eqb (raw-tag left) (raw-tag right)) TypeMismatch
+    (calculated (is-m-slice-eq (memory-in-use w) (fat-pointer left) (fat-pointer right)) onward))
+    (calculated (value-eq left right) onward)
 
 -- EQ: 3, 3, then 5, 6, 14; the right value is on top
 unfoldable pub eq : World → StepResult

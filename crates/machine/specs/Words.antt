@@ -28,14 +28,12 @@ use Rattle.inlinevec.specs.declared.FramesResult.{FramesResult}
 use Rattle.inlinevec.specs.declared.FramesResult.the-variants.{NewFrames, NoNewFrames}
 use Rattle.inlinevec.specs.declared.PopFrameResult.{PopFrameResult}
 use Rattle.inlinevec.specs.declared.PopFrameResult.the-variants.{PoppedFrame, NotPoppedFrame}
-use Rattle.values.specs.Values.{to-fat-pointer, tag-of}
+use Rattle.values.specs.Values.{to-fat-pointer}
 use Rattle.values.specs.declared.FatPointer.{FatPointer}
 use Rattle.values.specs.declared.ValueResult.{ValueResult}
 use Rattle.values.specs.declared.ValueResult.the-variants.{Value, NoValue}
 use Rattle.values.specs.declared.PointerResult.{PointerResult}
 use Rattle.values.specs.declared.PointerResult.the-variants.{Pointer, NoPointer}
-use Rattle.values.specs.declared.TagResult.{TagResult}
-use Rattle.values.specs.declared.TagResult.the-variants.{Tag, NoTag}
 use Rattle.memory.specs.Allocation as memory
 use Rattle.memory.specs.Change.{inside}
 use Rattle.memory.specs.Reads.{get-slice-bytes, outside}
@@ -125,14 +123,6 @@ pointed (NoPointer refusal) onward = refused refusal
 -- a vector's offset and size
 abbrev pub pointer : ℕ → (FatPointer → StepResult) → StepResult
 pointer value onward = pointed (to-fat-pointer value) onward
-
-unfoldable pub tagged : TagResult → (ℕ → StepResult) → StepResult
-tagged (Tag number) onward = onward number
-tagged (NoTag refusal) onward = refused refusal
-
--- the tag of a boxed value
-abbrev pub tag : ℕ → (ℕ → StepResult) → StepResult
-tag value onward = tagged (tag-of value) onward
 
 -- ---- memory: 5, 13, 23, 14
 

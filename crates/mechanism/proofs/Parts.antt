@@ -1,21 +1,19 @@
 -- An instruction that needs no task, frame or pool, as the code goes about it, is what its opcode does.
-use Prim.Native.Nat.{ℕ, zero, suc, _+_, _-_, _%_, _<_, _≤_}
-use mathlib.Core.Bool.{Bool, true, false, cond}
+use Prim.Native.Nat.{ℕ, _+_, _%_, _<_, _≤_}
+use mathlib.Core.Bool.{Bool, true, false, cond, _&&_}
 use mathlib.Core.List.{List, [], _++_}
-use mathlib.Core.Path.{_≡_, refl, sym, ap, _∙_}
+use mathlib.Core.Path.{_≡_, refl, _∙_}
 use native.Mathlib.Omega.{arith}
 use lib.Dec.{eqb, ltb, leb}
-use lib.ListN.{length, getD, take, drop, set}
+use lib.ListN.{length, getD, take, drop}
 use borrow.Author.Tests.{leb-true, leb-false, ltb-true, ltb-false, le-leb, lt-leb, lt-ltb, le-ltb}
 use Rattle.errors.specs.declared.Refusal.{Refusal}
-use Rattle.errors.specs.declared.Refusal.the-variants.{UnexpectedEOB, StackOverflow, TypeMismatch}
-use Rattle.bytecode.specs.Opcodes.{PUSH-U32, PUSH-STATE, PUSH-TASK-FIELD, PUSH-MAX-STATES, JUMP-IF-FALSE, M-STI, M-ST, MULI}
+use Rattle.errors.specs.declared.Refusal.the-variants.{UnexpectedEOB, StackOverflow}
+use Rattle.bytecode.specs.Opcodes.{PUSH-U32, JUMP-IF-FALSE, M-STI, M-ST, MULI}
 use Rattle.bytecode.specs.Operands as operands
 use Rattle.bytecode.specs.declared.Extent.{Extent}
-use Rattle.bytecode.specs.declared.OperandResult.{OperandResult}
 use Rattle.bytecode.specs.declared.OperandResult.the-variants.{Operand, NoOperand}
 use Rattle.inlinevec.specs.Stacks as stacks
-use Rattle.inlinevec.specs.declared.Loop.{Loop}
 use Rattle.inlinevec.specs.declared.PopResult.{PopResult}
 use Rattle.inlinevec.specs.declared.PopResult.the-variants.{Popped, NotPopped}
 use Rattle.inlinevec.specs.declared.LastResult.{LastResult}
@@ -26,38 +24,34 @@ use Rattle.inlinevec.specs.declared.PopLoopResult.{PopLoopResult}
 use Rattle.inlinevec.specs.declared.PopLoopResult.the-variants.{PoppedLoop, NotPoppedLoop}
 use Rattle.inlinevec.specs.declared.LastLoopResult.{LastLoopResult}
 use Rattle.inlinevec.specs.declared.LastLoopResult.the-variants.{LastLoop, NoLastLoop}
-use Rattle.values.specs.Values.{is-vec, raw-tag, tag-of, to-u32, to-u32-val, to-bool-val, bool-not, to-fat-pointer, turned, mul-checked, mul-checked-i, value-cmp, value-eq}
+use Rattle.values.specs.Values.{is-vec, raw-tag, to-u32, to-u32-val, to-bool-val, bool-not, to-fat-pointer, turned, mul-checked, mul-checked-i, value-cmp}
 use Rattle.values.specs.declared.FatPointer.{FatPointer}
 use Rattle.values.specs.declared.ValueResult.{ValueResult}
 use Rattle.values.specs.declared.ValueResult.the-variants.{Value, NoValue}
 use Rattle.values.specs.declared.PointerResult.{PointerResult}
 use Rattle.values.specs.declared.PointerResult.the-variants.{Pointer, NoPointer}
-use Rattle.values.specs.declared.TagResult.{TagResult}
-use Rattle.values.specs.declared.TagResult.the-variants.{Tag, NoTag}
 use Rattle.memory.specs.Allocation as allocation
-use Rattle.memory.specs.Reads.{is-m-slice-eq}
 use Rattle.memory.specs.declared.AllocResult.{AllocResult}
 use Rattle.memory.specs.declared.AllocResult.the-variants.{Allocated, NotAllocated}
 use Rattle.memory.specs.declared.ChangeResult.{ChangeResult}
 use Rattle.memory.specs.declared.ChangeResult.the-variants.{Changed, NotChanged}
-use Rattle.machine.specs.declared.Machine.{Machine}
 use Rattle.machine.specs.Machines.{placed}
 use Rattle.machine.specs.World.{World, code, place, height, memory-in-use, moved, looping, with-memory}
-use Rattle.machine.specs.Words.{StepResult, next, refused, test, pop, popped, last, looked-at, push, calculated, pointed, tagged, allocated, store, element-changed, loop-pushed, loop-popped, loop-looked-at, operand-found, push-loop, next-round}
+use Rattle.machine.specs.Words.{StepResult, next, refused, test, pop, popped, last, looked-at, push, calculated, pointed, allocated, store, element-changed, loop-pushed, loop-popped, loop-looked-at, operand-found, push-loop, next-round}
 use Rattle.machine.specs.Opcodes as opcodes
-use Rattle.mechanism.specs.Registers.{OnStack, OnMemory, on-memory, on-stack, registers-of, settled, in-use}
+use Rattle.mechanism.specs.Registers.{on-memory, registers-of, settled}
 use Rattle.mechanism.specs.Stack.{pop-two, pop-first, pop-second, pushed-to, push-value, finish, on-one, on-two, op-push, op-mul, op-compare, op-muli, op-dup, dup-last, op-swap, swapped, op-drop, dropped}
 use Rattle.mechanism.specs.Control.{op-do, do-two, opened-to, op-loop, looped, op-loop-index, index-of}
-use Rattle.mechanism.specs.Equality.{op-eq, turned-if, eq-values, eq-left-tag, eq-right-tag, eq-tagged, eq-vectors, eq-left, eq-right}
+use Rattle.mechanism.specs.Equality.{op-eq, turned-if, eq-values, eq-vectors}
 use Rattle.mechanism.specs.Store as storing
 use Rattle.mechanism.specs.Store.{placed as allocated-at, full, full-by, op-m-st, sized, op-m-muta, mutate-two, mutate-last, mutate, mutate-at, mutated, mut-in-use, changed-to}
 use Rattle.mechanism.specs.Control.{op-jump-if-false, jumped}
 use Rattle.mechanism.specs.Operated.{with-operand, push-u32, push-u8, muli, jump-if-false, m-st, m-sti, m-sti-of, payload-of}
 use Rattle.mechanism.specs.Cut.{cut, cut-muli, cut-value, cut-m-st, cut-size, cut-jump, cut-skip}
-use Rattle.mechanism.specs.Execute.{kept, changed, plain, operated, is-equality, execute, by-extent}
+use Rattle.mechanism.specs.Execute.{kept, changed, operated, is-equality, execute, by-extent}
 use Rattle.mechanism.specs.Step.{inner-result, on-registers}
 use Rattle.mechanism.specs.declared.Registers.{Registers}
-use Rattle.mechanism.specs.declared.RegistersResult.the-variants.{Next, Refused}
+use Rattle.mechanism.specs.declared.RegistersResult.the-variants.{Refused}
 use Rattle.mechanism.specs.declared.PopTwoResult.{PopTwoResult}
 use Rattle.mechanism.specs.declared.PopTwoResult.the-variants.{PoppedTwo, NotPoppedTwo}
 use Rattle.mechanism.proofs.Settled.{on-bool}
@@ -184,35 +178,11 @@ module _ (w : World) where
   -- ---- equality
 
   equal-is : (left right : ℕ) (k : ℕ → StepResult) → calculated (eq-values (memory-in-use w) left right) k ≡ opcodes.equal w left right k
-  unfolding eq-values eq-left-tag eq-right-tag eq-tagged eq-vectors eq-left eq-right opcodes.equal calculated pointed tagged test
-  equal-is left right k = on-left (tag-of left)
-    where
-      on-right-vector : (l : FatPointer) (a : PointerResult) → calculated (eq-right (memory-in-use w) l a) k ≡ pointed a (λ v. calculated (is-m-slice-eq (memory-in-use w) l v) k)
-      on-right-vector l (Pointer v) = refl
-      on-right-vector l (NoPointer refusal) = refl
-
-      on-left-vector : (a : PointerResult) → calculated (eq-left (memory-in-use w) right a) k ≡ pointed a (λ l. pointed (to-fat-pointer right) λ v. calculated (is-m-slice-eq (memory-in-use w) l v) k)
-      on-left-vector (Pointer l) = on-right-vector l (to-fat-pointer right)
-      on-left-vector (NoPointer refusal) = refl
-
-      by-kind : (b : Bool) → calculated (cond b (eq-vectors (memory-in-use w) left right) (value-eq left right)) k
-          ≡ cond b (pointed (to-fat-pointer left) λ l. pointed (to-fat-pointer right) λ v. calculated (is-m-slice-eq (memory-in-use w) l v) k) (calculated (value-eq left right) k)
-      by-kind true = on-left-vector (to-fat-pointer left)
-      by-kind false = refl
-
-      on-tags : (a b : ℕ) → calculated (eq-tagged (memory-in-use w) left right a b) k
-          ≡ test (eqb a b) TypeMismatch (cond (is-vec left) (pointed (to-fat-pointer left) λ l. pointed (to-fat-pointer right) λ v. calculated (is-m-slice-eq (memory-in-use w) l v) k) (calculated (value-eq left right) k))
-      on-tags a b = on-bool (eqb a b) (λ t. rw t (by-kind (is-vec left))) (λ t. rw t)
-
-      on-right : (a : ℕ) (b : TagResult) → calculated (eq-right-tag (memory-in-use w) left right a b) k
-          ≡ tagged b (λ c. test (eqb a c) TypeMismatch (cond (is-vec left) (pointed (to-fat-pointer left) λ l. pointed (to-fat-pointer right) λ v. calculated (is-m-slice-eq (memory-in-use w) l v) k) (calculated (value-eq left right) k)))
-      on-right a (Tag b) = on-tags a b
-      on-right a (NoTag refusal) = refl
-
-      on-left : (a : TagResult) → calculated (eq-left-tag (memory-in-use w) left right a) k
-          ≡ tagged a (λ b. tagged (tag-of right) λ c. test (eqb b c) TypeMismatch (cond (is-vec left) (pointed (to-fat-pointer left) λ l. pointed (to-fat-pointer right) λ v. calculated (is-m-slice-eq (memory-in-use w) l v) k) (calculated (value-eq left right) k)))
-      on-left (Tag a) = on-right a (tag-of right)
-      on-left (NoTag refusal) = refl
+  unfolding eq-values eq-vectors opcodes.equal calculated test
+  equal-is left right k =
+      on-bool (is-vec left && is-vec right)
+      (λ t. rw t (on-bool (eqb (raw-tag left) (raw-tag right)) (λ u. rw u) (λ u. rw u)))
+      (λ t. rw t)
 
   turned-round : (result : ValueResult) (k : ℕ → StepResult) → calculated (turned result) k ≡ calculated result (λ answer. k (bool-not answer))
   unfolding turned calculated

@@ -92,19 +92,18 @@ pub data Shape : Exchange → List Kind → List Kind → Type 0 where
   is-dup : {kind : Kind} {kinds : List Kind} → Shape Dup (kind ∷ kinds) (kind ∷ kind ∷ kinds)
   is-swap : {top below : Kind} {kinds : List Kind} → Shape Swap (top ∷ below ∷ kinds) (below ∷ top ∷ kinds)
   is-drop : {kind : Kind} {kinds : List Kind} → Shape Drop (kind ∷ kinds) kinds
-  is-compares : {kind : Kind} {kinds : List Kind} → same-kind kind Boolean ≡ false → Shape Compares (kind ∷ kind ∷ kinds) (Boolean ∷ kinds)
+  is-compares : {kind : Kind} {kinds : List Kind} → Shape Compares (kind ∷ kind ∷ kinds) (Boolean ∷ kinds)
   is-changes : {kind : Kind} {kinds : List Kind} → (same-kind kind Text || same-kind kind Numbers) ≡ true → Shape Changes (Number ∷ Number ∷ kind ∷ kinds) (kind ∷ kinds)
 
 compares-shape : (kinds left : List Kind) → compares kinds ≡ some left → Shape Compares kinds left
 compares-shape [] left e = no-answer e
 compares-shape (b ∷ []) left e = no-answer e
 compares-shape (b ∷ a ∷ kinds) left e =
-    let p = passed (same-kind b a) (cond (same-kind b Boolean) none (some (Boolean ∷ kinds))) left e in
+    let p = passed (same-kind b a) (some (Boolean ∷ kinds)) left e in
     let same : b ≡ a = same-kind-equal b a (p .0) in
-    on-bool (same-kind b Boolean) (λ t. no-answer (simp t at (p .1)))
-    (λ t. let q : some (Boolean ∷ kinds) ≡ some left = simp t at (p .1) in
+    let q : some (Boolean ∷ kinds) ≡ some left = p .1 in
     let r : Boolean ∷ kinds ≡ left = cc in
-    subst (λ (l : List Kind). Shape Compares (b ∷ a ∷ kinds) l) r (subst (λ (k : Kind). Shape Compares (b ∷ k ∷ kinds) (Boolean ∷ kinds)) same (is-compares t)))
+    subst (λ (l : List Kind). Shape Compares (b ∷ a ∷ kinds) l) r (subst (λ (k : Kind). Shape Compares (b ∷ k ∷ kinds) (Boolean ∷ kinds)) same is-compares)
 
 changes-shape : (kinds rest left : List Kind) → kinds ≡ Number ∷ Number ∷ rest → keeps-vector rest ≡ some left → Shape Changes kinds left
 changes-shape kinds [] left f e = no-answer e

@@ -57,8 +57,8 @@ module _ (code : List ℕ) (labels : ℕ → Label) (place used next : ℕ) (sta
   pub equality-good : {height : ℕ} {loops : Loops} {kinds left : List Kind} {opens : List Open} (memory : List ℕ) (is-eq : Bool) → height ≤ 1000 → Shape Compares kinds left → At code labels next left opens
       → Kinded stack height kinds → Looping code labels loops opens → GoodOn code labels (op-eq stack memory (registers-at place height loops used) next is-eq)
   unfolding op-eq on-two
-  equality-good {loops = loops} memory is-eq few (is-compares {kind = kind} other) at (more a (more {height = h} b rest)) looping =
-      rw (popped-two stack h few) (finish-good code labels (registers-at place (suc (suc h)) loops used) next h stack lent at (equality-result is-eq _ _ _ kind other b a) rest looping)
+  equality-good {loops = loops} memory is-eq few (is-compares {kind = kind}) at (more a (more {height = h} b rest)) looping =
+      rw (popped-two stack h few) (finish-good code labels (registers-at place (suc (suc h)) loops used) next h stack lent at (equality-result is-eq _ _ _ kind b a) rest looping)
 
   pub dup-good : {height : ℕ} {loops : Loops} {kinds left : List Kind} {opens : List Open} → height ≤ 1000 → Shape Dup kinds left → At code labels next left opens → Kinded stack height kinds → Looping code labels loops opens
       → GoodOn code labels (op-dup stack (registers-at place height loops used) next)

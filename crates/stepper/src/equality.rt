@@ -1,54 +1,47 @@
 // EQ and NEQ: scalars by their words, vectors by the bytes of memory in use.
+ghost use mathlib.Core.Bool.{_&&_};
 ghost use mathlib.Core.Path.{_≡_};
+ghost use Rattle.values.specs.Values.{is-vec};
 ghost use Rattle.mechanism.specs.Registers.{on-stack};
-ghost use Rattle.mechanism.specs.Equality.{eq-vectors, eq-tagged, eq-values, turned-if, op-eq};
+ghost use Rattle.mechanism.specs.Equality.{eq-vectors, eq-values, turned-if, op-eq};
 use errors::Refusal;
 use mechanism::PopTwoResult;
 use mechanism::Registers;
 use mechanism::RegistersResult;
 use mechanism::stack::finish;
 use mechanism::stack::pop_two;
-use values::PointerResult;
-use values::TagResult;
 use values::ValueResult;
 
 // Two vectors.
 fn eq_vectors(memory: &[u8], left: u64, right: u64) -> ValueResult
     ensures { λ r. ⌜ r ≡ eq-vectors (now (memory .entry)) left right ⌝ }
 {
-    match values::to_fat_pointer(left) {
-        PointerResult::NoPointer(refusal) => ValueResult::NoValue(refusal),
-        PointerResult::Pointer(from) => match values::to_fat_pointer(right) {
-            PointerResult::NoPointer(refusal) => ValueResult::NoValue(refusal),
-            PointerResult::Pointer(to) => memory::tested_reads::is_m_slice_eq(memory, from, to),
-        },
-    }
-}
-
-// Two values of these tags.
-fn eq_tagged(memory: &[u8], left: u64, right: u64, left_tag: u64, right_tag: u64) -> ValueResult
-    ensures { λ r. ⌜ r ≡ eq-tagged (now (memory .entry)) left right «left_tag» «right_tag» ⌝ }
-{
-    if left_tag == right_tag {
-        if values::is_vec(left) {
-            return eq_vectors(memory, left, right);
-        }
-        return values::comparison::value_eq(left, right);
+    if values::raw_tag(left) == values::raw_tag(right) {
+        let left_vector = values::fat_pointer(left);
+        let right_vector = values::fat_pointer(right);
+        return memory::tested_reads::is_m_slice_eq(memory, left_vector, right_vector);
     }
     ValueResult::NoValue(Refusal::TypeMismatch)
+}
+
+// Whether both are vectors.
+fn both_vectors(left: u64, right: u64) -> bool
+    ensures { λ r. ⌜ r ≡ (is-vec left && is-vec right) ⌝ }
+{
+    if values::is_vec(left) {
+        return values::is_vec(right);
+    }
+    false
 }
 
 // Two values, over the memory in use.
 fn eq_values(memory: &[u8], left: u64, right: u64) -> ValueResult
     ensures { λ r. ⌜ r ≡ eq-values (now (memory .entry)) left right ⌝ }
 {
-    match values::tag_of(left) {
-        TagResult::NoTag(refusal) => ValueResult::NoValue(refusal),
-        TagResult::Tag(left_tag) => match values::tag_of(right) {
-            TagResult::NoTag(refusal) => ValueResult::NoValue(refusal),
-            TagResult::Tag(right_tag) => eq_tagged(memory, left, right, left_tag, right_tag),
-        },
+    if both_vectors(left, right) {
+        return eq_vectors(memory, left, right);
     }
+    values::comparison::value_eq(left, right)
 }
 
 // An answer, turned round for NEQ.

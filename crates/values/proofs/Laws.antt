@@ -5,7 +5,7 @@ use mathlib.Core.Path.{_≡_, refl}
 use native.Mathlib.Omega.{arith}
 use lib.Dec.{eqb}
 use borrow.Author.Tests.{eq-eqb, ne-eqb, eqb-true}
-use Rattle.values.specs.Values.{make-scalar-tagged, make-vec-tagged, to-u32-val, to-calldata-val, to-bool-val, head, is-scalar, is-vec, raw-tag, to-u32, fat-pointer, bool-not, get-value-type, vec-type, scalar-type}
+use Rattle.values.specs.Values.{make-scalar-tagged, make-vec-tagged, to-u32-val, to-calldata-val, to-bool-val, head, is-qnan, is-scalar, is-vec, raw-tag, to-u32, fat-pointer, bool-not, get-value-type, vec-type, scalar-type}
 use Rattle.values.specs.declared.ValueType.the-variants.{U32, String, CallData, Boolean, VecU32}
 
 -- the head of a scalar
@@ -32,6 +32,15 @@ vec-is-vec offset size tag = eq-eqb _ _ (vec-head offset size tag)
 pub scalar-no-vec : (v : ℕ) → is-scalar v ≡ true → is-vec v ≡ false
 unfolding is-scalar is-vec
 scalar-no-vec v s = let h : head v ≡ 2 ^ 13 - 1 = eqb-true _ _ s in ne-eqb (head v) (2 ^ 14 - 1) (λ e. omega arith)
+
+-- each is boxed
+pub scalar-boxed : (v : ℕ) → is-scalar v ≡ true → is-qnan v ≡ true
+unfolding is-scalar is-qnan
+scalar-boxed v s = let h : head v ≡ 2 ^ 13 - 1 = eqb-true _ _ s in eq-eqb (head v % 2 ^ 13) (2 ^ 13 - 1) (omega arith)
+
+pub vec-boxed : (v : ℕ) → is-vec v ≡ true → is-qnan v ≡ true
+unfolding is-vec is-qnan
+vec-boxed v s = let h : head v ≡ 2 ^ 14 - 1 = eqb-true _ _ s in eq-eqb (head v % 2 ^ 13) (2 ^ 13 - 1) (omega arith)
 
 -- the payload of a scalar comes back
 pub payload-back : (tag payload : ℕ) → payload < 2 ^ 32 → to-u32 (make-scalar-tagged tag payload) ≡ payload

@@ -1,7 +1,7 @@
 -- Boxed values, as the drawing at the head of values.rs has them: fields side by side in a word of 64 bits.
 use Prim.Native.Nat.{ℕ, _+_, _-_, _*_, _/_, _%_, _^_}
-use mathlib.Core.Bool.{Bool, true, false, cond}
-use lib.Dec.{eqb, ltb, leb}
+use mathlib.Core.Bool.{Bool, true, false, cond, not}
+use lib.Dec.{eqb, ltb}
 use Rattle.errors.specs.declared.Refusal.the-variants.{InvalidType, TypeMismatch, MultiplicationOverflowed, MSliceParamOverflow}
 use Rattle.values.specs.declared.FatPointer.{FatPointer}
 use Rattle.values.specs.declared.ValueResult.{ValueResult}
@@ -97,7 +97,19 @@ mul-checked lhs rhs =
 unfoldable pub mul-checked-i : ℕ → ℕ → ValueResult
 mul-checked-i lhs rhs = cond (is-u32-val lhs) (product (to-u32 lhs) rhs) (NoValue InvalidType)
 
--- two values of one tag: numbers and references by what they read as, bools by the whole word
+-- TRUE or FALSE, by its box
+unfoldable pub is-bool : ℕ → Bool
+is-bool v = cond (is-scalar v) (cond (eqb (raw-tag v) 3) true (eqb (raw-tag v) 2)) false
+
+-- exactly one side is a vector
+unfoldable pub one-vector : ℕ → ℕ → Bool
+one-vector left right = cond (is-vec left) (not (is-vec right)) (is-vec right)
+
+-- of one tag, or two bools
+unfoldable pub of-one-kind : ℕ → ℕ → Bool
+of-one-kind left right = cond (eqb (raw-tag left) (raw-tag right)) true (cond (is-bool left) (is-bool right) false)
+
+-- two values of one kind, by the left one's tag: numbers and references by what they read as, bools by the whole word
 unfoldable pub alike : ℕ → ℕ → ℕ → ValueResult
 alike tag left right =
     cond (eqb tag 6) (Value (to-bool-val (eqb (to-u32 left) (to-u32 right))))
@@ -105,12 +117,13 @@ alike tag left right =
     (cond (eqb tag 3) (Value (to-bool-val (eqb left right)))
     (cond (eqb tag 2) (Value (to-bool-val (eqb left right))) (NoValue InvalidType))))
 
--- EQ of a scalar on the left: the left value is looked at first, and different tags are a mismatch
+-- EQ of two values, not both vectors: 5 for a word that is no box; 6 for a vector with a scalar, then for different tags, but TRUE and FALSE are compared
 unfoldable pub value-eq : ℕ → ℕ → ValueResult
 value-eq left right =
     cond (is-qnan left)
     (cond (is-qnan right)
-    (cond (eqb (raw-tag left) (raw-tag right)) (alike (raw-tag left) left right) (NoValue TypeMismatch))
+    (cond (one-vector left right) (NoValue TypeMismatch)
+    (cond (of-one-kind left right) (alike (raw-tag left) left right) (NoValue TypeMismatch)))
     (NoValue InvalidType))
     (NoValue InvalidType)
 
@@ -119,7 +132,7 @@ unfoldable pub turned : ValueResult → ValueResult
 turned (Value v) = Value (bool-not v)
 turned (NoValue refusal) = NoValue refusal
 
--- NEQ of a scalar on the left
+-- NEQ of them
 unfoldable pub value-neq : ℕ → ℕ → ValueResult
 value-neq left right = turned (value-eq left right)
 

@@ -111,7 +111,7 @@ pub fn to_u32(v: u64) -> u32
 }
 
 // The offset and the size in a word.
-fn fat_pointer(v: u64) -> FatPointer
+pub fn fat_pointer(v: u64) -> FatPointer
     ensures { λ r. ⌜ r ≡ fat-pointer v ⌝ }
 {
     FatPointer {

@@ -17,12 +17,7 @@ returns-2 c =
 returns-3 : tie.Need-returns-3
 unfolding compare
 returns-3 c =
-    simp (eq-eqb _ _ (c .if3 .taken), eq-eqb _ _ (c .before .if2 .left), ne-eqb _ _ (c .before .before .if1 .left))
-
-returns-4 : tie.Need-returns-4
-unfolding compare
-returns-4 c =
-    simp (ne-eqb _ _ (c .if3 .left), eq-eqb _ _ (c .before .if2 .left), ne-eqb _ _ (c .before .before .if1 .left))
+    simp (eq-eqb _ _ (c .if2 .left), ne-eqb _ _ (c .before .if1 .left))
 
 pub compare-spec : {M : Type 1} → statement M
-compare-spec = tie.close (tie.spec returns returns-2 returns-3 returns-4)
+compare-spec = tie.close (tie.spec returns returns-2 returns-3)
