@@ -58,7 +58,7 @@ rust-excepted-answer stale w =
     (alike (raw-tag (left-value w)) (left-value w) (right-value w) λ equal.
     ok (at (view stale w) (place w + 1) (cond (eqb (op w) EQ) equal (bool-not equal) ∷ values-of (height w - 2) (w .stack)))))
 
--- ---- a run that comes to one
+-- ---- a run that comes to one; up to there both machines are the same, so it is the Rust's run, too
 
 -- on from an instruction that is finished
 unfoldable pub comes-later : (World → Bool) → StepResult → Bool
