@@ -1,6 +1,6 @@
 -- What this machine and the Rust answer at an instruction that demand 2 leaves out, and the instructions before the first one.
 use Prim.Native.Nat.{ℕ, zero, suc, _+_, _-_, _≤_, _<_}
-use mathlib.Core.Bool.{Bool, true, false, cond, _&&_, _||_, not, and-eq-true-iff, true≢false}
+use mathlib.Core.Bool.{Bool, true, false, cond, _&&_, _||_, not, and-false, true≢false}
 use mathlib.Core.List.{List, _∷_}
 use mathlib.Core.Path.{_≡_, refl, sym, ap, _∙_}
 use native.Mathlib.Numerals.{add-one}
@@ -33,13 +33,10 @@ use Rattle.rust.specs.Vm as rust
 use Rattle.rust.specs.Vm.{VM, at, pushes}
 use Rattle.agreement.specs.View.{view}
 use Rattle.agreement.specs.Exceptions.{scalar-with-vector, true-with-false, excepted, excepted-answer, rust-excepted-answer, comes-later, comes-to-excepted}
-use Rattle.agreement.proofs.Facts.{facts}
+use Rattle.agreement.proofs.Facts.{both, facts}
 use Rattle.agreement.proofs.Laws as laws
 
 -- ---- two such values
-
-both : (a b : Bool) → (a && b) ≡ true → (a ≡ true) × (b ≡ true)
-both a b e = and-eq-true-iff a b .0 e
 
 turned : (b : Bool) → not b ≡ true → b ≡ false
 turned true e = absurd (true≢false (sym e))
@@ -110,22 +107,10 @@ opposite left right e =
     let q = both (is-bool left) (is-bool right) (p .0) in
     record { left-bool = q .0; right-bool = q .1; other-tag = turned _ (p .1) }
 
--- no two are both
-not-mixed : (left right : ℕ) → Opposite left right → scalar-with-vector left right ≡ false
-unfolding scalar-with-vector
-not-mixed left right o = simp (o .other-tag) (by (is-qnan left && is-qnan right && one-vector left right))
-  where
-    by : (b : Bool) → (b && false) ≡ false
-    by true = refl
-    by false = refl
-
+-- a scalar with a vector is not TRUE with FALSE
 not-opposite : (left right : ℕ) → Mixed left right → true-with-false left right ≡ false
 unfolding true-with-false
-not-opposite left right m = simp (m .same-tag) (by (is-bool left && is-bool right))
-  where
-    by : (b : Bool) → (b && false) ≡ false
-    by true = refl
-    by false = refl
+not-opposite left right m = simp (m .same-tag) (and-false (is-bool left && is-bool right))
 
 -- ---- this machine
 

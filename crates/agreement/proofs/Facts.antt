@@ -39,7 +39,8 @@ pub record Facts (w : World) : Type 0 where
   pub titles-lent : (slot : ℕ) → length (getD (w .table) slot blank .title) ≡ 128
   pub inside : (i : ℕ) → i < w .machine .height → Inside (w .machine .memory) (getD (w .stack) i 0)
 
-both : (a b : Bool) → (a && b) ≡ true → (a ≡ true) × (b ≡ true)
+-- both of two
+pub both : (a b : Bool) → (a && b) ≡ true → (a ≡ true) × (b ≡ true)
 both a b e = and-eq-true-iff a b .0 e
 
 record Framed (frames : Frames) (entries : ℕ) : Type 0 where
