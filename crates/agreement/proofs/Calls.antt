@@ -1,4 +1,4 @@
--- Start and continue beside the Rust's run, and the Rust's loop at any split of its turns.
+-- Start, rerun and continue beside the Rust's run, and the Rust's loop at any split of its turns.
 use Prim.Native.Nat.{ℕ, zero, suc, _+_, _<_}
 use mathlib.Core.Bool.{Bool, true, false}
 use mathlib.Core.Path.{_≡_, refl, sym, ap, subst, _∙_}
@@ -11,26 +11,27 @@ use borrow.Author.Tests.{lt-ltb}
 use Rattle.errors.specs.declared.Refusal.{Refusal}
 use Rattle.errors.specs.declared.Refusal.the-variants as refusal
 use Rattle.slices.specs.Numbers.{Bytes}
-use Rattle.inlinevec.specs.Stacks.{values-of}
+use Rattle.inlinevec.specs.Stacks.{values-of, two-of, last-two}
 use Rattle.inlinevec.specs.declared.Frame.{Frame}
 use Rattle.pools.proofs.Laws.{length-entries}
 use Rattle.machine.specs.declared.Machine.{Machine}
 use Rattle.machine.specs.declared.Phase.{Phase}
 use Rattle.machine.specs.declared.Phase.the-variants.{Paused, Done, Stopped}
-use Rattle.machine.specs.Machines.{current}
+use Rattle.machine.specs.Machines.{current, at-main}
 use Rattle.mechanism.specs.Registers.{registers-of, settled}
 use Rattle.machine.specs.Machines.{rewound, placed}
 use Rattle.machine.specs.declared.Outcome.{Outcome}
 use Rattle.machine.specs.declared.Outcome.the-variants as outcome
 use Rattle.machine.specs.World.{World, place, memory-in-use, with-machine}
 use Rattle.machine.specs.Run.{End, run}
-use Rattle.machine.specs.Calls.{may-start, may-continue, fresh, allowed, ended, report, Reported, reported-end, call-with, call, start, go-on}
-use Rattle.machine.specs.declared.Verb.the-variants.{Start, Continue}
+use Rattle.machine.specs.Calls.{may-start, may-continue, fresh, allowed, ended, report, Reported, reported-end, call-with, call, start, rerun, go-on}
+use Rattle.machine.specs.declared.Verb.the-variants.{Start, Rerun, Continue}
 use Rattle.machine.specs.Reads.{is-done, readable, value-at, value-read}
 use Rattle.machine.specs.History.{runs, world-after}
 use Rattle.memory.specs.Unbox as unbox
 use Rattle.laws.specs.Sound.{Sound}
-use Rattle.laws.proofs.SoundnessCalls.{ended-sound, allowed-sound}
+use Rattle.laws.proofs.SoundnessCalls.{ended-sound, allowed-sound, at-main-sound}
+use Rattle.laws.proofs.Starts.{start-is-rerun}
 use Rattle.rust.specs.Errors.{VMError, Out, ok, err, panic}
 use Rattle.rust.specs.InlineVec as inlinevec
 use Rattle.rust.specs.Instructions as instructions
@@ -41,7 +42,7 @@ use Rattle.rust.specs.Run.{Ran, returned, running, failed, panicked, onward, fi
 use Rattle.agreement.specs.View.{callers, view}
 use Rattle.agreement.specs.Agreement.{Over, many-tasks, long-title, many-entries, many-bytes, long-memory, long-image, refusal-of}
 use Rattle.agreement.specs.Reads.{Aligned}
-use Rattle.agreement.specs.Runs.{rust-call, rust-left-by, rust-history, at-rest, ReadAlike, Answers, ends, pauses, errs, panics, meets}
+use Rattle.agreement.specs.Runs.{from-main, if-rests, if-running, rust-call, rust-left-by, rust-history, at-rest, ReadAlike, Answers, ends, pauses, errs, panics, meets}
 use Rattle.agreement.specs.Exceptions.{permitted-comes, call-comes}
 use Rattle.agreement.proofs.Facts.{facts}
 use Rattle.agreement.proofs.Views.{current-is, callers-are}
@@ -119,7 +120,7 @@ told fuel _ _ (same.meets stale w left number vm ran e over) = told-met stale nu
 
 more-finished : (turns : ℕ) (before : VM) (o : Out VM)
     → rust-call Continue turns (onward (λ after. returned (after .stack) (at after 0 [])) before o) ≡ onward (λ after. returned (after .stack) (at after 0 [])) before o
-unfolding rust-call onward
+unfolding rust-call if-running onward
 more-finished turns before (ok vm) = refl
 more-finished turns before (err error) = refl
 more-finished turns before panic = refl
@@ -143,14 +144,14 @@ more-stays turns vm = more-finished turns vm (finish vm)
 
 more-onward : (a b : ℕ) (before : VM) (o : Out VM) → ((vm : VM) → while (a + b) vm ≡ rust-call Continue b (while a vm))
     → onward (while (a + b)) before o ≡ rust-call Continue b (onward (while a) before o)
-unfolding onward rust-call
+unfolding onward rust-call if-running
 more-onward a b before (ok vm) later = later vm
 more-onward a b before (err error) later = refl
 more-onward a b before panic later = refl
 
 -- a turns, then b, are a + b
 more-turns : (a b : ℕ) (vm : VM) → while (a + b) vm ≡ rust-call Continue b (while a vm)
-unfolding rust-call
+unfolding rust-call if-running
 more-turns zero b vm = by (ltb (vm .pc) (length (rust.instructions vm))) refl
   where
     by : (t : Bool) → ltb (vm .pc) (length (rust.instructions vm)) ≡ t → while (0 + b) vm ≡ rust-call Continue b (while 0 vm)
@@ -162,37 +163,47 @@ more-turns (suc a) b vm = by (ltb (vm .pc) (length (rust.instructions vm))) refl
     by true e later = let z : suc a + b ≡ suc (a + b) = omega arith in rw (z, one-turned (a + b) vm e, one-turned a vm e) (more-onward a b vm (rust.step vm) later)
     by false e later = rw (none-turned (suc a + b) vm e, none-turned (suc a) vm e) (sym (more-stays b vm))
 
+-- a run of a turns, and b more, are a run of a + b
+run-split : (a b : ℕ) (vm : VM) → rust-call Continue b (loop.run a vm) ≡ loop.run (a + b) vm
+unfolding loop.run
+run-split a b vm = sym (more-onward a b vm (begin vm) (more-turns a b))
+
 -- a start with fuel a and a continue with fuel b leave the Rust as a start with fuel a + b does
 pub start-split : (a b : ℕ) (values : List ℕ) (vm : VM) → rust-history (runs Start a ∷ runs Continue b ∷ []) (returned values vm) ≡ rust-history (runs Start (a + b) ∷ []) (returned values vm)
-unfolding rust-history rust-left-by rust-call loop.run
-start-split a b values vm = sym (more-onward a b vm (begin vm) (more-turns a b))
+unfolding rust-history rust-left-by rust-call if-rests
+start-split a b values vm = run-split a b (from-main vm)
+
+-- and so do a rerun and a continue
+pub rerun-split : (a b : ℕ) (values : List ℕ) (vm : VM) → rust-history (runs Rerun a ∷ runs Continue b ∷ []) (returned values vm) ≡ rust-history (runs Rerun (a + b) ∷ []) (returned values vm)
+unfolding rust-history rust-left-by rust-call if-rests
+rerun-split a b values vm = run-split a b vm
 
 -- and two continues as one, wherever the Rust is
 pub continue-split : (a b : ℕ) (ran : Ran) → rust-history (runs Continue a ∷ runs Continue b ∷ []) ran ≡ rust-history (runs Continue (a + b) ∷ []) ran
-unfolding rust-history rust-left-by rust-call
+unfolding rust-history rust-left-by rust-call if-running
 continue-split a b (returned values vm) = refl
 continue-split a b (running vm) = sym (more-turns a b vm)
 continue-split a b (failed error before) = refl
 continue-split a b panicked = refl
 
--- ---- a machine that may start
+-- ---- a machine that may start or rerun
 
 pub record Ready (w : World) : Type 0 where
   pub is-sound : Sound w
   pub bytes : Bytes (w .pool)
   pub phase : may-start (w .machine .phase) ≡ true
 
--- what a start begins with
+-- what a rerun begins with
 abbrev begun : World → World
 begun w = with-machine w (fresh (w .machine))
 
 begun-sound : (w : World) → Sound w → Sound (begun w)
 unfolding allowed
-begun-sound w s = allowed-sound w true Start s
+begun-sound w s = allowed-sound w true Rerun s
 
-start-is : (fuel : ℕ) (w : World) → Ready w → start fuel w ≡ reported-end fuel (run fuel (begun w))
+rerun-is : (fuel : ℕ) (w : World) → Ready w → rerun fuel w ≡ reported-end fuel (run fuel (begun w))
 unfolding call call-with allowed
-start-is fuel w ready = rw (ready .is-sound .tested, ready .phase)
+rerun-is fuel w ready = rw (ready .is-sound .tested, ready .phase)
 
 go-on-is : (fuel : ℕ) (w : World) → Sound w → may-continue (w .machine .phase) ≡ true → go-on fuel w ≡ reported-end fuel (run fuel w)
 unfolding call call-with allowed
@@ -207,16 +218,43 @@ run-is : (turns : ℕ) (w : World) → Sound w → loop.run turns (at-rest w) �
 unfolding loop.run onward
 run-is turns w s = rw (begins w s)
 
--- so a start answers the Rust's run, and a continue its loop, if they come to no instruction that is left out
-pub start-told : (fuel : ℕ) (w : World) → Ready w → call-comes Start fuel w ≡ false → Told (start fuel w) (loop.run fuel (at-rest w))
+-- so a rerun answers the Rust's run, and a continue its loop, if they come to no instruction that is left out
+pub rerun-told : (fuel : ℕ) (w : World) → Ready w → call-comes Rerun fuel w ≡ false → Told (rerun fuel w) (loop.run fuel (at-rest w))
 unfolding call-comes permitted-comes allowed
-start-told fuel w ready common =
-    rw (start-is fuel w ready, run-is fuel w (ready .is-sound))
+rerun-told fuel w ready common =
+    rw (rerun-is fuel w ready, run-is fuel w (ready .is-sound))
     (told fuel _ _ (run-same fuel (begun w) (place w) (begun-sound w (ready .is-sound)) (ready .bytes) (simp (ready .is-sound .tested, ready .phase) at common)))
 
 pub go-on-told : (fuel stale : ℕ) (w : World) → Sound w → Bytes (w .pool) → may-continue (w .machine .phase) ≡ true → call-comes Continue fuel w ≡ false → Told (go-on fuel w) (while fuel (view stale w))
 unfolding call-comes permitted-comes allowed
 go-on-told fuel stale w s bytes may common = rw (go-on-is fuel w s may) (told fuel _ _ (run-same fuel w stale s bytes (simp (s .tested, may) at common)))
+
+-- ---- a start is a rerun at main
+
+abbrev main-world : World → World
+main-world w = with-machine w (at-main (w .machine))
+
+main-ready : (w : World) → Ready w → Ready (main-world w)
+main-ready w ready = record { is-sound = at-main-sound w (ready .is-sound); bytes = ready .bytes; phase = ready .phase }
+
+-- what the machine at main shows is the Rust's machine with one frame at main and no loop open
+rests-at-main : (w : World) → at-rest (main-world w) ≡ from-main (at-rest w)
+unfolding from-main view current last-two callers two-of
+rests-at-main w = refl
+
+comes-at-main : (fuel : ℕ) (w : World) → Ready w → call-comes Start fuel w ≡ call-comes Rerun fuel (main-world w)
+unfolding call-comes permitted-comes allowed
+comes-at-main fuel w ready = rw (ready .is-sound .tested, main-ready w ready .is-sound .tested, ready .phase)
+
+starts-as : (fuel : ℕ) (w : World) → Ready w → start fuel w ≡ rerun fuel (main-world w)
+starts-as fuel w ready = start-is-rerun fuel w (record { tested = ready .is-sound .tested; ends-lent = ready .is-sound .ends-lent }) (ready .phase)
+
+-- so a start answers the Rust's run from main
+pub start-told : (fuel : ℕ) (w : World) → Ready w → call-comes Start fuel w ≡ false → Told (start fuel w) (loop.run fuel (from-main (at-rest w)))
+start-told fuel w ready common =
+    subst (λ (r : Reported). Told r (loop.run fuel (from-main (at-rest w)))) (sym (starts-as fuel w ready))
+    (subst (λ (vm : VM). Told (rerun fuel (main-world w)) (loop.run fuel vm)) (rests-at-main w)
+    (rerun-told fuel (main-world w) (main-ready w ready) (sym (comes-at-main fuel w ready) ∙ common)))
 
 -- ---- the values
 

@@ -182,7 +182,7 @@ module _ {program image : List ℕ} {first : World} {vm : VM} (both : Beginning 
       let made = created-is (both .fresh) (both .pool-bytes) (both .image-bytes) (both .program-bytes) in
       history-related calls none-met (subst (λ (v : VM). Related first (returned [] v)) (ok-is (sym shown ∙ both .is-initialised)) (first-related (both .fresh) made))
 
-  -- a start or a continue that the Rust takes answers the Rust's run of as many turns, or reaches a limit that this port adds, with its reason
+  -- a start, a rerun or a continue that the Rust takes answers the Rust's run of as many turns, a start the run from main, or reaches a limit that this port adds, with its reason
   pub call-answers : (verb : Verb) (fuel : ℕ) → rust-takes verb rust-later ≡ true → call-comes verb fuel later ≡ false → Answers (call verb fuel later) (rust-call verb fuel rust-later)
   call-answers verb fuel takes common = answers (told-call verb fuel related takes common) (given-call verb fuel related takes)
 
@@ -208,7 +208,7 @@ module _ {program image : List ℕ} {first : World} {vm : VM} (both : Beginning 
         rust-answer = rust-answers-excepted _ (b .stale) (b .is-sound) (c .before-end) (c .left-out);
       }
 
-  -- a start or a continue that the Rust does not take is 26, and changes nothing
+  -- a start, a rerun or a continue that the Rust does not take is 26, and changes nothing
   pub not-taken : (verb : Verb) (fuel : ℕ) → rust-takes verb rust-later ≡ false → call verb fuel later ≡ reports (not-allowed (later .machine)) later
   not-taken verb fuel takes = refused-call verb fuel related takes
 

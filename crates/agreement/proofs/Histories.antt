@@ -13,7 +13,7 @@ use Rattle.machine.specs.declared.Phase.the-variants.{New, Paused, Done, Stoppe
 use Rattle.machine.specs.declared.Outcome.{Outcome}
 use Rattle.machine.specs.declared.Outcome.the-variants as outcome
 use Rattle.machine.specs.declared.Verb.{Verb}
-use Rattle.machine.specs.declared.Verb.the-variants.{Start, Continue}
+use Rattle.machine.specs.declared.Verb.the-variants.{Start, Rerun, Continue}
 use Rattle.machine.specs.Machines.{with-saved}
 use Rattle.machine.specs.World.{World, world}
 use Rattle.machine.specs.Calls.{may-start, may-continue, not-allowed, Reported, reports, is-sound, call}
@@ -21,17 +21,18 @@ use Rattle.machine.specs.Reads.{value-read, task-read, host-saved, host-save-as
 use Rattle.machine.specs.History.{HostCall, runs, saves, reads-value, reads-task, left-by, history, world-after, world-saved}
 use Rattle.laws.specs.Sound.{Sound}
 use Rattle.laws.proofs.SoundnessCalls.{left-sound}
-use Rattle.laws.proofs.Refused.{start-in-phase, continue-in-phase}
+use Rattle.laws.proofs.Refused.{start-in-phase, rerun-in-phase, continue-in-phase}
 use Rattle.rust.specs.Errors.{VMError}
 use Rattle.rust.specs.Vm.{VM}
+use Rattle.rust.specs.Run as loop
 use Rattle.rust.specs.Run.{Ran, returned, running, failed, panicked}
 use Rattle.agreement.specs.View.{view}
 use Rattle.agreement.specs.Agreement.{Over, many-tasks, long-title, many-entries, many-bytes, long-memory, long-image}
-use Rattle.agreement.specs.Runs.{rust-call, rust-takes, rust-left-by, rust-history, at-rest}
+use Rattle.agreement.specs.Runs.{from-main, if-rests, if-running, rust-call, rests, is-running, rust-takes, rust-left-by, rust-history, at-rest}
 use Rattle.agreement.specs.Demand.{is-added, meets-added, call-meets, NoneMet, no-call, not-met}
 use Rattle.agreement.specs.Exceptions.{call-comes, host-call-comes}
 use Rattle.agreement.proofs.Aligned.{Lined, Given, given, not-yet, while-given, run-given}
-use Rattle.agreement.proofs.Calls.{phase-by, Leaves, Told, told-end, told-pause, told-err, told-panic, told-met, Ready, DoneIfAny, done-if-any, start-told, go-on-told}
+use Rattle.agreement.proofs.Calls.{phase-by, Leaves, Told, told-end, told-pause, told-err, told-panic, told-met, Ready, DoneIfAny, done-if-any, start-told, rerun-told, go-on-told}
 
 -- a machine beside the Rust: both rest, both are in a run, the Rust has failed, the Rust has panicked
 pub data Related (w : World) : Ran → Type 0 where
@@ -56,7 +57,7 @@ pub is-met : {A : Type 0} {w : World} {number : Refusal} {vm : VM} (o : Outcome)
 unfolding meets-added
 is-met o e over not-added = absurd (true≢false (sym (over-added over) ∙ sym (ap meets-added e) ∙ not-added))
 
--- ---- a start or a continue
+-- ---- a start, a rerun or a continue
 
 -- one that may start may not continue
 may-not : (phase : Phase) → may-start phase ≡ true → may-continue phase ≡ false
@@ -66,53 +67,108 @@ may-not Paused may = absurd (true≢false (sym may))
 may-not Done may = refl
 may-not Stopped may = refl
 
+-- where the Rust rests, so does the machine
+data BothRest (w : World) : Ran → Type 0 where
+  resting : {values : List ℕ} {vm : VM} → Ready w → at-rest w ≡ vm → BothRest w (returned values vm)
+
+-- where it is in a run, so is the machine
+data BothGo (w : World) : Ran → Type 0 where
+  going : {vm : VM} (stale : ℕ) → Sound w → Bytes (w .pool) → w .machine .phase ≡ Paused → Lined (values-of (w .machine .height) (w .stack)) → view stale w ≡ vm → BothGo w (running vm)
+
 module _ {w : World} where
-  -- that the Rust takes
+  at-rest-both : {ran : Ran} → Related w ran → rests ran ≡ true → BothRest w ran
+  unfolding rests
+  at-rest-both (both-rest ready done lined values-are is) it-is = resting ready is
+  at-rest-both (both-run stale s bytes phase lined is) it-is = absurd (true≢false (sym it-is))
+  at-rest-both (it-failed stale s phase is) it-is = absurd (true≢false (sym it-is))
+  at-rest-both (it-panicked s phase) it-is = absurd (true≢false (sym it-is))
+
+  in-a-run-both : {ran : Ran} → Related w ran → is-running ran ≡ true → BothGo w ran
+  unfolding is-running
+  in-a-run-both (both-rest ready done lined values-are is) it-is = absurd (true≢false (sym it-is))
+  in-a-run-both (both-run stale s bytes phase lined is) it-is = going stale s bytes phase lined is
+  in-a-run-both (it-failed stale s phase is) it-is = absurd (true≢false (sym it-is))
+  in-a-run-both (it-panicked s phase) it-is = absurd (true≢false (sym it-is))
+
+  -- where it does not rest, the phase allows no start; where it is in no run, no continue
+  no-start : {ran : Ran} → Related w ran → rests ran ≡ false → may-start (w .machine .phase) ≡ false
+  unfolding rests may-start
+  no-start (both-rest ready done lined values-are is) not-there = absurd (true≢false not-there)
+  no-start (both-run stale s bytes phase lined is) not-there = ap may-start phase
+  no-start (it-failed stale s phase is) not-there = ap may-start phase
+  no-start (it-panicked s phase) not-there = ap may-start phase
+
+  no-continue : {ran : Ran} → Related w ran → is-running ran ≡ false → may-continue (w .machine .phase) ≡ false
+  unfolding is-running may-continue
+  no-continue (both-rest ready done lined values-are is) not-there = may-not (w .machine .phase) (ready .phase)
+  no-continue (both-run stale s bytes phase lined is) not-there = absurd (true≢false not-there)
+  no-continue (it-failed stale s phase is) not-there = ap may-continue phase
+  no-continue (it-panicked s phase) not-there = ap may-continue phase
+
+  -- each of them that the Rust takes
+  told-start : {ran : Ran} (fuel : ℕ) → BothRest w ran → call-comes Start fuel w ≡ false → Told (call Start fuel w) (rust-call Start fuel ran)
+  unfolding rust-call if-rests
+  told-start fuel (resting ready is) common = subst (λ (v : VM). Told (call Start fuel w) (loop.run fuel (from-main v))) is (start-told fuel w ready common)
+
+  told-rerun : {ran : Ran} (fuel : ℕ) → BothRest w ran → call-comes Rerun fuel w ≡ false → Told (call Rerun fuel w) (rust-call Rerun fuel ran)
+  unfolding rust-call if-rests
+  told-rerun fuel (resting ready is) common = subst (λ (v : VM). Told (call Rerun fuel w) (loop.run fuel v)) is (rerun-told fuel w ready common)
+
+  told-continue : {ran : Ran} (fuel : ℕ) → BothGo w ran → call-comes Continue fuel w ≡ false → Told (call Continue fuel w) (rust-call Continue fuel ran)
+  unfolding rust-call if-running may-continue
+  told-continue fuel (going stale s bytes phase lined is) common = subst (λ (v : VM). Told (call Continue fuel w) (loop.while fuel v)) is (go-on-told fuel stale w s bytes (ap may-continue phase) common)
+
   pub told-call : {ran : Ran} (verb : Verb) (fuel : ℕ) → Related w ran → rust-takes verb ran ≡ true → call-comes verb fuel w ≡ false → Told (call verb fuel w) (rust-call verb fuel ran)
-  unfolding rust-takes rust-call may-continue
-  told-call Start fuel (both-rest ready done lined values-are is) takes common = subst (λ (v : VM). Told (call Start fuel w) (rust-call Start fuel (returned [] v))) is (start-told fuel w ready common)
-  told-call Start fuel (both-run stale s bytes phase lined is) takes common = absurd (true≢false (sym takes))
-  told-call Start fuel (it-failed stale s phase is) takes common = absurd (true≢false (sym takes))
-  told-call Start fuel (it-panicked s phase) takes common = absurd (true≢false (sym takes))
-  told-call Continue fuel (both-rest ready done lined values-are is) takes common = absurd (true≢false (sym takes))
-  told-call Continue fuel (both-run stale s bytes phase lined is) takes common =
-      subst (λ (v : VM). Told (call Continue fuel w) (rust-call Continue fuel (running v))) is (go-on-told fuel stale w s bytes (ap may-continue phase) common)
-  told-call Continue fuel (it-failed stale s phase is) takes common = absurd (true≢false (sym takes))
-  told-call Continue fuel (it-panicked s phase) takes common = absurd (true≢false (sym takes))
+  unfolding rust-takes
+  told-call Start fuel related takes common = told-start fuel (at-rest-both related takes) common
+  told-call Rerun fuel related takes common = told-rerun fuel (at-rest-both related takes) common
+  told-call Continue fuel related takes common = told-continue fuel (in-a-run-both related takes) common
+
+  given-start : {ran : Ran} (fuel : ℕ) → BothRest w ran → Given (rust-call Start fuel ran)
+  unfolding rust-call if-rests from-main view
+  given-start fuel (resting ready is) = subst (λ (v : VM). Given (loop.run fuel (from-main v))) is (run-given fuel (from-main (at-rest w)) refl)
+
+  given-rerun : {ran : Ran} (fuel : ℕ) → BothRest w ran → Given (rust-call Rerun fuel ran)
+  unfolding rust-call if-rests view
+  given-rerun fuel (resting ready is) = subst (λ (v : VM). Given (loop.run fuel v)) is (run-given fuel (at-rest w) refl)
+
+  given-continue : {ran : Ran} (fuel : ℕ) → BothGo w ran → Given (rust-call Continue fuel ran)
+  unfolding rust-call if-running view
+  given-continue fuel (going stale s bytes phase lined is) = subst (λ (v : VM). Given (loop.while fuel v)) is (while-given fuel (view stale w) lined)
 
   pub given-call : {ran : Ran} (verb : Verb) (fuel : ℕ) → Related w ran → rust-takes verb ran ≡ true → Given (rust-call verb fuel ran)
-  unfolding rust-takes rust-call view
-  given-call Start fuel (both-rest ready done lined values-are is) takes = subst (λ (v : VM). Given (rust-call Start fuel (returned [] v))) is (run-given fuel (at-rest w) refl)
-  given-call Start fuel (both-run stale s bytes phase lined is) takes = absurd (true≢false (sym takes))
-  given-call Start fuel (it-failed stale s phase is) takes = absurd (true≢false (sym takes))
-  given-call Start fuel (it-panicked s phase) takes = absurd (true≢false (sym takes))
-  given-call Continue fuel (both-rest ready done lined values-are is) takes = absurd (true≢false (sym takes))
-  given-call Continue fuel (both-run stale s bytes phase lined is) takes = subst (λ (v : VM). Given (rust-call Continue fuel (running v))) is (while-given fuel (view stale w) lined)
-  given-call Continue fuel (it-failed stale s phase is) takes = absurd (true≢false (sym takes))
-  given-call Continue fuel (it-panicked s phase) takes = absurd (true≢false (sym takes))
+  unfolding rust-takes
+  given-call Start fuel related takes = given-start fuel (at-rest-both related takes)
+  given-call Rerun fuel related takes = given-rerun fuel (at-rest-both related takes)
+  given-call Continue fuel related takes = given-continue fuel (in-a-run-both related takes)
 
-  -- that the Rust does not take: 26
+  -- each that the Rust does not take: 26
   pub refused-call : {ran : Ran} (verb : Verb) (fuel : ℕ) → Related w ran → rust-takes verb ran ≡ false → call verb fuel w ≡ reports (not-allowed (w .machine)) w
-  unfolding rust-takes may-start may-continue
-  refused-call Start fuel (both-rest ready done lined values-are is) takes = absurd (true≢false takes)
-  refused-call Start fuel (both-run stale s bytes phase lined is) takes = start-in-phase fuel w (ap may-start phase)
-  refused-call Start fuel (it-failed stale s phase is) takes = start-in-phase fuel w (ap may-start phase)
-  refused-call Start fuel (it-panicked s phase) takes = start-in-phase fuel w (ap may-start phase)
-  refused-call Continue fuel (both-rest ready done lined values-are is) takes = continue-in-phase fuel w (may-not (w .machine .phase) (ready .phase))
-  refused-call Continue fuel (both-run stale s bytes phase lined is) takes = absurd (true≢false takes)
-  refused-call Continue fuel (it-failed stale s phase is) takes = continue-in-phase fuel w (ap may-continue phase)
-  refused-call Continue fuel (it-panicked s phase) takes = continue-in-phase fuel w (ap may-continue phase)
+  unfolding rust-takes
+  refused-call Start fuel related takes = start-in-phase fuel w (no-start related takes)
+  refused-call Rerun fuel related takes = rerun-in-phase fuel w (no-start related takes)
+  refused-call Continue fuel related takes = continue-in-phase fuel w (no-continue related takes)
+
+-- the Rust stays as it is
+stays-unless-resting : (begin : VM → Ran) (ran : Ran) → rests ran ≡ false → if-rests begin ran ≡ ran
+unfolding rests if-rests
+stays-unless-resting begin (returned values vm) not-there = absurd (true≢false not-there)
+stays-unless-resting begin (running vm) not-there = refl
+stays-unless-resting begin (failed error before) not-there = refl
+stays-unless-resting begin panicked not-there = refl
+
+stays-unless-running : (go-on : VM → Ran) (ran : Ran) → is-running ran ≡ false → if-running go-on ran ≡ ran
+unfolding is-running if-running
+stays-unless-running go-on (returned values vm) not-there = refl
+stays-unless-running go-on (running vm) not-there = absurd (true≢false not-there)
+stays-unless-running go-on (failed error before) not-there = refl
+stays-unless-running go-on panicked not-there = refl
 
 not-taken : (verb : Verb) (fuel : ℕ) (ran : Ran) → rust-takes verb ran ≡ false → rust-call verb fuel ran ≡ ran
 unfolding rust-takes rust-call
-not-taken Start fuel (returned values vm) takes = absurd (true≢false takes)
-not-taken Start fuel (running vm) takes = refl
-not-taken Start fuel (failed error before) takes = refl
-not-taken Start fuel panicked takes = refl
-not-taken Continue fuel (returned values vm) takes = refl
-not-taken Continue fuel (running vm) takes = absurd (true≢false takes)
-not-taken Continue fuel (failed error before) takes = refl
-not-taken Continue fuel panicked takes = refl
+not-taken Start fuel ran takes = stays-unless-resting (λ vm. loop.run fuel (from-main vm)) ran takes
+not-taken Rerun fuel ran takes = stays-unless-resting (λ vm. loop.run fuel vm) ran takes
+not-taken Continue fuel ran takes = stays-unless-running (λ vm. loop.while fuel vm) ran takes
 
 done-ready : (r : Reported) → r .report .outcome ≡ outcome.Done → Leaves r → Ready (world-after r)
 unfolding phase-by may-start

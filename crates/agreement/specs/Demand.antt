@@ -64,7 +64,7 @@ meets-added outcome.Done = false
 meets-added outcome.Paused = false
 meets-added (outcome.Refused number) = is-added number
 
--- of the calls a start or a continue does; the Rust's host has no save, and no read is refused so
+-- of the calls a start, a rerun or a continue does; the Rust's host has no save, and no read is refused so
 unfoldable pub call-meets : HostCall → World → Bool
 call-meets (runs verb fuel) w = meets-added (call verb fuel w .report .outcome)
 call-meets saves w = false

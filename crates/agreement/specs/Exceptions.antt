@@ -69,7 +69,7 @@ unfoldable pub comes-to-excepted : ℕ → World → Bool
 comes-to-excepted zero w = false
 comes-to-excepted (suc fuel) w = cond (at-end w) false (cond (excepted w) true (comes-later (λ v. comes-to-excepted fuel v) (step w)))
 
--- the run of a start or of a continue, where it is allowed
+-- the run of a start, of a rerun or of a continue, where it is allowed
 unfoldable pub permitted-comes : ℕ → World → Permission → Bool
 permitted-comes fuel w permission = cond (permission .allowed) (comes-to-excepted fuel (with-machine w (permission .machine))) false
 

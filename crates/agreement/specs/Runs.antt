@@ -1,4 +1,4 @@
--- The history of a host beside the Rust: what each call does to the Rust, and what a start or a continue answers beside the Rust's run.
+-- The history of a host beside the Rust: what each call does to the Rust, and what a start, a rerun or a continue answers beside the Rust's run.
 use Prim.Native.Nat.{ℕ, _<_}
 use mathlib.Core.Bool.{Bool, true, false}
 use mathlib.Core.Path.{_≡_}
@@ -9,13 +9,13 @@ use Rattle.errors.specs.declared.Refusal.the-variants as refusal
 use Rattle.inlinevec.specs.Stacks.{values-of}
 use Rattle.machine.specs.declared.Outcome.the-variants as outcome
 use Rattle.machine.specs.declared.Verb.{Verb}
-use Rattle.machine.specs.declared.Verb.the-variants.{Start, Continue}
+use Rattle.machine.specs.declared.Verb.the-variants.{Start, Rerun, Continue}
 use Rattle.machine.specs.World.{World, place, memory-in-use}
 use Rattle.machine.specs.Calls.{Reported}
 use Rattle.machine.specs.Reads.{value-read}
 use Rattle.machine.specs.History.{HostCall, runs, saves, reads-value, reads-task, world-after}
 use Rattle.rust.specs.Errors.{VMError, ok, err, panic}
-use Rattle.rust.specs.Vm.{VM, at, step}
+use Rattle.rust.specs.Vm.{VM, InstructionsFrame, at, with-control-stack, with-call-stack, in-frame, step}
 use Rattle.rust.specs.Run.{Ran, returned, running, failed, panicked, while, run}
 use Rattle.rust.specs.Unbox.{unbox-value}
 use Rattle.agreement.specs.View.{view}
@@ -24,27 +24,52 @@ use Rattle.agreement.specs.Agreement.{Over, refusal-of}
 
 -- ---- the Rust in a history
 
--- a start runs a machine that rests, a continue goes on with a run; any other leaves the Rust as it is
-unfoldable pub rust-call : Verb → ℕ → Ran → Ran
-rust-call Start fuel (returned values vm) = run fuel vm
-rust-call Start fuel (running vm) = running vm
-rust-call Start fuel (failed error before) = failed error before
-rust-call Start fuel panicked = panicked
-rust-call Continue fuel (returned values vm) = returned values vm
-rust-call Continue fuel (running vm) = while fuel vm
-rust-call Continue fuel (failed error before) = failed error before
-rust-call Continue fuel panicked = panicked
+-- main at place 0: the program is the first entry
+abbrev pub rust-main : InstructionsFrame
+rust-main = record { instructions-ref = 0; pc = 0 }
 
--- the Rust takes a start where it rests, a continue where it is in a run
+-- the machine of the Rust with the same tasks, pool and storage, one frame at main, place 0, and an empty control stack
+unfoldable pub from-main : VM → VM
+from-main vm = in-frame (with-call-stack (with-control-stack vm []) (rust-main ∷ [])) rust-main
+
+-- on from a machine of the Rust that rests; any other stays as it is
+unfoldable pub if-rests : (VM → Ran) → Ran → Ran
+if-rests begin (returned values vm) = begin vm
+if-rests begin (running vm) = running vm
+if-rests begin (failed error before) = failed error before
+if-rests begin panicked = panicked
+
+-- on from one that is in a run; any other stays as it is
+unfoldable pub if-running : (VM → Ran) → Ran → Ran
+if-running go-on (returned values vm) = returned values vm
+if-running go-on (running vm) = go-on vm
+if-running go-on (failed error before) = failed error before
+if-running go-on panicked = panicked
+
+-- a start runs a machine that rests from main, a rerun runs it from where its last run ended, a continue goes on with a run
+unfoldable pub rust-call : Verb → ℕ → Ran → Ran
+rust-call Start fuel ran = if-rests (λ vm. run fuel (from-main vm)) ran
+rust-call Rerun fuel ran = if-rests (λ vm. run fuel vm) ran
+rust-call Continue fuel ran = if-running (λ vm. while fuel vm) ran
+
+-- whether the Rust rests, or is in a run
+unfoldable pub rests : Ran → Bool
+rests (returned values vm) = true
+rests (running vm) = false
+rests (failed error before) = false
+rests panicked = false
+
+unfoldable pub is-running : Ran → Bool
+is-running (returned values vm) = false
+is-running (running vm) = true
+is-running (failed error before) = false
+is-running panicked = false
+
+-- the Rust takes a start and a rerun where it rests, a continue where it is in a run
 unfoldable pub rust-takes : Verb → Ran → Bool
-rust-takes Start (returned values vm) = true
-rust-takes Start (running vm) = false
-rust-takes Start (failed error before) = false
-rust-takes Start panicked = false
-rust-takes Continue (returned values vm) = false
-rust-takes Continue (running vm) = true
-rust-takes Continue (failed error before) = false
-rust-takes Continue panicked = false
+rust-takes Start ran = rests ran
+rust-takes Rerun ran = rests ran
+rust-takes Continue ran = is-running ran
 
 -- a save and a read leave the Rust as it is
 unfoldable pub rust-left-by : HostCall → Ran → Ran

@@ -23,7 +23,7 @@ use Rattle.machine.specs.declared.TaskResult.the-variants.{Readable, NotReadabl
 use Rattle.machine.specs.Machines.{with-frames}
 use Rattle.machine.specs.World.{World, world, moved}
 use Rattle.machine.specs.Run.{run}
-use Rattle.machine.specs.Calls.{Reported, is-sound, start, go-on}
+use Rattle.machine.specs.Calls.{Reported, is-sound, start, rerun, go-on}
 use Rattle.machine.specs.World.{with-machine}
 use Rattle.machine.specs.Creation.{Made, new-machine, create}
 use Rattle.machine.specs.Reads.{SavedTo, value-read, task-read, host-save}
@@ -46,6 +46,8 @@ use Rattle.image.specs.Reading as image-reading
 use Rattle.image.specs.Table as image-table
 use Rattle.table_image.specs.Creation as creation-creation
 use Rattle.memory.specs.Unbox as unbox-unbox
+use Rattle.memory.specs.Change as memory-change
+use Rattle.memory.specs.Allocation as memory-allocation
 use Rattle.machine.specs.Sound as vm-sound
 use Rattle.machine.specs.Calls as vm-calls
 use Rattle.machine.specs.Creation as vm-creation
@@ -59,9 +61,13 @@ End-call = 0x12 ∷ []
 abbrev Calldata : List ℕ
 Calldata = 0x04 ∷ 0x00 ∷ 0x01 ∷ 0x1d ∷ []
 
--- 01 00000003 01 00000000 0e
+-- 0d 0d 0e: a loop that stays open
 abbrev Open-loop : List ℕ
-Open-loop = 0x01 ∷ 0x00 ∷ 0x00 ∷ 0x00 ∷ 0x03 ∷ 0x01 ∷ 0x00 ∷ 0x00 ∷ 0x00 ∷ 0x00 ∷ 0x0e ∷ []
+Open-loop = 0x0d ∷ 0x0d ∷ 0x0e ∷ []
+
+-- 1b 0000 04 01 03 01 04 0001 0d 07 03 00 11 03 07: a new task whose instructions are S_LEN, a CALL of task 0, and behind it a push of 7
+abbrev In-task : List ℕ
+In-task = 0x1b ∷ 0x00 ∷ 0x00 ∷ 0x04 ∷ 0x01 ∷ 0x03 ∷ 0x01 ∷ 0x04 ∷ 0x00 ∷ 0x01 ∷ 0x0d ∷ 0x07 ∷ 0x03 ∷ 0x00 ∷ 0x11 ∷ 0x03 ∷ 0x07 ∷ []
 
 -- 01 00000005 01 00000063
 abbrev Two-values : List ℕ
@@ -139,10 +145,34 @@ pub record Examples : Type 0 where
   pub continue-new : go-on 9 (fresh-world C1) .report .outcome ≡ outcome.Refused WrongPhaseOrUnsound
   -- with no finished instruction
   pub continue-new-finished : go-on 9 (fresh-world C1) .report .finished ≡ 0
-  -- the control stack carries over from the run before: a loop left open, and one more
-  pub loops-carried-over : start 9 (after (started Open-loop)) .report .machine .loops .count ≡ 2
-  -- a third finds the control stack full
-  pub loops-full : start 9 (after (start 9 (after (started Open-loop)))) .report .outcome ≡ outcome.Refused StackOverflow
+  -- a rerun of a new machine is a start
+  pub rerun-new : rerun 9 (fresh-world C1) .report .finished ≡ 5
+  -- on a paused machine it is 26
+  pub rerun-paused : rerun 9 (after (start 2 (fresh-world C1))) .report .outcome ≡ outcome.Refused WrongPhaseOrUnsound
+  -- a run left a loop open: a start begins with an empty control stack, so one is open again
+  pub start-closes-loops : start 9 (after (started Open-loop)) .report .machine .loops .count ≡ 1
+  -- and a third start finds room
+  pub start-finds-room : start 9 (after (start 9 (after (started Open-loop)))) .report .outcome ≡ outcome.Done
+  -- a rerun begins with the loop that is open, and opens one more
+  pub rerun-keeps-loops : rerun 9 (after (started Open-loop)) .report .machine .loops .count ≡ 2
+  -- a second rerun finds the control stack full
+  pub rerun-finds-no-room : rerun 9 (after (rerun 9 (after (started Open-loop)))) .report .outcome ≡ outcome.Refused StackOverflow
+  -- but a start after a rerun has all of it
+  pub start-after-a-rerun : start 9 (after (rerun 9 (after (started Open-loop)))) .report .machine .loops .count ≡ 1
+  -- a run ended inside task 0: two frames
+  pub ends-in-a-task : started In-task .report .machine .frames .count ≡ 2
+  -- and main is left behind its CALL
+  pub ends-behind-call : started In-task .report .machine .frames .main .place ≡ 15
+  -- a start begins at main, place 0: all seven instructions again
+  pub start-from-main : start 9 (after (started In-task)) .report .finished ≡ 7
+  -- whose S_LEN finds two tasks
+  pub start-from-main-value : value-read 0 (after (start 9 (after (started In-task)))) .answer ≡ U32 2
+  -- a rerun begins inside the task: its one instruction
+  pub rerun-in-a-task : rerun 9 (after (started In-task)) .report .finished ≡ 1
+  -- whose S_LEN finds one task
+  pub rerun-in-a-task-value : value-read 0 (after (rerun 9 (after (started In-task)))) .answer ≡ U32 1
+  -- and after a rerun a start is at main again
+  pub start-from-main-again : start 9 (after (rerun 9 (after (started In-task)))) .report .finished ≡ 7
   -- vm::sound::sound: a new machine
   pub sound-new : is-sound (fresh-world C1) ≡ true
   -- a full stack
@@ -209,7 +239,7 @@ pub record Examples : Type 0 where
   pub save-unsound : saved 13 (high 1001) .report .result ≡ NotSaved WrongPhaseOrUnsound
 
 pub examples : Examples
-unfolding bytecode-opcodes.operand-size bytecode-operands.big-endian bytecode-operands.operand bytecode-operands.data-size bytecode-operands.behind bytecode-operands.extent inlinevec-stacks.if-room inlinevec-stacks.if-some inlinevec-stacks.push inlinevec-stacks.pop inlinevec-stacks.push-two inlinevec-stacks.last-two inlinevec-stacks.pop-two inlinevec-stacks.change-two inlinevec-stacks.push-loop inlinevec-stacks.pop-loop values-values.make-scalar-tagged values-values.is-qnan values-values.is-scalar values-values.is-vec values-values.raw-tag values-values.tag-of values-values.to-u32 values-values.scalar-type values-values.get-value-type pools-pool.end-of pools-pool.start-of pools-pool.bounds pools-pool.entry-of pools-pool.has-room pools-pool.interned pools-pool.part-in-use pools-pool.never-fall pools-pool.end-to-end storage-tasks.blank storage-tasks.title-of storage-tasks.new-task storage-storage.slot-of storage-storage.find storage-table.sound-slot storage-table.sound-slots storage-table.sound-counts storage-table.sound-table vm-sound.sound-frames vm-sound.sound-lengths vm-sound.sound-record vm-sound.sound-world vm-calls.may-start vm-calls.may-continue vm-calls.allowed vm-calls.ended vm-calls.report vm-calls.call-with vm-calls.call vm-reads.is-done vm-reads.readable vm-reads.value-at vm-reads.value-read vm-reads.readable-unless vm-reads.if-found vm-reads.task-result vm-reads.task-read vm-reads.host-saved vm-reads.host-save vm-creation.create vm-creation.create-fit vm-creation.create-behind creation-creation.image-tests creation-creation.creation-tests unbox-unbox.where-bounded unbox-unbox.by-type unbox-unbox.unbox-value image-image.record-of image-image.header image-image.body image-image.task-at image-image.headed image-image.good image-image.task-before image-image.read-from image-image.with-count image-image.read-image slices-numbers.little-endian slices-numbers.number-at image-reading.s-len-of image-reading.instruction-bytes image-reading.image-result image-slots.loaded-task image-slots.saved-task image-table.living-tasks image-table.refusal-by image-table.task-refusal image-table.or-else image-table.first-refusal image-table.image-of-tasks image-table.saved-over image-table.saved-unless image-table.save-tasks image-table.save-table image-table.bytes-after image-table.entries-after image-table.next-reference image-slots.task-in utf8-grammar.UTF8-char utf8-utf8.holds utf8-utf8.lead utf8-utf8.from utf8-utf8.valid machine-machines.current machine-machines.with-current machine-machines.code-of machine-machines.op-at machine-machines.placed machine-machines.rewound machine-fields.within machine-fields.title-bytes machine-world.at-end machine-words.test machine-words.operand-found machine-words.popped machine-words.looked-at machine-words.push machine-words.calculated machine-words.pointed machine-words.bytes-of machine-words.allocated machine-words.store machine-words.element-changed machine-words.loop-pushed machine-words.loop-popped machine-words.loop-looked-at machine-words.frame-pushed machine-words.frame-popped machine-words.bounds-found machine-words.interned machine-words.found machine-words.first-state machine-words.has-state machine-words.with-room machine-words.saved machine-opcodes.push-u32 machine-opcodes.push-byte machine-opcodes.push-calldata machine-opcodes.mul machine-opcodes.muli machine-opcodes.compare machine-opcodes.t-create machine-opcodes.get-field machine-opcodes.t-get-field machine-opcodes.set-field machine-opcodes.t-set-field machine-opcodes.t-delete machine-opcodes.s-save machine-opcodes.s-len machine-opcodes.«do» machine-opcodes.loop machine-opcodes.loop-index machine-opcodes.enter machine-opcodes.call-task machine-opcodes.end-call machine-opcodes.jump-if-false machine-opcodes.drops machine-opcodes.dup machine-opcodes.swap machine-opcodes.equal machine-opcodes.eq machine-opcodes.neq machine-opcodes.m-sti machine-opcodes.m-st machine-opcodes.m-muta machine-step.execute machine-step.step machine-run.follow machine-run.run image-image.written image-image.records image-table.load-slot image-table.load-tasks image-table.load-read image-table.load-table
+unfolding bytecode-opcodes.operand-size bytecode-operands.big-endian bytecode-operands.operand bytecode-operands.data-size bytecode-operands.behind bytecode-operands.extent inlinevec-stacks.if-room inlinevec-stacks.if-some inlinevec-stacks.push inlinevec-stacks.pop inlinevec-stacks.push-two inlinevec-stacks.last-two inlinevec-stacks.pop-two inlinevec-stacks.change-two inlinevec-stacks.push-loop inlinevec-stacks.pop-loop values-values.make-scalar-tagged values-values.is-qnan values-values.is-scalar values-values.is-vec values-values.raw-tag values-values.tag-of values-values.to-u32 values-values.scalar-type values-values.get-value-type pools-pool.end-of pools-pool.start-of pools-pool.bounds pools-pool.entry-of pools-pool.has-room pools-pool.interned pools-pool.part-in-use pools-pool.never-fall pools-pool.end-to-end storage-tasks.blank storage-tasks.title-of storage-tasks.new-task storage-storage.slot-of storage-storage.find storage-table.sound-slot storage-table.sound-slots storage-table.sound-counts storage-table.sound-table vm-sound.sound-frames vm-sound.sound-lengths vm-sound.sound-record vm-sound.sound-world vm-calls.may-start vm-calls.may-continue vm-calls.allowed vm-calls.ended vm-calls.report vm-calls.call-with vm-calls.call vm-reads.is-done vm-reads.readable vm-reads.value-at vm-reads.value-read vm-reads.readable-unless vm-reads.if-found vm-reads.task-result vm-reads.task-read vm-reads.host-saved vm-reads.host-save vm-creation.create vm-creation.create-fit vm-creation.create-behind creation-creation.image-tests creation-creation.creation-tests unbox-unbox.where-bounded unbox-unbox.by-type unbox-unbox.unbox-value image-image.record-of image-image.header image-image.body image-image.task-at image-image.headed image-image.good image-image.task-before image-image.read-from image-image.with-count image-image.read-image slices-numbers.little-endian slices-numbers.number-at image-reading.s-len-of image-reading.instruction-bytes image-reading.image-result image-slots.loaded-task image-slots.saved-task image-table.living-tasks image-table.refusal-by image-table.task-refusal image-table.or-else image-table.first-refusal image-table.image-of-tasks image-table.saved-over image-table.saved-unless image-table.save-tasks image-table.save-table image-table.bytes-after image-table.entries-after image-table.next-reference image-slots.task-in utf8-grammar.UTF8-char utf8-utf8.holds utf8-utf8.lead utf8-utf8.from utf8-utf8.valid machine-machines.current machine-machines.with-current machine-machines.code-of machine-machines.op-at machine-machines.placed machine-machines.rewound machine-fields.within machine-world.at-end machine-words.test machine-words.operand-found machine-words.popped machine-words.looked-at machine-words.push machine-words.calculated machine-words.pointed machine-words.bytes-of machine-words.allocated machine-words.store machine-words.element-changed machine-words.loop-pushed machine-words.loop-popped machine-words.loop-looked-at machine-words.frame-pushed machine-words.frame-popped machine-words.bounds-found machine-words.interned machine-words.found machine-words.first-state machine-words.has-state machine-words.with-room machine-words.saved machine-opcodes.push-u32 machine-opcodes.push-byte machine-opcodes.push-calldata machine-opcodes.mul machine-opcodes.muli machine-opcodes.compare machine-opcodes.t-create machine-opcodes.get-field machine-opcodes.t-get-field machine-opcodes.set-field machine-opcodes.t-set-field machine-opcodes.t-delete machine-opcodes.s-save machine-opcodes.s-len machine-opcodes.«do» machine-opcodes.loop machine-opcodes.loop-index machine-opcodes.enter machine-opcodes.call-task machine-opcodes.end-call machine-opcodes.jump-if-false machine-opcodes.drops machine-opcodes.dup machine-opcodes.swap machine-opcodes.equal machine-opcodes.eq machine-opcodes.neq machine-opcodes.m-sti machine-opcodes.m-st machine-opcodes.m-muta machine-step.execute machine-step.step machine-run.follow machine-run.run image-image.written image-image.records image-table.load-slot image-table.load-tasks image-table.load-read image-table.load-table inlinevec-stacks.push-frame memory-allocation.alloc memory-allocation.filling memory-allocation.is-element-tag memory-allocation.offset-aligned memory-allocation.vector memory-allocation.vector-stored storage-storage.len-after storage-storage.room storage-tasks.default-state values-values.fat-pointer values-values.make-vec-tagged values-values.to-fat-pointer values-values.to-vec-val memory-change.inside
 examples = record {
   end-call-in-main = refl;
   calldata-value = refl;
@@ -227,8 +257,20 @@ examples = record {
   continue-paused = refl;
   continue-new = refl;
   continue-new-finished = refl;
-  loops-carried-over = refl;
-  loops-full = refl;
+  rerun-new = refl;
+  rerun-paused = refl;
+  start-closes-loops = refl;
+  start-finds-room = refl;
+  rerun-keeps-loops = refl;
+  rerun-finds-no-room = refl;
+  start-after-a-rerun = refl;
+  ends-in-a-task = refl;
+  ends-behind-call = refl;
+  start-from-main = refl;
+  start-from-main-value = refl;
+  rerun-in-a-task = refl;
+  rerun-in-a-task-value = refl;
+  start-from-main-again = refl;
   sound-new = refl;
   sound-height = refl;
   unsound-height = refl;

@@ -6,7 +6,7 @@ use mathlib.Core.Path.{_≡_, refl, subst}
 use Rattle.image.specs.declared.SaveResult.{SaveResult}
 use Rattle.image.specs.declared.SaveResult.the-variants.{Saved, NotSaved}
 use Rattle.machine.specs.declared.Verb.{Verb}
-use Rattle.machine.specs.declared.Verb.the-variants.{Start, Continue}
+use Rattle.machine.specs.declared.Verb.the-variants.{Start, Rerun, Continue}
 use Rattle.machine.specs.declared.Permission.{Permission}
 use Rattle.machine.specs.declared.Outcome.{Outcome}
 use Rattle.machine.specs.declared.Outcome.the-variants.{Done, Paused, Refused}
@@ -34,6 +34,7 @@ pub record Beside (w v : World) : Type 0 where
 allowed-same : (w : World) (test : Bool) (verb : Verb) → Beside w (with-machine w (allowed (w .machine) test verb .machine))
 unfolding allowed
 allowed-same w true Start = record { table = refl; ids = record { next-id = refl; count = refl } }
+allowed-same w true Rerun = record { table = refl; ids = record { next-id = refl; count = refl } }
 allowed-same w true Continue = record { table = refl; ids = record { next-id = refl; count = refl } }
 allowed-same w false verb = record { table = refl; ids = record { next-id = refl; count = refl } }
 

@@ -13,10 +13,10 @@ use Rattle.machine.specs.declared.Outcome.{Outcome}
 use Rattle.machine.specs.declared.Outcome.the-variants.{Done, Paused, Refused}
 use Rattle.machine.specs.World.{World, world}
 use Rattle.machine.specs.Run.{End, end-at, run}
-use Rattle.machine.specs.Calls.{may-continue, allowed, phased, ended, report, Reported, reported-end, is-sound, call-with, call, start, go-on}
+use Rattle.machine.specs.Calls.{may-continue, allowed, phased, ended, report, Reported, reported-end, is-sound, call-with, call, start, rerun, go-on}
 use Rattle.machine.specs.World.{with-machine}
 use Rattle.machine.specs.declared.Verb.{Verb}
-use Rattle.machine.specs.declared.Verb.the-variants.{Start, Continue}
+use Rattle.machine.specs.declared.Verb.the-variants.{Start, Rerun, Continue}
 use Rattle.machine.specs.declared.Permission.{Permission}
 use Rattle.machine.specs.History.{world-after, runs, left-by}
 use Rattle.laws.specs.Sound.{Passes}
@@ -138,6 +138,10 @@ module _ (verb : Verb) (w : World) where
 -- a start that pauses, then a continue
 pub start-then-go-on : (a b : ℕ) (w : World) → length (w .ends) ≡ 1024 → start a w .report .outcome ≡ Paused → Together (start a w) (go-on b (world-after (start a w))) (start (a + b) w)
 start-then-go-on a b w ends-lent paused = fuel-of-calls Start w ends-lent a b paused
+
+-- a rerun that pauses, then a continue
+pub rerun-then-go-on : (a b : ℕ) (w : World) → length (w .ends) ≡ 1024 → rerun a w .report .outcome ≡ Paused → Together (rerun a w) (go-on b (world-after (rerun a w))) (rerun (a + b) w)
+rerun-then-go-on a b w ends-lent paused = fuel-of-calls Rerun w ends-lent a b paused
 
 -- a continue that pauses, then another
 pub go-on-then-go-on : (a b : ℕ) (w : World) → length (w .ends) ≡ 1024 → go-on a w .report .outcome ≡ Paused → Together (go-on a w) (go-on b (world-after (go-on a w))) (go-on (a + b) w)

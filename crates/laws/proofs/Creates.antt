@@ -42,6 +42,10 @@ roomy : (image : List ℕ) (found : Image) (lent size : ℕ) → read-image imag
 unfolding has-room
 roomy image found lent size e = rw (lt-ltb (length (found .tasks)) 1024 (few image found e))
 
+-- a creation answers one machine
+pub created-is : {a b : Machine} → Created a ≡ Created b → a ≡ b
+created-is e = cc
+
 module _ (table : List Task) (pool ends image program : List ℕ) where
   -- ---- what the tests find
 

@@ -235,6 +235,10 @@ fresh-sound program image _ (is-created-by table pool ends machine stack memory 
 pub fresh-passes : (program image : List ℕ) (first : World) → FreshWorld program image first → Passes first
 fresh-passes program image first fresh = let s = fresh-sound program image first fresh in record { tested = s .tested; ends-lent = s .ends-lent }
 
+-- it has not run
+pub fresh-new : (program image : List ℕ) (first : World) → FreshWorld program image first → first .machine .phase ≡ New
+fresh-new program image _ (is-created-by table pool ends machine stack memory save lent long e) = create-new table pool ends image program machine lent e
+
 -- as many tasks live as the image counts
 pub fresh-living : (program image : List ℕ) (first : World) → FreshWorld program image first → living-of (first .table) ≡ task-count image
 fresh-living program image _ (is-created-by table pool ends machine stack memory save lent long e) = create-living table pool ends image program machine lent e

@@ -24,7 +24,7 @@ use Rattle.storage.specs.declared.Task.{Task}
 use Rattle.mechanism.specs.Registers.{moved}
 use Rattle.mechanism.specs.declared.Registers.{Registers}
 use Rattle.machine.specs.declared.Machine.{Machine}
-use Rattle.machine.specs.Machines.{current, with-current, with-frames}
+use Rattle.machine.specs.Machines.{main-alone, current, with-current, with-frames}
 use Rattle.mechanism.specs.Registers.{registers-of, settled}
 use Rattle.mechanism.specs.Frames.{framed, enter-bounded, enter, call-popped, op-call, left-frame, op-end-call}
 use Rattle.mechanism.specs.Registers.{machine-at}
@@ -76,6 +76,14 @@ few-frames frames entries sound = few-by frames entries (frames-are frames entri
 one-sound : (frames : Frames) (entries : ℕ) → frames .count ≡ 1 → names (frames .main) entries ≡ true → sound-frames frames entries ≡ true
 unfolding sound-frames
 one-sound frames entries single main = simp (single, main)
+
+-- main alone, since a sound frame names an entry, and so there is one
+some-entry : (frames : Frames) (entries : ℕ) → Framed frames entries → 0 < entries
+some-entry frames entries (one single main) = let less : frames .main .entry .0 < entries = ltb-true _ _ main in omega (arith, less)
+some-entry frames entries (two double main task) = let less : frames .main .entry .0 < entries = ltb-true _ _ main in omega (arith, less)
+
+pub main-alone-sound : (frames : Frames) (entries : ℕ) → sound-frames frames entries ≡ true → sound-frames main-alone entries ≡ true
+main-alone-sound frames entries sound = one-sound main-alone entries refl (lt-ltb 0 entries (some-entry frames entries (frames-are frames entries sound)))
 
 two-sound : (frames : Frames) (entries : ℕ) → frames .count ≡ 2 → names (frames .main) entries ≡ true → names (frames .task) entries ≡ true → sound-frames frames entries ≡ true
 unfolding sound-frames

@@ -29,3 +29,4 @@ pub mod Loading
 pub mod Creation
 pub mod Creates
 pub mod Saved
+pub mod Starts

@@ -1,4 +1,4 @@
--- A call that is refused outside an instruction writes nothing: creation, start, continue, the save by the host and the reads.
+-- A call that is refused outside an instruction writes nothing: creation, start, rerun, continue, the save by the host and the reads.
 use Prim.Native.Nat.{ℕ, _+_}
 use mathlib.Core.Bool.{Bool, true, false, false≢true, true≢false}
 use mathlib.Core.List.{List}
@@ -21,13 +21,13 @@ use Rattle.table_image.specs.Creation.{creation-tests}
 use Rattle.table_image.specs.declared.creation.CreationResult.{CreationResult}
 use Rattle.table_image.specs.declared.creation.CreationResult.the-variants.{Fit, Unfit}
 use Rattle.machine.specs.declared.Verb.{Verb}
-use Rattle.machine.specs.declared.Verb.the-variants.{Start, Continue}
+use Rattle.machine.specs.declared.Verb.the-variants.{Start, Rerun, Continue}
 use Rattle.machine.specs.declared.CreateResult.{CreateResult}
 use Rattle.machine.specs.declared.CreateResult.the-variants.{NotCreated}
 use Rattle.machine.specs.declared.Outcome.the-variants.{Refused}
 use Rattle.machine.specs.World.{World, with-machine}
 use Rattle.machine.specs.Run.{run}
-use Rattle.machine.specs.Calls.{may-start, may-continue, allowed, report, not-allowed, Reported, reports, reported-end, is-sound, call-with, call, start, go-on}
+use Rattle.machine.specs.Calls.{may-start, may-continue, allowed, report, not-allowed, Reported, reports, reported-end, is-sound, call-with, call, start, rerun, go-on}
 use Rattle.machine.specs.Reads.{readable, value-at, read-to, value-read, task-read, host-saved, SavedTo, saved-to, host-save-as, host-save}
 use Rattle.machine.specs.Creation.{Made, made, create-behind, create-fit, create}
 use Rattle.machine.specs.History.{world-after, world-saved, HostCall, reads-value, reads-task, left-by}
@@ -39,7 +39,7 @@ use Rattle.laws.proofs.Saves.{Saves, saves, not-saves, save-keeps}
 use Rattle.laws.proofs.SoundnessCalls.{allowed-passes}
 use Rattle.laws.proofs.RefusedInside.{run-other}
 
--- ---- start and continue: 26
+-- ---- start, rerun and continue: 26
 
 -- a call that is allowed runs
 pub call-allowed : (verb : Verb) (fuel : ℕ) (w : World) → allowance verb w .allowed ≡ true → call verb fuel w ≡ reported-end fuel (run fuel (with-machine w (allowance verb w .machine)))
@@ -72,6 +72,11 @@ by-phase w verb false e = refl
 pub start-in-phase : (fuel : ℕ) (w : World) → may-start (w .machine .phase) ≡ false → start fuel w ≡ reports (not-allowed (w .machine)) w
 unfolding allowed
 start-in-phase fuel w e = call-not-allowed Start fuel w (by-phase w Start (is-sound w) e)
+
+-- and a rerun
+pub rerun-in-phase : (fuel : ℕ) (w : World) → may-start (w .machine .phase) ≡ false → rerun fuel w ≡ reports (not-allowed (w .machine)) w
+unfolding allowed
+rerun-in-phase fuel w e = call-not-allowed Rerun fuel w (by-phase w Rerun (is-sound w) e)
 
 -- a continue on one that is not paused
 pub continue-in-phase : (fuel : ℕ) (w : World) → may-continue (w .machine .phase) ≡ false → go-on fuel w ≡ reports (not-allowed (w .machine)) w

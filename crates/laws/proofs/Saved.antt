@@ -21,11 +21,10 @@ use Rattle.roundtrips.proofs.Loads.{Room, load-holds, reload, reload-none}
 use Rattle.roundtrips.proofs.Created.{load-none}
 use Rattle.inlinevec.specs.Stacks.{last-two}
 use Rattle.machine.specs.declared.Machine.{Machine}
-use Rattle.machine.specs.declared.Phase.the-variants.{New}
 use Rattle.machine.specs.declared.Verb.the-variants.{Start}
 use Rattle.machine.specs.declared.Outcome.the-variants.{Done, Paused, Refused}
 use Rattle.machine.specs.declared.CreateResult.the-variants.{Created}
-use Rattle.machine.specs.Machines.{current, code-of, op-at, placed, rewound, with-saved}
+use Rattle.machine.specs.Machines.{current, code-of, op-at, placed, rewound, at-main, with-saved}
 use Rattle.machine.specs.World.{World, code, place, op, at-end, with-machine, with-save}
 use Rattle.machine.specs.Step.{execute, step}
 use Rattle.machine.specs.Run.{end-at, follow, run}
@@ -33,14 +32,14 @@ use Rattle.machine.specs.Words.{StepResult, next, refused, saved}
 use Rattle.machine.specs.Opcodes.{onward, saving, s-save}
 use Rattle.machine.specs.Calls.{fresh, allowing, allowed, may-start, ended, report, Reported, is-sound, call-with, call, start}
 use Rattle.machine.specs.Calls.{reported-end as reported-end}
-use Rattle.machine.specs.Creation.{main-frame, Made}
+use Rattle.machine.specs.Creation.{Made}
 use Rattle.machine.specs.Reads.{saved-to, host-saved, host-save-as, host-save}
 use Rattle.machine.specs.History.{FreshWorld, is-created}
 use Rattle.laws.specs.Creatable.{Creatable}
 use Rattle.laws.specs.Saved.{saved-first}
 use Rattle.laws.proofs.Finished.{steps-to}
-use Rattle.laws.proofs.Creation.{none-image, none-joined, create-sound, create-new}
-use Rattle.laws.proofs.Creates.{first-room, few, with-first, created-as, creates-exactly}
+use Rattle.laws.proofs.Creation.{none-image, none-joined, create-sound, fresh-new}
+use Rattle.laws.proofs.Creates.{first-room, few, with-first, created-as, created-is, creates-exactly}
 
 module _ (table : List Task) (pool ends program : List ℕ) (lent : length ends ≡ 1024) where
   first-pool : (image : List ℕ) → Creatable table pool image program → Pool (with-first table pool ends image program)
@@ -64,9 +63,6 @@ module _ (table : List Task) (pool ends program : List ℕ) (lent : length ends 
   table-saved (byte ∷ bytes) all c save =
       reload (byte ∷ bytes) (c .found) (with-first table pool ends (byte ∷ bytes) program) all (omega arith) (c .is-sound) (omega (arith, c .slots)) (first-pool (byte ∷ bytes) c)
       (first-has-room (byte ∷ bytes) c) save
-
-created-is : {a b : Machine} → Created a ≡ Created b → a ≡ b
-created-is e = cc
 
 module _ {program image : List ℕ} (all : Bytes image) where
   -- what S_SAVE and the host's save find
@@ -110,24 +106,16 @@ module _ {program image : List ℕ} (all : Bytes image) where
 
 -- a machine as a start begins with it
 abbrev begun : World → World
-begun w = with-machine w (fresh (w .machine))
-
-frames-are : {program image : List ℕ} {w : World} → FreshWorld program image w → w .machine .frames ≡ record { count = 1; main = main-frame; task = main-frame }
-frames-are {program} {image} (is-created table pool ends machine stack memory save lent long e) =
-    let c = creates-exactly table pool ends image program .0 (machine, e) in
-    ap (λ (x : Machine). x .frames) (created-is (sym e ∙ ap (λ (x : Made). x .answer) (created-as table pool ends image program c)))
-
-is-new : {program image : List ℕ} {w : World} → FreshWorld program image w → w .machine .phase ≡ New
-is-new {program} {image} (is-created table pool ends machine stack memory save lent long e) = create-new table pool ends image program machine lent e
+begun w = with-machine w (fresh (at-main (w .machine)))
 
 module _ {rest image : List ℕ} {w : World} (all : Bytes image) (fresh-one : FreshWorld (S-SAVE ∷ rest) image w) where
   code-first : code (begun w) ≡ S-SAVE ∷ rest
   unfolding code-of current last-two
-  code-first = rw (frames-are fresh-one) (code-is all fresh-one)
+  code-first = code-is all fresh-one
 
   place-first : place (begun w) ≡ 0
   unfolding current last-two
-  place-first = rw (frames-are fresh-one)
+  place-first = refl
 
   goes-in : at-end (begun w) ≡ false
   unfolding at-end
@@ -141,9 +129,9 @@ module _ {rest image : List ℕ} {w : World} (all : Bytes image) (fresh-one : Fr
   unfolding step execute
   step-first = rw (goes-in, op-first)
 
-  permitted : allowed (w .machine) (is-sound w) Start ≡ allowing true (fresh (w .machine))
+  permitted : allowed (w .machine) (is-sound w) Start ≡ allowing true (fresh (at-main (w .machine)))
   unfolding allowed may-start
-  permitted = rw (passes all fresh-one) (ap (λ (b : Bool). allowing b (fresh (w .machine))) (ap may-start (is-new fresh-one)))
+  permitted = rw (passes all fresh-one) (ap (λ (b : Bool). allowing b (fresh (at-main (w .machine)))) (ap may-start (fresh-new (S-SAVE ∷ rest) image w fresh-one)))
 
   start-first : (fuel : ℕ) → start (suc fuel) w ≡ reported-end (suc fuel) (follow (λ v. run fuel v) (begun w) (suc fuel) (s-save (begun w)))
   unfolding call call-with

@@ -7,7 +7,7 @@ use Rattle.machine.specs.declared.Machine.{Machine}
 use Rattle.machine.specs.declared.Phase.{Phase}
 use Rattle.machine.specs.declared.Phase.the-variants.{Done, Paused, Stopped}
 use Rattle.mechanism.specs.Registers.{settled}
-use Rattle.machine.specs.Machines.{rewound, placed}
+use Rattle.machine.specs.Machines.{rewound, placed, at-main}
 use Rattle.mechanism.specs.Registers.{registers-of}
 use Rattle.machine.specs.declared.Outcome.{Outcome}
 use Rattle.machine.specs.declared.Outcome.the-variants as outcome
@@ -18,13 +18,13 @@ use Rattle.machine.specs.Calls.{fresh, allowed, phased, ended, report, is-sound
 use Rattle.machine.specs.World.{with-machine}
 use Rattle.machine.specs.Reads.{host-saved, SavedTo, host-save-as, host-save, value-read, task-read}
 use Rattle.machine.specs.declared.Verb.{Verb}
-use Rattle.machine.specs.declared.Verb.the-variants.{Start, Continue}
+use Rattle.machine.specs.declared.Verb.the-variants.{Start, Rerun, Continue}
 use Rattle.machine.specs.declared.Permission.{Permission}
 use Rattle.machine.specs.History.{world-after, world-saved, HostCall, runs, saves as host-saves, reads-value, reads-task, left-by, history}
 use Rattle.laws.specs.Sound.{Passes, Sound}
 use Rattle.laws.proofs.Either.{either}
 use Rattle.laws.proofs.Parts.{Machined, Kept, passes-kept, sound-kept, kept-passes, kept-sound}
-use Rattle.laws.proofs.Frames.{placed-sound}
+use Rattle.laws.proofs.Frames.{main-alone-sound, placed-sound}
 use Rattle.laws.proofs.Saves.{Saves, saves, not-saves, save-keeps, image-sound}
 use Rattle.laws.proofs.Runs.{run-kept}
 
@@ -32,7 +32,7 @@ use Rattle.laws.proofs.Runs.{run-kept}
 abbrev with-save : World → List ℕ → World
 with-save w save = world (w .machine) (w .table) (w .stack) (w .memory) (w .pool) (w .ends) save
 
--- the machine that a start begins with
+-- the machine that a rerun begins with
 fresh-sound : {asked : Type 0} {memory pool save : ℕ} {stack ends : List ℕ} {machine : Machine} → Machined asked memory pool save stack ends machine → Machined asked memory pool save stack ends (fresh machine)
 fresh-sound m = record {
   values = record { high = omega arith; few = m .values .few; there = omega arith; stack-long = m .values .stack-long; inside = λ _ i less. absurd (omega arith) };
@@ -40,6 +40,18 @@ fresh-sound m = record {
   frames = m .frames;
   kept = m .kept;
 }
+
+-- the machine at main
+main-sound : {asked : Type 0} {memory pool save : ℕ} {stack ends : List ℕ} {machine : Machine} → Machined asked memory pool save stack ends machine → Machined asked memory pool save stack ends (at-main machine)
+main-sound {machine = machine} m = record {
+  values = record { high = m .values .high; few = omega arith; there = m .values .there; stack-long = m .values .stack-long; inside = m .values .inside };
+  entries = m .entries;
+  frames = main-alone-sound (machine .frames) (machine .entries) (m .frames);
+  kept = m .kept;
+}
+
+pub main-kept : {asked : Type 0} (w : World) → Kept asked w → Kept asked (with-machine w (at-main (w .machine)))
+main-kept w s = record { machine-kept = main-sound (s .machine-kept); table-kept = s .table-kept }
 
 -- another phase
 phased-sound : {asked : Type 0} {memory pool save : ℕ} {stack ends : List ℕ} {machine : Machine} (phase : Phase) → Machined asked memory pool save stack ends machine
@@ -57,6 +69,8 @@ ended-kept w (outcome.Refused refusal) s = record { machine-kept = phased-sound 
 pub allowed-kept : {asked : Type 0} (w : World) (test : Bool) (verb : Verb) → Kept asked w → Kept asked (with-machine w (allowed (w .machine) test verb .machine))
 unfolding allowed
 allowed-kept {asked} w test Start s =
+    either (λ (a : Permission). Kept asked (with-machine w (a .machine))) test _ _ (λ _. record { machine-kept = fresh-sound (main-sound (s .machine-kept)); table-kept = s .table-kept }) (λ _. s)
+allowed-kept {asked} w test Rerun s =
     either (λ (a : Permission). Kept asked (with-machine w (a .machine))) test _ _ (λ _. record { machine-kept = fresh-sound (s .machine-kept); table-kept = s .table-kept }) (λ _. s)
 allowed-kept {asked} w test Continue s = either (λ (a : Permission). Kept asked (with-machine w (a .machine))) test _ _ (λ _. s) (λ _. s)
 
@@ -107,7 +121,14 @@ ended-sound w outcome s = kept-sound (with-machine w (ended (w .machine) outcome
 pub allowed-sound : (w : World) (test : Bool) (verb : Verb) → Sound w → Sound (with-machine w (allowed (w .machine) test verb .machine))
 allowed-sound w test verb s = kept-sound (with-machine w (allowed (w .machine) test verb .machine)) (allowed-kept w test verb (sound-kept w s))
 
--- a start or a continue leaves a sound world sound
+-- the machine at main is sound, and passes the test of 26, where the machine is and does
+pub at-main-sound : (w : World) → Sound w → Sound (with-machine w (at-main (w .machine)))
+at-main-sound w s = kept-sound (with-machine w (at-main (w .machine))) (main-kept w (sound-kept w s))
+
+pub at-main-passes : (w : World) → Passes w → Passes (with-machine w (at-main (w .machine)))
+at-main-passes w p = kept-passes (with-machine w (at-main (w .machine))) (main-kept w (passes-kept w p))
+
+-- a start, a rerun or a continue leaves a sound world sound
 pub call-sound : (verb : Verb) (fuel : ℕ) (w : World) → Sound w → Sound (world-after (call verb fuel w))
 call-sound verb fuel w s = kept-sound (world-after (call verb fuel w)) (call-kept verb fuel w (sound-kept w s))
 

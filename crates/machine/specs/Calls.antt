@@ -1,4 +1,4 @@
--- Start and continue: what each is allowed on, what it begins with, and what it reports of the run.
+-- Start, rerun and continue: what each is allowed on, what it begins with, and what it reports of the run.
 use Prim.Native.Nat.{ℕ, _-_}
 use mathlib.Core.Bool.{Bool, true, false, cond}
 use mathlib.Core.List.{List}
@@ -7,7 +7,7 @@ use Rattle.storage.specs.declared.Task.{Task}
 use Rattle.machine.specs.declared.Machine.{Machine}
 use Rattle.machine.specs.declared.Phase.{Phase}
 use Rattle.machine.specs.declared.Phase.the-variants.{New, Paused, Done, Stopped}
-use Rattle.machine.specs.Machines.{rewound}
+use Rattle.machine.specs.Machines.{rewound, at-main}
 use Rattle.machine.specs.declared.RunEnd.{RunEnd}
 use Rattle.machine.specs.declared.Outcome.{Outcome}
 use Rattle.machine.specs.declared.Outcome.the-variants as outcome
@@ -15,11 +15,11 @@ use Rattle.machine.specs.World.{World, with-machine}
 use Rattle.machine.specs.Run.{End, run}
 use Rattle.machine.specs.Sound.{sound-world}
 use Rattle.machine.specs.declared.Verb.{Verb}
-use Rattle.machine.specs.declared.Verb.the-variants.{Start, Continue}
+use Rattle.machine.specs.declared.Verb.the-variants.{Start, Rerun, Continue}
 use Rattle.machine.specs.declared.Report.{Report}
 use Rattle.machine.specs.declared.Permission.{Permission}
 
--- start is for a machine that is new or done
+-- start and rerun are for a machine that is new or done
 unfoldable pub may-start : Phase → Bool
 may-start New = true
 may-start Paused = false
@@ -33,7 +33,7 @@ may-continue Paused = true
 may-continue Done = false
 may-continue Stopped = false
 
--- start sets memory in use to 0 and the result empty; loops and frames carry over
+-- start and rerun set memory in use to 0 and the result empty
 abbrev pub fresh : Machine → Machine
 fresh machine = record {
   phase = machine .phase;
@@ -52,9 +52,10 @@ fresh machine = record {
 abbrev pub allowing : Bool → Machine → Permission
 allowing allowed machine = record { allowed = allowed; machine = machine }
 
--- by its verb and the phase
+-- by its verb and the phase: start begins at main, with no loop open; rerun with frames and loops as the run before left them
 abbrev pub beginning : Verb → Machine → Permission
-beginning Start machine = allowing (may-start (machine .phase)) (fresh machine)
+beginning Start machine = allowing (may-start (machine .phase)) (fresh (at-main machine))
+beginning Rerun machine = allowing (may-start (machine .phase)) (fresh machine)
 beginning Continue machine = allowing (may-continue (machine .phase)) machine
 
 -- where the record is sound
@@ -126,9 +127,12 @@ call-with fuel w a = cond (a .allowed) (reported-end fuel (run fuel (with-machin
 unfoldable pub call : Verb → ℕ → World → Reported
 call verb fuel w = call-with fuel w (allowed (w .machine) (is-sound w) verb)
 
--- start and continue
+-- start, rerun and continue
 abbrev pub start : ℕ → World → Reported
 start fuel w = call Start fuel w
+
+abbrev pub rerun : ℕ → World → Reported
+rerun fuel w = call Rerun fuel w
 
 abbrev pub go-on : ℕ → World → Reported
 go-on fuel w = call Continue fuel w

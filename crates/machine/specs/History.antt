@@ -1,4 +1,4 @@
--- What a host does with a machine: it is created, then started, continued, saved and read, in any order and as often as the host likes.
+-- What a host does with a machine: it is created, then started, rerun, continued, saved and read, in any order and as often as the host likes.
 use Prim.Native.Nat.{ℕ}
 use mathlib.Core.List.{List, [], _∷_}
 use mathlib.Core.Path.{_≡_}
@@ -15,7 +15,7 @@ use Rattle.machine.specs.Creation.{Made, create}
 
 -- ---- what a call leaves
 
--- a start or a continue
+-- a start, a rerun or a continue
 abbrev pub world-after : Reported → World
 world-after r = world (r .report .machine) (r .table) (r .stack) (r .memory) (r .pool) (r .ends) (r .save)
 
@@ -35,7 +35,7 @@ pub data FreshWorld (program image : List ℕ) : World → Type 0 where
       → create table pool ends image program .answer ≡ Created machine
       → FreshWorld program image (new-world machine (create table pool ends image program) stack memory save)
 
--- a call of the host: a start or a continue with its fuel, a save, the read of a value by its position, the read of a task by its id
+-- a call of the host: a start, a rerun or a continue with its fuel, a save, the read of a value by its position, the read of a task by its id
 pub data HostCall : Type 0 where
   runs : Verb → ℕ → HostCall
   saves : HostCall

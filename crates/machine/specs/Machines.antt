@@ -1,8 +1,9 @@
--- The machine's record: the frame that runs, its code, its place, and the record with a part of it changed.
+-- The machine's record: the frame that runs, its code, its place, where main begins, and the record with a part of it changed.
 use Prim.Native.Nat.{ℕ}
 use mathlib.Core.List.{List}
 use lib.ListN.{getD}
 use Rattle.inlinevec.specs.Stacks.{of-frames, to-frames, last-two, change-two}
+use Rattle.inlinevec.specs.declared.Loop.{Loop}
 use Rattle.inlinevec.specs.declared.Loops.{Loops}
 use Rattle.inlinevec.specs.declared.Frame.{Frame}
 use Rattle.inlinevec.specs.declared.Frames.{Frames}
@@ -24,6 +25,22 @@ code-of pool ends machine = entry-of pool ends (current (machine .frames) .entry
 -- the opcode at its place; 0 at or past its end
 unfoldable pub op-at : List ℕ → List ℕ → Machine → ℕ
 op-at pool ends machine = getD (code-of pool ends machine) (current (machine .frames) .place) 0
+
+-- ---- where main begins
+
+-- no loop is open
+abbrev pub no-loop : Loop
+no-loop = record { place = 0; index = 0; limit = 0 }
+
+abbrev pub no-loops : Loops
+no-loops = record { count = 0; outer = no-loop; inner = no-loop }
+
+-- one frame: main, which is entry 0, at its start
+abbrev pub main-frame : Frame
+main-frame = record { entry = record { 0 = 0 }; place = 0 }
+
+abbrev pub main-alone : Frames
+main-alone = record { count = 1; main = main-frame; task = main-frame }
 
 -- ---- the machine with a part of it changed
 
@@ -130,3 +147,7 @@ with-saved machine saved = record {
   count = machine .count;
   saved = saved;
 }
+
+-- at main, place 0, with an empty control stack
+abbrev pub at-main : Machine → Machine
+at-main machine = with-frames (with-loops machine no-loops) main-alone

@@ -50,13 +50,14 @@ pub enum CreateResult {
     NotCreated(Refusal),
 }
 
-// What a host asks of a run: to start, or to continue where it paused.
+// What a host asks of a run: to start at main, to rerun from where the run before ended, or to continue where it paused.
 pub enum Verb {
     Start,
+    Rerun,
     Continue,
 }
 
-// What start and continue answer: the machine, the instructions that were finished, and how the run ended.
+// What start, rerun and continue answer: the machine, the instructions that were finished, and how the run ended.
 pub struct Report {
     pub machine: Machine,
     pub finished: u64,

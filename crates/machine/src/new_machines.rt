@@ -1,5 +1,6 @@
-// Machines that have not run, written out once for all who need one.
+// Machines at the start of their program: where main begins is written out once, for creation and for start.
 ghost use mathlib.Core.Path.{_≡_};
+ghost use Rattle.machine.specs.Machines.{no-loops, main-alone, at-main};
 ghost use Rattle.machine.specs.Calls.{phased};
 ghost use Rattle.machine.specs.Creation.{new-machine, machine-of};
 use crate::CreateResult;
@@ -12,34 +13,46 @@ use inlinevec::Loops;
 use pools::InstructionsRef;
 use storage::TaskId;
 
-// A machine at its program's start, in a phase, with so many bytes and entries in its pool.
-fn at_its_start(phase: Phase, bytes: usize, entries: usize, next_id: TaskId, count: u32) -> Machine
-    ensures { λ r. ⌜ r ≡ phased (new-machine bytes entries («next_id» .0) count) phase ⌝ }
+// No loop is open.
+fn no_loops() -> Loops
+    ensures { λ r. ⌜ r ≡ no-loops ⌝ }
 {
     let none = Loop {
         place: 0,
         index: 0,
         limit: 0,
     };
+    Loops {
+        count: 0,
+        outer: none,
+        inner: none,
+    }
+}
+
+// One frame: main, which is entry 0, at its start.
+fn main_alone() -> Frames
+    ensures { λ r. ⌜ r ≡ main-alone ⌝ }
+{
     let main = Frame {
         entry: InstructionsRef(0),
         place: 0,
     };
-    let loops = Loops {
-        count: 0,
-        outer: none,
-        inner: none,
-    };
-    let frames = Frames {
+    Frames {
         count: 1,
         main,
         task: main,
-    };
+    }
+}
+
+// A machine at its program's start, in a phase, with so many bytes and entries in its pool.
+fn at_its_start(phase: Phase, bytes: usize, entries: usize, next_id: TaskId, count: u32) -> Machine
+    ensures { λ r. ⌜ r ≡ phased (new-machine bytes entries («next_id» .0) count) phase ⌝ }
+{
     Machine {
         phase,
         height: 0,
-        loops,
-        frames,
+        loops: no_loops(),
+        frames: main_alone(),
         memory: 0,
         pool: bytes,
         entries,
@@ -64,4 +77,14 @@ pub fn machine_of(creation: CreateResult) -> Machine
         CreateResult::Created(machine) => machine,
         CreateResult::NotCreated(_) => at_its_start(Phase::Stopped, 0, 0, TaskId(0), 0),
     }
+}
+
+// A machine at main, place 0, with an empty control stack.
+pub fn at_main(machine: Machine) -> Machine
+    ensures { λ r. ⌜ r ≡ at-main machine ⌝ }
+{
+    let mut started = machine;
+    started.loops = no_loops();
+    started.frames = main_alone();
+    started
 }

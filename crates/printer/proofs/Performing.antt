@@ -5,7 +5,7 @@ use mathlib.Core.List.{List}
 use mathlib.Core.Path.{_≡_, refl, sym, ap, _∙_}
 use native.Mathlib.Numerals.{add-one}
 use native.Mathlib.Omega.{arith}
-use lib.Dec.{ltb}
+use lib.Dec.{eqb}
 use lib.ListN.{replicate}
 use Rattle.storage.specs.declared.Task.{Task}
 use Rattle.storage.specs.Tasks.{blank, After, after}
@@ -24,8 +24,8 @@ use Rattle.printer.specs.Shows.{CallOn, acted, as-run, as-save, performe
 
 -- ---- one call
 
--- a start or a continue
-pub performs-run : (verb fuel : ℕ) (w : World) {asked : Verb} {report : Report} {t : List Task} {s m p e v : List ℕ} {r : CallOutcome} → ltb verb 2 ≡ true → asked ≡ verb-of verb
+-- a run
+pub performs-run : (verb fuel : ℕ) (w : World) {asked : Verb} {report : Report} {t : List Task} {s m p e v : List ℕ} {r : CallOutcome} → eqb verb 2 ≡ false → asked ≡ verb-of verb
     → reported report t s m p e v ≡ call asked fuel w → r ≡ ran report → acted r t s m p e v ≡ performed verb fuel w
 unfolding performed
 performs-run verb fuel w {asked} {report} {t} {s} {m} {p} {e} {v} {r} runs asks calls answers =
@@ -35,7 +35,7 @@ performs-run verb fuel w {asked} {report} {t} {s} {m} {p} {e} {v} {r} runs asks 
     ∙ sym (simp (runs))
 
 -- a save
-pub performs-save : (verb fuel : ℕ) (w : World) {report : SaveReport} {t : List Task} {s m p e v : List ℕ} {r : CallOutcome} → ltb verb 2 ≡ false
+pub performs-save : (verb fuel : ℕ) (w : World) {report : SaveReport} {t : List Task} {s m p e v : List ℕ} {r : CallOutcome} → eqb verb 2 ≡ true
     → saved-to report t s m p e v ≡ host-save w → r ≡ saved report → acted r t s m p e v ≡ performed verb fuel w
 unfolding performed
 performs-save verb fuel w {report} {t} {s} {m} {p} {e} {v} {r} saves keeps answers =

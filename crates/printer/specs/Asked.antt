@@ -17,7 +17,7 @@ use Rattle.machine.specs.declared.CreateResult.the-variants.{Created, NotCreate
 use Rattle.machine.specs.declared.Report.{Report}
 use Rattle.machine.specs.declared.SaveReport.{SaveReport}
 use Rattle.machine.specs.declared.Verb.{Verb}
-use Rattle.machine.specs.declared.Verb.the-variants.{Start, Continue}
+use Rattle.machine.specs.declared.Verb.the-variants.{Start, Rerun, Continue}
 use Rattle.printer.specs.declared.CallOutcome.{CallOutcome}
 
 -- ---- calls as bytes
@@ -26,7 +26,7 @@ use Rattle.printer.specs.declared.CallOutcome.{CallOutcome}
 unfoldable pub call-at : List ℕ → ℕ → ℕ → List ℕ
 call-at calls from number = cond (leb (length (drop from calls) / 9) number) [] (take 9 (drop (number * 9) (drop from calls)))
 
--- its verb, in its first byte: 0 to start, 1 to continue, any other to save; a save past the last one
+-- its verb, in its first byte; a save past the last one
 unfoldable pub verb-at : List ℕ → ℕ → ℕ → ℕ
 verb-at calls from number = getD (call-at calls from number) 0 2
 
@@ -34,9 +34,9 @@ verb-at calls from number = getD (call-at calls from number) 0 2
 unfoldable pub fuel-at : List ℕ → ℕ → ℕ → ℕ
 fuel-at calls from number = number-at 8 (call-at calls from number) 1
 
--- what it asks of a run
+-- what it asks of a run: 0 to start, 3 to rerun, any other to continue
 unfoldable pub verb-of : ℕ → Verb
-verb-of number = cond (eqb number 0) Start Continue
+verb-of number = cond (eqb number 0) Start (cond (eqb number 3) Rerun Continue)
 
 -- ---- what came of a call
 

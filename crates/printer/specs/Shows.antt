@@ -2,7 +2,7 @@
 use Prim.Native.Nat.{ℕ, zero, suc}
 use mathlib.Core.Bool.{cond}
 use mathlib.Core.List.{List}
-use lib.Dec.{ltb}
+use lib.Dec.{eqb}
 use Rattle.storage.specs.declared.Task.{Task}
 use Rattle.machine.specs.World.{World, world}
 use Rattle.machine.specs.Calls.{Reported, call}
@@ -33,9 +33,9 @@ as-run r = acted (ran (r .report)) (r .table) (r .stack) (r .memory) (r .pool) (
 abbrev pub as-save : SavedTo → CallOn
 as-save s = acted (saved (s .report)) (s .table) (s .stack) (s .memory) (s .pool) (s .ends) (s .save)
 
--- a call by its verb: 0 starts, 1 continues, any other saves
+-- a call by its verb: 2 saves, any other is a run
 unfoldable pub performed : ℕ → ℕ → World → CallOn
-performed verb fuel w = cond (ltb verb 2) (as-run (call (verb-of verb) fuel w)) (as-save (host-save w))
+performed verb fuel w = cond (eqb verb 2) (as-save (host-save w)) (as-run (call (verb-of verb) fuel w))
 
 -- the machine after it, with everything lent to it
 abbrev pub left : CallOn → World

@@ -1,4 +1,4 @@
-// What a host asks of a machine as nine bytes: a verb, 0 to start, 1 to continue, 2 to save, and its fuel, little-endian; and what came of it.
+// What a host asks of a machine as nine bytes: a verb, 0 to start, 1 to continue, 2 to save, 3 to rerun, and its fuel, little-endian; and what came of it.
 ghost use mathlib.Core.Path.{_≡_};
 ghost use Prim.Native.Nat.{_<_};
 ghost use lib.ListN.{getD};
@@ -73,12 +73,15 @@ pub(crate) fn fuel_at(calls: &mut [u8], from: usize, number: usize) -> u64
     half(call, 1) + half(call, 5) * 4294967296
 }
 
-// What a call asks of a run: 0 to start, any other to continue.
+// What a call asks of a run: 0 to start, 3 to rerun, any other to continue.
 pub(crate) fn verb_of(number: u8) -> Verb
     ensures { λ r. ⌜ r ≡ verb-of number ⌝ }
 {
     if number == 0 {
         return Verb::Start;
+    }
+    if number == 3 {
+        return Verb::Rerun;
     }
     Verb::Continue
 }

@@ -14,10 +14,13 @@ fn call_of(verb: u8, fuel: u64) -> Report {
     if verb == 0 {
         return Report::Start(fuel);
     }
-    if verb == 1 {
-        return Report::Continue(fuel);
+    if verb == 2 {
+        return Report::Save;
     }
-    Report::Save
+    if verb == 3 {
+        return Report::Rerun(fuel);
+    }
+    Report::Continue(fuel)
 }
 
 // Where everything is shown: the call.

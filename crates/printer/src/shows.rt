@@ -45,7 +45,7 @@ fn show_listing(
     }
 }
 
-// One call, by its verb: 0 starts, 1 continues, any other saves.
+// One call, by its verb: 2 saves, any other is a run.
 fn act(
     table: &mut [Task],
     stack: &mut [u64; 1000],
@@ -59,7 +59,7 @@ fn act(
 ) -> CallOutcome
     ensures { λ r. ⌜ acted r (now (table .exit)) (now (stack .exit)) (now (memory .exit)) (now (pool .exit)) (now (ends .exit)) (now (save .exit)) ≡ performed verb fuel (world machine (now (table .entry)) (now (stack .entry)) (now (memory .entry)) (now (pool .entry)) (now (ends .entry)) (now (save .entry))) ⌝ }
 {
-    if verb < 2 {
+    if verb != 2 {
         let asked = verb_of(verb);
         let report = runner::calling::call(
             table,

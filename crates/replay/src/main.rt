@@ -103,7 +103,7 @@ fn broken(at: usize) -> Case {
 // Where the form of a call is broken: at its verb, or behind it.
 fn broken_call(batch: &[u8], at: usize) -> usize {
     let call = slices::part(batch, at, 9);
-    if 2 < byte_at(call, 0) {
+    if 3 < byte_at(call, 0) {
         return at;
     }
     if call.len() == 0 {
@@ -118,7 +118,7 @@ fn is_call(batch: &[u8], at: usize) -> bool {
     if call.len() < 9 {
         return false;
     }
-    byte_at(call, 0) < 3
+    byte_at(call, 0) < 4
 }
 
 // A case with its head, up to the first of its calls that is not whole.

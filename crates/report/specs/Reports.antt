@@ -12,6 +12,7 @@ use Rattle.report.specs.declared.Word.the-variants as word
 unfoldable pub line-of-report : Report → List ℕ
 line-of-report (report.Case index) = said (ascii "case #") (index ∷ [])
 line-of-report (report.Start fuel) = said (ascii "start #") (fuel ∷ [])
+line-of-report (report.Rerun fuel) = said (ascii "rerun #") (fuel ∷ [])
 line-of-report (report.Continue fuel) = said (ascii "continue #") (fuel ∷ [])
 line-of-report report.Save = said (ascii "save") []
 line-of-report (report.After machine) =

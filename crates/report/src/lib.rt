@@ -15,6 +15,7 @@ use text::lines::put_line;
 pub enum Report {
     Case(usize),
     Start(u64),
+    Rerun(u64),
     Continue(u64),
     Save,
     After(Machine),
@@ -64,6 +65,7 @@ pub fn report_line(out: &mut [u8], report: Report) -> LineResult
     match report {
         Report::Case(index) => say(out, b"case #", &[index as u64]),
         Report::Start(fuel) => say(out, b"start #", &[fuel]),
+        Report::Rerun(fuel) => say(out, b"rerun #", &[fuel]),
         Report::Continue(fuel) => say(out, b"continue #", &[fuel]),
         Report::Save => say(out, b"save", &[0u64; 0]),
         Report::After(machine) => machine_line(out, machine),

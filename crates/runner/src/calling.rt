@@ -1,4 +1,4 @@
-// Start and continue: what they begin with, the run, and what they make of its end.
+// Start, rerun and continue: what they begin with, the run, and what they make of its end.
 ghost use mathlib.Core.Path.{_≡_};
 ghost use Rattle.machine.specs.Machines.{rewound};
 ghost use Rattle.machine.specs.Calls.{may-start, may-continue, fresh, beginning, allowed, phased, ended, spent, report, not-allowed, reported, call};
@@ -12,13 +12,14 @@ use machine::Phase;
 use machine::Report;
 use machine::RunEnd;
 use machine::Verb;
+use machine::new_machines::at_main;
 use mechanism::machines::registers_of;
 use mechanism::machines::settled;
 use mechanism::stack::moved;
 use storage::Task;
 use vm::sound::sound;
 
-// Whether a run may start: on a new machine, or after one that is done.
+// Whether a run may start, from main or again: on a new machine, or after one that is done.
 fn may_start(phase: Phase) -> bool
     ensures { λ r. ⌜ r ≡ may-start phase ⌝ }
 {
@@ -42,7 +43,7 @@ fn may_continue(phase: Phase) -> bool
     }
 }
 
-// A start: no memory in use, no values; loops and frames as they are.
+// A start or a rerun: no memory in use, no values.
 fn fresh(machine: Machine) -> Machine
     ensures { λ r. ⌜ r ≡ fresh machine ⌝ }
 {
@@ -59,6 +60,10 @@ fn beginning(machine: Machine, verb: Verb) -> Permission
     let phase = machine.phase;
     match verb {
         Verb::Start => Permission {
+            allowed: may_start(phase),
+            machine: fresh(at_main(machine)),
+        },
+        Verb::Rerun => Permission {
             allowed: may_start(phase),
             machine: fresh(machine),
         },
@@ -155,7 +160,7 @@ fn not_allowed(machine: Machine) -> Report
     }
 }
 
-// A run that starts, or goes on where it paused, if that is allowed.
+// A run that starts at main, starts again from where the last one ended, or goes on where it paused, if that is allowed.
 pub fn call(
     table: &mut [Task],
     stack: &mut [u64; 1000],

@@ -9,10 +9,11 @@ use lib.ListN.{length}
 use borrow.Author.Tests.{leb-true, leb-false, lt-leb, ne-eqb}
 use Rattle.errors.specs.declared.Refusal.{Refusal}
 use Rattle.errors.specs.Refusals.{number-of}
+use Rattle.inlinevec.specs.Stacks.{last-two}
 use Rattle.inlinevec.specs.declared.Frame.{Frame}
 use Rattle.inlinevec.specs.declared.Loops.{Loops}
 use Rattle.machine.specs.declared.Machine.{Machine}
-use Rattle.machine.specs.Machines.{current}
+use Rattle.machine.specs.Machines.{current, at-main}
 use Rattle.mechanism.specs.Registers.{registers-of, settled}
 use Rattle.machine.specs.Machines.{rewound, placed}
 use Rattle.machine.specs.declared.Outcome.the-variants.{Done, Paused, Refused}
@@ -26,7 +27,7 @@ use Rattle.machine.specs.Calls.{may-start, may-continue, fresh, allowing, allow
 use Rattle.machine.specs.World.{with-machine}
 use Rattle.machine.specs.Calls as calls
 use Rattle.machine.specs.declared.Verb.{Verb}
-use Rattle.machine.specs.declared.Verb.the-variants.{Start, Continue}
+use Rattle.machine.specs.declared.Verb.the-variants.{Start, Rerun, Continue}
 use Rattle.machine.specs.Reads.{host-saved, SavedTo, saved-to, host-save, value-read, task-read}
 use Rattle.labels.specs.declared.Kind.{Kind}
 use Rattle.labels.specs.Labels.{Label, zeroth, Labelled}
@@ -71,7 +72,7 @@ module _ (program : List ℕ) (kinds : List Kind) (labelled : Labelled program k
     rests : may-continue (w .machine .phase) ≡ false → Rests w → Ready w
     on-its-way : may-start (w .machine .phase) ≡ false → Stands program labels w → Ready w
 
-  -- a start from rest
+  -- a rerun from rest
   closed-looping : (loops : Loops) → loops .count ≡ 0 → Looping program labels loops []
   closed-looping loops e = subst (λ (n : ℕ). Looping program labels (record { count = n; outer = loops .outer; inner = loops .inner }) []) (sym e) none-open
 
@@ -82,6 +83,19 @@ module _ (program : List ℕ) (kinds : List Kind) (labelled : Labelled program k
     holds = subst (λ (i : ℕ). Holds program labels i 0 (w .machine .loops) (w .stack)) (sym (r .at-zero))
         (starts (record { start = zeroth; label-is = labelled .labelling .zeroth-empty; few-kinds = omega arith; few-loops = omega arith }) nil (closed-looping (w .machine .loops) (r .closed)));
   }
+
+  -- a start from rest, at main: all that it takes from the run before is the program, as the pool's first entry
+  at-main-rests : (w : World) → Rests w → Rests (with-machine w (at-main (w .machine)))
+  unfolding current last-two
+  at-main-rests w r = record {
+    lent = r .lent;
+    main = record { one-frame = refl; in-main = refl; ends-lent = r .main .ends-lent; pooled = r .main .pooled; some-entries = r .main .some-entries; program = r .main .program };
+    at-zero = refl;
+    closed = refl;
+  }
+
+  starts-at-main : (w : World) → Rests w → Stands program labels (with-machine w (fresh (at-main (w .machine))))
+  starts-at-main w r = starts-over (with-machine w (at-main (w .machine))) (at-main-rests w r)
 
   -- ---- what a call reports
 
@@ -149,12 +163,14 @@ module _ (program : List ℕ) (kinds : List Kind) (labelled : Labelled program k
   call-by : (fuel : ℕ) (w : World) (sound : Bool) (verb : Verb) → Ready w → Keeps (call-with fuel w (allowed (w .machine) sound verb))
   unfolding allowed
   call-by fuel w false verb ready = call-allowed fuel w false (w .machine) ready (λ t. absurd (false≢true t))
-  call-by fuel w true Start (rests c r) = call-allowed fuel w (may-start (w .machine .phase)) (fresh (w .machine)) (rests c r) (λ t. starts-over w r)
-  call-by fuel w true Start (on-its-way s stands) = call-allowed fuel w (may-start (w .machine .phase)) (fresh (w .machine)) (on-its-way s stands) (λ t. absurd (false≢true (sym s ∙ t)))
+  call-by fuel w true Start (rests c r) = call-allowed fuel w (may-start (w .machine .phase)) (fresh (at-main (w .machine))) (rests c r) (λ t. starts-at-main w r)
+  call-by fuel w true Start (on-its-way s stands) = call-allowed fuel w (may-start (w .machine .phase)) (fresh (at-main (w .machine))) (on-its-way s stands) (λ t. absurd (false≢true (sym s ∙ t)))
+  call-by fuel w true Rerun (rests c r) = call-allowed fuel w (may-start (w .machine .phase)) (fresh (w .machine)) (rests c r) (λ t. starts-over w r)
+  call-by fuel w true Rerun (on-its-way s stands) = call-allowed fuel w (may-start (w .machine .phase)) (fresh (w .machine)) (on-its-way s stands) (λ t. absurd (false≢true (sym s ∙ t)))
   call-by fuel w true Continue (rests c r) = call-allowed fuel w (may-continue (w .machine .phase)) (w .machine) (rests c r) (λ t. absurd (false≢true (sym c ∙ t)))
   call-by fuel w true Continue (on-its-way s stands) = call-allowed fuel w (may-continue (w .machine .phase)) (w .machine) (on-its-way s stands) (λ t. stands)
 
-  -- start or continue, allowed or not
+  -- start, rerun or continue, allowed or not
   pub call-keeps : (w : World) (verb : Verb) (fuel : ℕ) → Ready w → Keeps (call verb fuel w)
   unfolding call
   call-keeps w verb fuel ready = call-by fuel w (is-sound w) verb ready
@@ -177,8 +193,10 @@ module _ (program : List ℕ) (kinds : List Kind) (labelled : Labelled program k
       → call-with fuel w (allowed (w .machine) sound verb) .report .outcome ≡ Refused refusal → May refusal
   unfolding allowed
   only-by fuel w false verb refusal s t ready q = absurd (false≢true s)
-  only-by fuel w true Start refusal s t (rests c r) q = only-allowed fuel w (may-start (w .machine .phase)) (fresh (w .machine)) refusal t (starts-over w r) q
+  only-by fuel w true Start refusal s t (rests c r) q = only-allowed fuel w (may-start (w .machine .phase)) (fresh (at-main (w .machine))) refusal t (starts-at-main w r) q
   only-by fuel w true Start refusal s t (on-its-way f stands) q = absurd (false≢true (sym f ∙ t))
+  only-by fuel w true Rerun refusal s t (rests c r) q = only-allowed fuel w (may-start (w .machine .phase)) (fresh (w .machine)) refusal t (starts-over w r) q
+  only-by fuel w true Rerun refusal s t (on-its-way f stands) q = absurd (false≢true (sym f ∙ t))
   only-by fuel w true Continue refusal s t (rests c r) q = absurd (false≢true (sym c ∙ t))
   only-by fuel w true Continue refusal s t (on-its-way f stands) q = only-allowed fuel w (may-continue (w .machine .phase)) (w .machine) refusal t stands q
 

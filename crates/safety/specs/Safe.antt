@@ -10,7 +10,7 @@ use Rattle.machine.specs.declared.Phase.{Phase}
 use Rattle.machine.specs.declared.Outcome.the-variants.{Done, Refused}
 use Rattle.machine.specs.Calls.{may-start, may-continue, Reported}
 use Rattle.machine.specs.declared.Verb.{Verb}
-use Rattle.machine.specs.declared.Verb.the-variants.{Start, Continue}
+use Rattle.machine.specs.declared.Verb.the-variants.{Start, Rerun, Continue}
 use Rattle.machine.specs.History.{world-after}
 use Rattle.labels.specs.declared.Kind.{Kind}
 use Rattle.safety.specs.Kinds.{Listed}
@@ -23,9 +23,10 @@ ruled-out number = eqb number 2 || eqb number 3 || eqb number 4 || eqb number 5 
 abbrev pub may-come : ℕ → Bool
 may-come number = (leb 7 number && leb number 9) || ((leb 11 number && leb number 15) || (leb 20 number && leb number 24))
 
--- whether a phase allows a start, or a continue
+-- whether a phase allows a start, a rerun, or a continue
 abbrev pub allows : Verb → Phase → Bool
 allows Start phase = may-start phase
+allows Rerun phase = may-start phase
 allows Continue phase = may-continue phase
 
 -- a call is never refused for what admission rules out, and if it ends done, its values have the listed kinds, bottom first, and there are no more
