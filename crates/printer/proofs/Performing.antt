@@ -1,6 +1,6 @@
 -- One call after the other: what each answered, put together.
 use Prim.Native.Nat.{ℕ, suc, _+_, _≤_}
-use mathlib.Core.Bool.{true, false}
+use mathlib.Core.Bool.{Bool, true, false, not, true≢false}
 use mathlib.Core.List.{List}
 use mathlib.Core.Path.{_≡_, refl, sym, ap, _∙_}
 use native.Mathlib.Numerals.{add-one}
@@ -33,6 +33,11 @@ performs-run verb fuel w {asked} {report} {t} {s} {m} {p} {e} {v} {r} runs asks 
     ∙ ap (λ (x : Reported). as-run x) calls
     ∙ ap (λ (a : Verb). as-run (call a fuel w)) asks
     ∙ sym (simp (runs))
+
+-- a verb that is not other than 2
+pub is-two : (b : Bool) → not b ≡ false → b ≡ true
+is-two true e = refl
+is-two false e = absurd (true≢false e)
 
 -- a save
 pub performs-save : (verb fuel : ℕ) (w : World) {report : SaveReport} {t : List Task} {s m p e v : List ℕ} {r : CallOutcome} → eqb verb 2 ≡ true
