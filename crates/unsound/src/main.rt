@@ -1,4 +1,4 @@
-// Starts machines whose record, table or pool was forged, one to each condition of refusal 26, and prints what each start answers; the first is honest.
+// Starts and reruns machines whose record, table or pool was forged, one to each condition of refusal 26, and prints what each answers; the first is honest.
 use inlinevec::Frame;
 use libc::STDOUT_FILENO;
 use machine::Machine;
@@ -59,6 +59,24 @@ fn one_task() -> [u8; 30] {
         65u8,
         98u8,
     ]
+}
+
+// Each forgery is tried twice, one after the other: by a start, and by a rerun.
+fn forgery_of(attempt: usize) -> usize {
+    attempt / 2
+}
+
+// Whether an attempt is a start.
+fn is_start(attempt: usize) -> bool {
+    attempt % 2 == 0
+}
+
+// The call of an attempt.
+fn verb_of(attempt: usize) -> Verb {
+    if is_start(attempt) {
+        return Verb::Start;
+    }
+    Verb::Rerun
 }
 
 // Lengths above their capacity or their buffer: values, loops, memory, the pool, its entries, the saved image.
@@ -131,8 +149,9 @@ fn forged_frames(honest: Machine, number: usize) -> Machine {
     machine
 }
 
-// The record of a number.
-fn forged_machine(honest: Machine, number: usize) -> Machine {
+// The record of an attempt.
+fn forged_machine(honest: Machine, attempt: usize) -> Machine {
+    let number = forgery_of(attempt);
     forged_frames(
         forged_counts(forged_lengths(honest, number), number),
         number,
@@ -140,15 +159,16 @@ fn forged_machine(honest: Machine, number: usize) -> Machine {
 }
 
 // The slot that is forged: one past the count, for a living task that no count allows.
-fn forged_slot(number: usize) -> usize {
-    if number == 17 {
+fn forged_slot(attempt: usize) -> usize {
+    if forgery_of(attempt) == 17 {
         return 1;
     }
     0
 }
 
 // A living slot whose id is not its place, is not below the count, or whose title or state breaks its limits.
-fn forged_task(held: Task, number: usize) -> Task {
+fn forged_task(held: Task, attempt: usize) -> Task {
+    let number = forgery_of(attempt);
     let mut task = held;
     let second = TaskId(1);
     if number == 16 {
@@ -169,14 +189,14 @@ fn forged_task(held: Task, number: usize) -> Task {
 }
 
 // An end that falls.
-fn forge_end(ends: &mut [u32; 1024], number: usize) {
-    if number == 15 {
+fn forge_end(ends: &mut [u32; 1024], attempt: usize) {
+    if forgery_of(attempt) == 15 {
         ends[0] = 2;
     }
 }
 
-// The fuel that a start is given.
-fn fuel_of_a_start() -> u64 {
+// The fuel that a call is given.
+fn fuel_of_a_call() -> u64 {
     9
 }
 
@@ -189,11 +209,21 @@ fn say_number(number: u64) {
     io::print_decimal(STDOUT_FILENO, number);
 }
 
-// What a start answers.
-fn show(number: usize, report: Report) {
+// The name of a call.
+fn say_verb(attempt: usize) {
+    if is_start(attempt) {
+        say(b", start");
+        return;
+    }
+    say(b", rerun");
+}
+
+// What a call answers.
+fn show(attempt: usize, report: Report) {
     let outcome = report.outcome;
     say(b"forged");
-    say_number(number as u64);
+    say_number(forgery_of(attempt) as u64);
+    say_verb(attempt);
     match outcome {
         Outcome::Done => {
             say(b": done");
@@ -211,7 +241,7 @@ fn show(number: usize, report: Report) {
     say(b"\n");
 }
 
-// Creates a machine over one task, forges it, and starts it.
+// Creates a machine over one task, forges it, and starts or reruns it.
 fn attempt(
     table: &mut [Task],
     stack: &mut [u64; 1000],
@@ -231,7 +261,7 @@ fn attempt(
     let task = forged_task(held, number);
     table::put(table, slot, task);
     forge_end(ends, number);
-    let fuel = fuel_of_a_start();
+    let fuel = fuel_of_a_call();
     let report = runner::calling::call(
         table,
         stack,
@@ -240,7 +270,7 @@ fn attempt(
         ends,
         save,
         forged,
-        Verb::Start,
+        verb_of(number),
         fuel,
     );
     show(number, report);
@@ -295,7 +325,7 @@ fn forge(number: usize) {
 
 fn main() {
     let mut number = 0;
-    while number < 20 {
+    while number < 40 {
         forge(number);
         number = number + 1;
     }

@@ -49,11 +49,10 @@ use Rattle.storage.proofs.Task.Laws as task-laws
 use Rattle.storage.proofs.Records.{R, table-ty, val, makes, typed}
 use Rattle.machine.proofs.Machine as machine
 use Rattle.mechanism.proofs.Values.{machine-shut, machine-vals}
-use Rattle.machine.specs.declared.Verb.the-variants.{Start}
 use Rattle.machine.proofs.Verb as verb
 use Rattle.machine.proofs.Report as report
 use Rattle.machine.proofs.CreateResult as created
-use Rattle.mechanism.proofs.VmValues.{verb-shut, start-val, start-typed, report-shut, report-vals, created-shut, created-vals, start-is}
+use Rattle.mechanism.proofs.VmValues.{verb-shut, verb-vals, report-shut, report-vals, created-shut, created-vals}
 use Rattle.unsound.proofs.Silent.{silent}
 use Rattle.vm.proofs.creating.create.Symbol.{name as #creates}
 use Rattle.vm.proofs.creating.create as creates
@@ -87,10 +86,14 @@ use Rattle.unsound.proofs.forge_end.Symbol.{name as #forges-end}
 use Rattle.unsound.proofs.forge_end as forges-end
 use Rattle.unsound.proofs.forge_end.Symbol as forges-end-def
 use Rattle.unsound.proofs.forge_end.Met as forges-end-thm
-use Rattle.unsound.proofs.fuel_of_a_start.Symbol.{name as #fuels}
-use Rattle.unsound.proofs.fuel_of_a_start as fuels
-use Rattle.unsound.proofs.fuel_of_a_start.Symbol as fuels-def
-use Rattle.unsound.proofs.fuel_of_a_start.Met as fuels-thm
+use Rattle.unsound.proofs.verb_of.Symbol.{name as #asks}
+use Rattle.unsound.proofs.verb_of as asks
+use Rattle.unsound.proofs.verb_of.Symbol as asks-def
+use Rattle.unsound.proofs.verb_of.Met as asks-thm
+use Rattle.unsound.proofs.fuel_of_a_call.Symbol.{name as #fuels}
+use Rattle.unsound.proofs.fuel_of_a_call as fuels
+use Rattle.unsound.proofs.fuel_of_a_call.Symbol as fuels-def
+use Rattle.unsound.proofs.fuel_of_a_call.Met as fuels-thm
 use Rattle.runner.proofs.calling.call.Symbol.{name as #starts}
 use Rattle.runner.proofs.calling.call as starts
 use Rattle.runner.proofs.calling.call.Symbol as starts-def
@@ -105,7 +108,7 @@ use Rattle.unsound.proofs.attempt.Statement as stated
 use Rattle.unsound.proofs.attempt.Code as code
 use Rattle.unsound.proofs.attempt.Code.Mir as mir
 open Shut machine-shut using (val as machine-val, ty as machine-ty, tells as machine-tells, makes as machine-makes, typed as machine-typed)
-open Shut verb-shut using (ty as verb-ty, makes as verb-makes)
+open Shut verb-shut using (val as verb-val, ty as verb-ty, tells as verb-tells, makes as verb-makes, typed as verb-typed)
 open Shut report-shut using (val as report-val, ty as report-ty, tells as report-tells, makes as report-makes, typed as report-typed)
 open Shut created-shut using (val as created-val, ty as created-ty, tells as created-tells, makes as created-makes, typed as created-typed)
 
@@ -137,6 +140,9 @@ module _ {M : Type 1} (𝓤 : URA M) (H : Heap 𝓤) (A : Atoms 𝓤) (at-mem : 
 
   abbrev forges-end-con : Contract 𝓤
   forges-end-con = tripleOf 𝓤 H A forges-end.signature (forges-end.spec 𝓤 H A at-mem run)
+
+  abbrev asks-con : Contract 𝓤
+  asks-con = tripleOf 𝓤 H A asks.signature (asks.spec 𝓤 H A at-mem run)
 
   abbrev fuels-con : Contract 𝓤
   fuels-con = tripleOf 𝓤 H A fuels.signature (fuels.spec 𝓤 H A at-mem run)
@@ -210,7 +216,7 @@ module _ {M : Type 1} (𝓤 : URA M) (H : Heap 𝓤) (A : Atoms 𝓤) (W : Given
         fsplit ! $ move ! (1 ∷ []) $ fsplit ! $ move ! (1 ∷ []) $ fsplit ! $ move ! (1 ∷ []) $ fsplit ! $ move ! (1 ∷ []) $ fsplit ! $ move ! (1 ∷ []) $ fsplit ! $ move ! (1 ∷ []) $ fsplit ! $ move ! (1 ∷ []) $ fsplit ! $ move ! (1 ∷ []) $ drop ! $ nothing ! $ owned ! usize (Is usize) (uint-makes 𝓤 H A W w64) number _ (refl, number-is) $ fjoin ! $ move ! (1 ∷ 0 ∷ []) $ fjoin ! $ move ! (1 ∷ 0 ∷ []) $ fjoin ! $ move ! (1 ∷ 0 ∷ []) $ fjoin ! $ move ! (1 ∷ 0 ∷ []) $ fjoin ! $ move ! (1 ∷ 0 ∷ []) $ fjoin ! $ move ! (1 ∷ 0 ∷ []) $ fjoin ! $ move ! (1 ∷ 0 ∷ []) $ fjoin ! $ move ! (1 ∷ 0 ∷ []) $ fjoin ! $
         owned ! unit (Is unit) (nothing-makes 𝓤 H A W) tt _ refl $ move ! (1 ∷ 0 ∷ []) $ done !
 
-    module _ (𝓣 : Tables 𝓤 H) (known-creates : Triple 𝓤 (𝓣 .C #creates) (creates-con 𝓤 H A at-mem run)) (known-begins : Triple 𝓤 (𝓣 .C #begins) (begins-con 𝓤 H A at-mem run)) (known-forges : Triple 𝓤 (𝓣 .C #forges) (forges-con 𝓤 H A at-mem run)) (known-slots-of : Triple 𝓤 (𝓣 .C #slots-of) (slots-of-con 𝓤 H A at-mem run)) (known-gets : Triple 𝓤 (𝓣 .C #gets) (gets-con 𝓤 H A at-mem run)) (known-forges-task : Triple 𝓤 (𝓣 .C #forges-task) (forges-task-con 𝓤 H A at-mem run)) (known-puts : Triple 𝓤 (𝓣 .C #puts) (puts-con 𝓤 H A at-mem run)) (known-forges-end : Triple 𝓤 (𝓣 .C #forges-end) (forges-end-con 𝓤 H A at-mem run)) (known-fuels : Triple 𝓤 (𝓣 .C #fuels) (fuels-con 𝓤 H A at-mem run)) (known-starts : Triple 𝓤 (𝓣 .C #starts) (starts-con 𝓤 H A at-mem run)) (known-shows-answer : Triple 𝓤 (𝓣 .C #shows-answer) (shows-answer-con 𝓤 H A at-mem run)) (l₀ l₁ l₂ l₃ l₄ l₅ l₆ l₇ l₈ l₉ l₁₀ l₁₁ l₁₂ l₁₃ l₁₄ l₁₅ l₁₆ l₁₇ l₁₈ l₁₉ l₂₀ l₂₁ l₂₂ l₂₃ l₂₄ l₂₅ l₂₆ l₂₇ l₂₈ l₂₉ l₃₀ l₃₁ l₃₂ l₃₃ l₃₄ l₃₅ l₃₆ l₃₇ l₃₈ l₃₉ : ℕ) where
+    module _ (𝓣 : Tables 𝓤 H) (known-creates : Triple 𝓤 (𝓣 .C #creates) (creates-con 𝓤 H A at-mem run)) (known-begins : Triple 𝓤 (𝓣 .C #begins) (begins-con 𝓤 H A at-mem run)) (known-forges : Triple 𝓤 (𝓣 .C #forges) (forges-con 𝓤 H A at-mem run)) (known-slots-of : Triple 𝓤 (𝓣 .C #slots-of) (slots-of-con 𝓤 H A at-mem run)) (known-gets : Triple 𝓤 (𝓣 .C #gets) (gets-con 𝓤 H A at-mem run)) (known-forges-task : Triple 𝓤 (𝓣 .C #forges-task) (forges-task-con 𝓤 H A at-mem run)) (known-puts : Triple 𝓤 (𝓣 .C #puts) (puts-con 𝓤 H A at-mem run)) (known-forges-end : Triple 𝓤 (𝓣 .C #forges-end) (forges-end-con 𝓤 H A at-mem run)) (known-fuels : Triple 𝓤 (𝓣 .C #fuels) (fuels-con 𝓤 H A at-mem run)) (known-asks : Triple 𝓤 (𝓣 .C #asks) (asks-con 𝓤 H A at-mem run)) (known-starts : Triple 𝓤 (𝓣 .C #starts) (starts-con 𝓤 H A at-mem run)) (known-shows-answer : Triple 𝓤 (𝓣 .C #shows-answer) (shows-answer-con 𝓤 H A at-mem run)) (l₀ l₁ l₂ l₃ l₄ l₅ l₆ l₇ l₈ l₉ l₁₀ l₁₁ l₁₂ l₁₃ l₁₄ l₁₅ l₁₆ l₁₇ l₁₈ l₁₉ l₂₀ l₂₁ l₂₂ l₂₃ l₂₄ l₂₅ l₂₆ l₂₇ l₂₈ l₂₉ l₃₀ l₃₁ l₃₂ l₃₃ l₃₄ l₃₅ l₃₆ l₃₇ l₃₈ l₃₉ : ℕ) where
       abbrev C : Calls 𝓤 H
       C = 𝓣 .C
 
@@ -300,9 +306,14 @@ module _ {M : Type 1} (𝓤 : URA M) (H : Heap 𝓤) (A : Atoms 𝓤) (W : Given
           assigns ! (addr ! (from ! (hop ! (look ! 70 refl) (stop !)))) (from ! (stop !)) (init ! 8 refl (tt, tt)) $
           assigns ! (addr ! (from ! (fld ! refl (hop ! (look-in ! 68 (sub ! 0 refl (whole !))) (stop !))))) (from ! (stop !)) (init ! 6 refl (tt, tt)) $
           assigns ! (agg ! (and-then ! (load ! (from ! (stop !)) (look ! 6 refl)) (and-then ! (load ! (from ! (fld ! refl (stop !))) (look-in ! 68 (sub ! 1 refl (whole !)))) (no-more !)))) (from ! (stop !)) (init ! 4 refl (tt, (tt, (record { fits = g₅ .0 }, tt)))) $
-          assigns ! (agg ! (and-then ! (lit ! tt) (no-more !))) (from ! (stop !)) (init ! 2 refl (start-typed 𝓤 H A W)) $
-          lent-some 6 All For-start (tt, (tt, (tt, (tt, (tt, (tt, tt)))))) (machine.the-row ∷ verb.the-row ∷ u64 ∷ []) report.the-row 𝓤 (starts.clauses 𝓤 H A at-mem run) ((z₇ .0), (x₁, (x₂, ((z₁ .1 .0), ((z₈ .0), (x₅, (x₆, (x₇, tt)))))))) (r₃, (Start, (r₉, tt))) (machine-val r₃ ∷ [], (start-val ∷ [], (vint w64 r₉ ∷ [], tt))) ! (fmOf 𝓤 H (W .laws) 𝓣) known-starts
-          (g₀, (tt, (g₂, (g₃, (tt, (g₅, tt)))))) (f₇ .0, (tt, (refl, (f₁ .1 .0, (tt, (refl, tt)))))) (machine-makes 𝓤 H A r₃ _ is₃, (verb-makes 𝓤 H A Start _ start-is, (uint-makes 𝓤 H A W w64 r₉ _ (refl, is₉ .1), tt))) (λ αs δs. tt) (λ αs δs. id⊢ 𝓤 (emp 𝓤))
+          nothing ! $ nothing ! $
+          lent 0 [] tt (usize ∷ []) verb.the-row 𝓤 (asks.clauses 𝓤 H A at-mem run) tt (number, tt) (vint w64 number ∷ [], tt) ! (fmOf 𝓤 H (W .laws) 𝓣) known-asks
+          tt tt (uint-makes 𝓤 H A W w64 number _ (refl, number-is), tt) (λ αs δs. tt) (λ αs δs. id⊢ 𝓤 (emp 𝓤))
+          (λ αs δs. (and-then ! (load ! (from ! (stop !)) (look ! 64 refl)) (no-more !)))
+          (λ αs δs w₁₂ r₁₂ z₁₂ f₁₂. drop ! $ landed-by ! verb.the-row verb-vals verb-tells r₁₂ w₁₂ (λ is₁₂.
+          drop ! $ drop ! $ land ! (from ! (stop !)) (init ! 2 refl (verb-typed 𝓤 H A W r₁₂ is₁₂)) $
+          lent-some 6 All For-start (tt, (tt, (tt, (tt, (tt, (tt, tt)))))) (machine.the-row ∷ verb.the-row ∷ u64 ∷ []) report.the-row 𝓤 (starts.clauses 𝓤 H A at-mem run) ((z₇ .0), (x₁, (x₂, ((z₁ .1 .0), ((z₈ .0), (x₅, (x₆, (x₇, tt)))))))) (r₃, (r₁₂, (r₉, tt))) (machine-val r₃ ∷ [], (verb-val r₁₂ ∷ [], (vint w64 r₉ ∷ [], tt))) ! (fmOf 𝓤 H (W .laws) 𝓣) known-starts
+          (g₀, (tt, (g₂, (g₃, (tt, (g₅, tt)))))) (f₇ .0, (tt, (refl, (f₁ .1 .0, (tt, (refl, tt)))))) (machine-makes 𝓤 H A r₃ _ is₃, (verb-makes 𝓤 H A r₁₂ _ is₁₂, (uint-makes 𝓤 H A W w64 r₉ _ (refl, is₉ .1), tt))) (λ αs δs. tt) (λ αs δs. id⊢ 𝓤 (emp 𝓤))
           (λ αs δs. (and-then ! (load ! (from ! (stop !)) (look ! 22 refl)) (and-then ! (load ! (from ! (stop !)) (look ! 20 refl)) (and-then ! (load ! (from ! (stop !)) (look ! 16 refl)) (and-then ! (load ! (from ! (stop !)) (look ! 12 refl)) (and-then ! (load ! (from ! (stop !)) (look ! 10 refl)) (and-then ! (load ! (from ! (stop !)) (look ! 6 refl)) (and-then ! (load ! (from ! (stop !)) (look ! 58 refl)) (and-then ! (load ! (from ! (stop !)) (look ! 4 refl)) (and-then ! (load ! (from ! (stop !)) (look ! 50 refl)) (no-more !)))))))))))
           (λ αs δs w₁₀ r₁₀ z₁₀ f₁₀. drop ! $ landed-by ! report.the-row report-vals report-tells r₁₀ w₁₀ (λ is₁₀.
           land ! (from ! (stop !)) (init ! 46 refl (report-typed 𝓤 H A W r₁₀ is₁₀)) $
@@ -314,11 +325,11 @@ module _ {M : Type 1} (𝓤 : URA M) (H : Heap 𝓤) (A : Atoms 𝓤) (W : Given
           drop ! $ drop ! $ land ! (from ! (stop !)) (store ! 30 refl (tt, tt)) $
           assigns ! (of-opd ! (unit-lit !)) (from ! (stop !)) (init ! 80 refl (tt, tt)) $
           returns ! (look ! 80 refl) $ emptied ! refl $
-          ends (z₁₀ .0) (z₁₀ .1 .0) (z₁₀ .1 .1 .0) (z₁₀ .1 .1 .1 .0) (z₁₀ .1 .1 .1 .1 .0) (z₁₀ .1 .1 .1 .1 .1 .0) (f₁₀ .0) (f₁₀ .1 .1 .0) (f₁₀ .1 .1 .1 .0) (f₁₀ .1 .1 .1 .1 .1 .0)))))))))))))))))))))))
+          ends (z₁₀ .0) (z₁₀ .1 .0) (z₁₀ .1 .1 .0) (z₁₀ .1 .1 .1 .0) (z₁₀ .1 .1 .1 .1 .0) (z₁₀ .1 .1 .1 .1 .1 .0) (f₁₀ .0) (f₁₀ .1 .1 .0) (f₁₀ .1 .1 .1 .0) (f₁₀ .1 .1 .1 .1 .1 .0)))))))))))))))))))))))))
 
-    walk : (𝓣 : Tables 𝓤 H) (known-creates : Triple 𝓤 (𝓣 .C #creates) (creates-con 𝓤 H A at-mem run)) (known-begins : Triple 𝓤 (𝓣 .C #begins) (begins-con 𝓤 H A at-mem run)) (known-forges : Triple 𝓤 (𝓣 .C #forges) (forges-con 𝓤 H A at-mem run)) (known-slots-of : Triple 𝓤 (𝓣 .C #slots-of) (slots-of-con 𝓤 H A at-mem run)) (known-gets : Triple 𝓤 (𝓣 .C #gets) (gets-con 𝓤 H A at-mem run)) (known-forges-task : Triple 𝓤 (𝓣 .C #forges-task) (forges-task-con 𝓤 H A at-mem run)) (known-puts : Triple 𝓤 (𝓣 .C #puts) (puts-con 𝓤 H A at-mem run)) (known-forges-end : Triple 𝓤 (𝓣 .C #forges-end) (forges-end-con 𝓤 H A at-mem run)) (known-fuels : Triple 𝓤 (𝓣 .C #fuels) (fuels-con 𝓤 H A at-mem run)) (known-starts : Triple 𝓤 (𝓣 .C #starts) (starts-con 𝓤 H A at-mem run)) (known-shows-answer : Triple 𝓤 (𝓣 .C #shows-answer) (shows-answer-con 𝓤 H A at-mem run)) → ent 𝓤 (onEntry 𝓤 H A f.signature κs₀ qs₀ x at) (WpFn 𝓤 H (𝓣 .C) (𝓣 .Λ) code.function (sliceVal (b₀, o₀) n₀ ∷ vptr b₁ o₁ ∷ sliceVal (b₂, o₂) n₂ ∷ sliceVal (b₃, o₃) n₃ ∷ vptr b₄ o₄ ∷ sliceVal (b₅, o₅) n₅ ∷ sliceVal (b₆, o₆) n₆ ∷ sliceVal (b₇, o₇) n₇ ∷ vint w64 number ∷ []) Post)
+    walk : (𝓣 : Tables 𝓤 H) (known-creates : Triple 𝓤 (𝓣 .C #creates) (creates-con 𝓤 H A at-mem run)) (known-begins : Triple 𝓤 (𝓣 .C #begins) (begins-con 𝓤 H A at-mem run)) (known-forges : Triple 𝓤 (𝓣 .C #forges) (forges-con 𝓤 H A at-mem run)) (known-slots-of : Triple 𝓤 (𝓣 .C #slots-of) (slots-of-con 𝓤 H A at-mem run)) (known-gets : Triple 𝓤 (𝓣 .C #gets) (gets-con 𝓤 H A at-mem run)) (known-forges-task : Triple 𝓤 (𝓣 .C #forges-task) (forges-task-con 𝓤 H A at-mem run)) (known-puts : Triple 𝓤 (𝓣 .C #puts) (puts-con 𝓤 H A at-mem run)) (known-forges-end : Triple 𝓤 (𝓣 .C #forges-end) (forges-end-con 𝓤 H A at-mem run)) (known-fuels : Triple 𝓤 (𝓣 .C #fuels) (fuels-con 𝓤 H A at-mem run)) (known-asks : Triple 𝓤 (𝓣 .C #asks) (asks-con 𝓤 H A at-mem run)) (known-starts : Triple 𝓤 (𝓣 .C #starts) (starts-con 𝓤 H A at-mem run)) (known-shows-answer : Triple 𝓤 (𝓣 .C #shows-answer) (shows-answer-con 𝓤 H A at-mem run)) → ent 𝓤 (onEntry 𝓤 H A f.signature κs₀ qs₀ x at) (WpFn 𝓤 H (𝓣 .C) (𝓣 .Λ) code.function (sliceVal (b₀, o₀) n₀ ∷ vptr b₁ o₁ ∷ sliceVal (b₂, o₂) n₂ ∷ sliceVal (b₃, o₃) n₃ ∷ vptr b₄ o₄ ∷ sliceVal (b₅, o₅) n₅ ∷ sliceVal (b₆, o₆) n₆ ∷ sliceVal (b₇, o₇) n₇ ∷ vint w64 number ∷ []) Post)
     unfolding machine-shut created-shut report-shut verb-shut
-    walk 𝓣 known-creates known-begins known-forges known-slots-of known-gets known-forges-task known-puts known-forges-end known-fuels known-starts known-shows-answer =
+    walk 𝓣 known-creates known-begins known-forges known-slots-of known-gets known-forges-task known-puts known-forges-end known-fuels known-asks known-starts known-shows-answer =
         qed W ((‵ (flft κ₀ q₀) ⊛ ‵ (flft κ₁ q₁) ⊛ ‵ (flft κ₂ q₂) ⊛ ‵ (flft κ₃ q₃) ⊛ ‵ (flft κ₄ q₄) ⊛ ‵ (flft κ₅ q₅) ⊛ ‵ (flft κ₆ q₆) ⊛ ‵ (flft κ₇ q₇) ⊛ ‵ ftrue) ∷ ‵ (owns (typesAt (f.signature .params) κs₀) x at) ∷ []) ∵
         move ! (1 ∷ []) $ fsplit ! $ move ! (1 ∷ []) $ fsplit ! $ move ! (1 ∷ []) $ fsplit ! $ move ! (1 ∷ []) $ fsplit ! $ move ! (1 ∷ []) $ fsplit ! $ move ! (1 ∷ []) $ fsplit ! $ move ! (1 ∷ []) $ fsplit ! $ move ! (1 ∷ []) $ fsplit ! $ move ! (1 ∷ []) $ drop ! $ nothing ! $ move ! (1 ∷ 0 ∷ []) $ fjoin ! $ move ! (1 ∷ 0 ∷ []) $ fjoin ! $ move ! (1 ∷ 0 ∷ []) $ fjoin ! $ move ! (1 ∷ 0 ∷ []) $ fjoin ! $ move ! (1 ∷ 0 ∷ []) $ fjoin ! $ move ! (1 ∷ 0 ∷ []) $ fjoin ! $ move ! (1 ∷ 0 ∷ []) $ fjoin ! $ move ! (1 ∷ 0 ∷ []) $ fjoin ! $
         move ! (1 ∷ []) $ split ! $ move ! (1 ∷ []) $ split ! $ move ! (1 ∷ []) $ split ! $ move ! (1 ∷ []) $ split ! $ move ! (1 ∷ []) $ split ! $ move ! (1 ∷ []) $ split ! $ move ! (1 ∷ []) $ split ! $ move ! (1 ∷ []) $ split ! $ move ! (1 ∷ []) $ drop ! $ nothing ! $ move ! (1 ∷ 0 ∷ []) $ fjoin ! $ move ! (1 ∷ 0 ∷ []) $ fjoin ! $ move ! (1 ∷ 0 ∷ []) $ fjoin ! $ move ! (1 ∷ 0 ∷ []) $ fjoin ! $ move ! (1 ∷ 0 ∷ []) $ fjoin ! $ move ! (1 ∷ 0 ∷ []) $ fjoin ! $ move ! (1 ∷ 0 ∷ []) $ fjoin ! $ move ! (1 ∷ 0 ∷ []) $ fjoin ! $ move ! (1 ∷ 0 ∷ []) $
@@ -326,16 +337,16 @@ module _ {M : Type 1} (𝓤 : URA M) (H : Heap 𝓤) (A : Atoms 𝓤) (W : Given
         alloc1 ! (λ l₀. alloc1 ! (λ l₁. alloc1 ! (λ l₂. alloc1 ! (λ l₃. alloc1 ! (λ l₄. alloc1 ! (λ l₅. alloc1 ! (λ l₆. alloc1 ! (λ l₇. alloc1 ! (λ l₈. alloc1 ! (λ l₉. alloc1 ! (λ l₁₀. alloc1 ! (λ l₁₁. alloc1 ! (λ l₁₂. alloc1 ! (λ l₁₃. alloc1 ! (λ l₁₄. alloc1 ! (λ l₁₅. alloc1 ! (λ l₁₆. alloc1 ! (λ l₁₇. alloc1 ! (λ l₁₈. alloc1 ! (λ l₁₉. alloc1 ! (λ l₂₀. alloc1 ! (λ l₂₁. alloc1 ! (λ l₂₂. alloc1 ! (λ l₂₃. alloc1 ! (λ l₂₄. alloc1 ! (λ l₂₅. alloc1 ! (λ l₂₆. alloc1 ! (λ l₂₇. alloc1 ! (λ l₂₈. alloc1 ! (λ l₂₉. alloc1 ! (λ l₃₀. alloc1 ! (λ l₃₁. alloc1 ! (λ l₃₂. alloc1 ! (λ l₃₃. alloc1 ! (λ l₃₄. alloc1 ! (λ l₃₅. alloc1 ! (λ l₃₆. alloc1 ! (λ l₃₇. alloc1 ! (λ l₃₈. alloc1 ! (λ l₃₉. alloc0 ! $ params1 ! $
         pass1 ! (init ! 76 refl (tt, (tt, (record { fits = g₀ .0 }, tt)))) $ pass1 ! (init ! 74 refl (tt, tt)) $ pass1 ! (init ! 72 refl (tt, (tt, (record { fits = g₂ .0 }, tt)))) $ pass1 ! (init ! 70 refl (tt, (tt, (record { fits = g₃ .0 }, tt)))) $ pass1 ! (init ! 68 refl (tt, tt)) $ pass1 ! (init ! 66 refl (tt, (tt, (record { fits = g₅ .0 }, tt)))) $ pass1 ! (init ! 64 refl (tt, (tt, (record { fits = g₆ .0 }, tt)))) $ pass1 ! (init ! 62 refl (tt, (tt, (record { fits = g₇ .0 }, tt)))) $ pass1 ! (init ! 60 refl (tt, record { fits = number-is })) $ pass0 ! $
         move ! (80 ∷ 81 ∷ []) $
-        steps 𝓣 known-creates known-begins known-forges known-slots-of known-gets known-forges-task known-puts known-forges-end known-fuels known-starts known-shows-answer l₀ l₁ l₂ l₃ l₄ l₅ l₆ l₇ l₈ l₉ l₁₀ l₁₁ l₁₂ l₁₃ l₁₄ l₁₅ l₁₆ l₁₇ l₁₈ l₁₉ l₂₀ l₂₁ l₂₂ l₂₃ l₂₄ l₂₅ l₂₆ l₂₇ l₂₈ l₂₉ l₃₀ l₃₁ l₃₂ l₃₃ l₃₄ l₃₅ l₃₆ l₃₇ l₃₈ l₃₉))))))))))))))))))))))))))))))))))))))))
+        steps 𝓣 known-creates known-begins known-forges known-slots-of known-gets known-forges-task known-puts known-forges-end known-fuels known-asks known-starts known-shows-answer l₀ l₁ l₂ l₃ l₄ l₅ l₆ l₇ l₈ l₉ l₁₀ l₁₁ l₁₂ l₁₃ l₁₄ l₁₅ l₁₆ l₁₇ l₁₈ l₁₉ l₂₀ l₂₁ l₂₂ l₂₃ l₂₄ l₂₅ l₂₆ l₂₇ l₂₈ l₂₉ l₃₀ l₃₁ l₃₂ l₃₃ l₃₄ l₃₅ l₃₆ l₃₇ l₃₈ l₃₉))))))))))))))))))))))))))))))))))))))))
 
-module _ {M : Type 1} (𝓤 : URA M) (H : Heap 𝓤) (A : Atoms 𝓤) (W : Given 𝓤 H A) (at-mem : Memory → SProp 𝓤) (run : Routine → Fun 𝓤) (𝓣 : Tables 𝓤 H) (known-creates : Triple 𝓤 (𝓣 .C #creates) (creates-con 𝓤 H A at-mem run)) (known-begins : Triple 𝓤 (𝓣 .C #begins) (begins-con 𝓤 H A at-mem run)) (known-forges : Triple 𝓤 (𝓣 .C #forges) (forges-con 𝓤 H A at-mem run)) (known-slots-of : Triple 𝓤 (𝓣 .C #slots-of) (slots-of-con 𝓤 H A at-mem run)) (known-gets : Triple 𝓤 (𝓣 .C #gets) (gets-con 𝓤 H A at-mem run)) (known-forges-task : Triple 𝓤 (𝓣 .C #forges-task) (forges-task-con 𝓤 H A at-mem run)) (known-puts : Triple 𝓤 (𝓣 .C #puts) (puts-con 𝓤 H A at-mem run)) (known-forges-end : Triple 𝓤 (𝓣 .C #forges-end) (forges-end-con 𝓤 H A at-mem run)) (known-fuels : Triple 𝓤 (𝓣 .C #fuels) (fuels-con 𝓤 H A at-mem run)) (known-starts : Triple 𝓤 (𝓣 .C #starts) (starts-con 𝓤 H A at-mem run)) (known-shows-answer : Triple 𝓤 (𝓣 .C #shows-answer) (shows-answer-con 𝓤 H A at-mem run)) where
+module _ {M : Type 1} (𝓤 : URA M) (H : Heap 𝓤) (A : Atoms 𝓤) (W : Given 𝓤 H A) (at-mem : Memory → SProp 𝓤) (run : Routine → Fun 𝓤) (𝓣 : Tables 𝓤 H) (known-creates : Triple 𝓤 (𝓣 .C #creates) (creates-con 𝓤 H A at-mem run)) (known-begins : Triple 𝓤 (𝓣 .C #begins) (begins-con 𝓤 H A at-mem run)) (known-forges : Triple 𝓤 (𝓣 .C #forges) (forges-con 𝓤 H A at-mem run)) (known-slots-of : Triple 𝓤 (𝓣 .C #slots-of) (slots-of-con 𝓤 H A at-mem run)) (known-gets : Triple 𝓤 (𝓣 .C #gets) (gets-con 𝓤 H A at-mem run)) (known-forges-task : Triple 𝓤 (𝓣 .C #forges-task) (forges-task-con 𝓤 H A at-mem run)) (known-puts : Triple 𝓤 (𝓣 .C #puts) (puts-con 𝓤 H A at-mem run)) (known-forges-end : Triple 𝓤 (𝓣 .C #forges-end) (forges-end-con 𝓤 H A at-mem run)) (known-fuels : Triple 𝓤 (𝓣 .C #fuels) (fuels-con 𝓤 H A at-mem run)) (known-asks : Triple 𝓤 (𝓣 .C #asks) (asks-con 𝓤 H A at-mem run)) (known-starts : Triple 𝓤 (𝓣 .C #starts) (starts-con 𝓤 H A at-mem run)) (known-shows-answer : Triple 𝓤 (𝓣 .C #shows-answer) (shows-answer-con 𝓤 H A at-mem run)) where
   walks : Walks 𝓤 H A f.ended stayed (WpFn 𝓤 H (𝓣 .C) (𝓣 .Λ) code.function) (f.clauses 𝓤 H A at-mem run)
   walks =
       walked 𝓤 H A f.ended stayed (f.clauses 𝓤 H A at-mem run) (WpFn 𝓤 H (𝓣 .C) (𝓣 .Λ) code.function) (λ κs. (slice-vals, (ptr-vals, (slice-vals, (slice-vals, (ptr-vals, (slice-vals, (slice-vals, (slice-vals, (uint-vals w64, tt))))))))))
       (λ κs. (mut-slice-tells (named 0) (κs .0) R, (mut-tells (named 1) (κs .1 .0) (Array u64 1000), (mut-slice-tells (named 2) (κs .1 .1 .0) u8, (mut-slice-tells (named 3) (κs .1 .1 .1 .0) u8, (mut-tells (named 4) (κs .1 .1 .1 .1 .0) (Array u32 1024), (mut-slice-tells (named 5) (κs .1 .1 .1 .1 .1 .0) u8, (shr-slice-tells (named 6) (κs .1 .1 .1 .1 .1 .1 .0) u8, (shr-slice-tells (named 7) (κs .1 .1 .1 .1 .1 .1 .1 .0) u8, (uint-tells w64, tt))))))))))
       (λ κs qs bounds a g are. via 𝓤 _ (fst∗ 𝓤 _ (emp 𝓤))
       (walk 𝓤 H A W at-mem run (κs .0) (κs .1 .0) (κs .1 .1 .0) (κs .1 .1 .1 .0) (κs .1 .1 .1 .1 .0) (κs .1 .1 .1 .1 .1 .0) (κs .1 .1 .1 .1 .1 .1 .0) (κs .1 .1 .1 .1 .1 .1 .1 .0) (qs .0) (qs .1 .0) (qs .1 .1 .0) (qs .1 .1 .1 .0) (qs .1 .1 .1 .1 .0) (qs .1 .1 .1 .1 .1 .0) (qs .1 .1 .1 .1 .1 .1 .0) (qs .1 .1 .1 .1 .1 .1 .1 .0) (a .0 .ptr .0) (a .0 .ptr .1) (a .1 .0 .ptr .0) (a .1 .0 .ptr .1) (a .1 .1 .0 .ptr .0) (a .1 .1 .0 .ptr .1) (a .1 .1 .1 .0 .ptr .0) (a .1 .1 .1 .0 .ptr .1) (a .1 .1 .1 .1 .0 .ptr .0) (a .1 .1 .1 .1 .0 .ptr .1) (a .1 .1 .1 .1 .1 .0 .ptr .0) (a .1 .1 .1 .1 .1 .0 .ptr .1) (a .1 .1 .1 .1 .1 .1 .0 .ptr .0) (a .1 .1 .1 .1 .1 .1 .0 .ptr .1) (a .1 .1 .1 .1 .1 .1 .1 .0 .ptr .0) (a .1 .1 .1 .1 .1 .1 .1 .0 .ptr .1) (a .0 .name) (a .1 .0 .name) (a .1 .1 .0 .name) (a .1 .1 .1 .0 .name) (a .1 .1 .1 .1 .0 .name) (a .1 .1 .1 .1 .1 .0 .name) (a .1 .1 .1 .1 .1 .1 .0 .name) (a .1 .1 .1 .1 .1 .1 .1 .0 .name) (a .0 .now) (a .1 .0 .now) (a .1 .1 .0 .now) (a .1 .1 .1 .0 .now) (a .1 .1 .1 .1 .0 .now) (a .1 .1 .1 .1 .1 .0 .now) (a .1 .1 .1 .1 .1 .1 .0 .now) (a .1 .1 .1 .1 .1 .1 .1 .0 .now) (a .1 .1 .1 .1 .1 .1 .1 .1 .0)
-      (are .0 .0 .1) (are .1 .1 .0 .0 .1) (are .1 .1 .1 .0 .0 .1) (are .1 .1 .1 .1 .1 .0 .0 .1) (are .1 .1 .1 .1 .1 .1 .0 .0 .1) (are .1 .1 .1 .1 .1 .1 .1 .0 .0 .1) (are .1 .1 .1 .1 .1 .1 .1 .1 .0 .1) 𝓣 known-creates known-begins known-forges known-slots-of known-gets known-forges-task known-puts known-forges-end known-fuels known-starts known-shows-answer))
+      (are .0 .0 .1) (are .1 .1 .0 .0 .1) (are .1 .1 .1 .0 .0 .1) (are .1 .1 .1 .1 .1 .0 .0 .1) (are .1 .1 .1 .1 .1 .1 .0 .0 .1) (are .1 .1 .1 .1 .1 .1 .1 .0 .0 .1) (are .1 .1 .1 .1 .1 .1 .1 .1 .0 .1) 𝓣 known-creates known-begins known-forges known-slots-of known-gets known-forges-task known-puts known-forges-end known-fuels known-asks known-starts known-shows-answer))
 
   meets : Meets 𝓤 H A f.signature (WpFn 𝓤 H (𝓣 .C) (𝓣 .Λ) code.function) (f.spec 𝓤 H A at-mem run)
   meets =
@@ -356,6 +367,7 @@ attempt-spec 𝓤 H 𝓜 𝓖 𝓡 =
     (cited 𝓤 H (forges-task-con 𝓤 H (𝓖 .A) (𝓜 .mem) (𝓡 .run)) 𝓜 𝓡 code.env #forges-task forges-task-def.routine code.calls-unsound·forged-task (forges-task-thm.met 𝓤 H 𝓜 𝓖 𝓡))
     (cited 𝓤 H (puts-con 𝓤 H (𝓖 .A) (𝓜 .mem) (𝓡 .run)) 𝓜 𝓡 code.env #puts puts-def.routine code.calls-table·put (puts-thm.met 𝓤 H 𝓜 𝓖 𝓡))
     (cited 𝓤 H (forges-end-con 𝓤 H (𝓖 .A) (𝓜 .mem) (𝓡 .run)) 𝓜 𝓡 code.env #forges-end forges-end-def.routine code.calls-unsound·forge-end (forges-end-thm.met 𝓤 H 𝓜 𝓖 𝓡))
-    (cited 𝓤 H (fuels-con 𝓤 H (𝓖 .A) (𝓜 .mem) (𝓡 .run)) 𝓜 𝓡 code.env #fuels fuels-def.routine code.calls-unsound·fuel-of-a-start (fuels-thm.met 𝓤 H 𝓜 𝓖 𝓡))
+    (cited 𝓤 H (fuels-con 𝓤 H (𝓖 .A) (𝓜 .mem) (𝓡 .run)) 𝓜 𝓡 code.env #fuels fuels-def.routine code.calls-unsound·fuel-of-a-call (fuels-thm.met 𝓤 H 𝓜 𝓖 𝓡))
+    (cited 𝓤 H (asks-con 𝓤 H (𝓖 .A) (𝓜 .mem) (𝓡 .run)) 𝓜 𝓡 code.env #asks asks-def.routine code.calls-unsound·verb-of (asks-thm.met 𝓤 H 𝓜 𝓖 𝓡))
     (cited 𝓤 H (starts-con 𝓤 H (𝓖 .A) (𝓜 .mem) (𝓡 .run)) 𝓜 𝓡 code.env #starts starts-def.routine code.calls-runner·calling·call (starts-thm.met 𝓤 H 𝓜 𝓖 𝓡))
     (cited 𝓤 H (shows-answer-con 𝓤 H (𝓖 .A) (𝓜 .mem) (𝓡 .run)) 𝓜 𝓡 code.env #shows-answer shows-answer-def.routine code.calls-unsound·show (shows-answer-thm.met 𝓤 H 𝓜 𝓖 𝓡)))

@@ -5,10 +5,10 @@ use Rattle.unsound.proofs.main.Statement.{statement}
 use Rattle.unsound.proofs.main.Tie as tie
 
 abbrev Inv-loop : tie.InvT-loop
-Inv-loop number₀ number = number ≤ 20
+Inv-loop number₀ number = number ≤ 40
 
 abbrev μ-loop : tie.MeasureT-loop
-μ-loop number₀ number = 20 - number
+μ-loop number₀ number = 40 - number
 
 loop-holds : tie.Need-loop-holds Inv-loop μ-loop
 loop-holds c = search needs
