@@ -4,6 +4,7 @@
 // makes the machine anew and runs it up to the sum; and since a refused instruction of the Rust leaves popped values behind, a machine that
 // refused is made anew and run up to the instruction before. Images are handed to the Rust, and taken from it, as the file tasks.bin of its
 // own form, in a folder of this process's own. Where the Rust panics the first line of the call is `panic`, and the case ends there.
+// A `rerun` is the Rust's run. Before a `start` the driver sets the Rust's frames to main alone, at place 0, and its control stack to none.
 // Images are taken to be sound, and the limits that this port adds are not tested: those answers are not the Rust's.
 //
 // The build `plain` has the Rust's own pool in place of counted.rs. It takes no fuel and counts nothing (`done 0`), and of a refusal it tells
@@ -27,7 +28,7 @@ mod storage;
 #[path = "src/values.rs"]
 mod values;
 
-// The Rust's machine, and beside it what the driver reads of its private fields.
+// The Rust's machine, and beside it what the driver reads of its private fields, and sets of them before a start.
 mod vm {
     include!("src/vm.rs");
 
@@ -56,6 +57,13 @@ mod vm {
             let size = self.memory.len();
             let parts = (0..size).step_by(65535);
             parts.flat_map(|at| self.memory.get_slice_bytes(at, (size - at).min(65535) as u16)).copied().collect()
+        }
+
+        // Where a start begins: one frame, that of the program at place 0, and no open loop.
+        pub(crate) fn at_main(&mut self) -> VMResult<()> {
+            self.control_stack = ControlStack::default();
+            self.call_stack = CallStack::default();
+            self.call_stack.push(InstructionsFrame { instructions_ref: 0, pc: 0 })
         }
 
         pub(crate) fn save(&mut self) -> VMResult<()> {
@@ -198,7 +206,8 @@ struct Case<'a> {
     program: &'a [u8],
     vm: VM,
     phase: Phase,
-    // the runs that are done, and the finished instructions of the one that is not
+    // of each run whether it was started, and not rerun; the runs that are done, and the finished instructions of the one that is not
+    started: Vec<bool>,
     runs: usize,
     finished: u64,
     result: InlineVec<Value, 1000>,
@@ -220,12 +229,21 @@ impl Case<'_> {
         }
     }
 
-    // The machine made anew, up to the run that is not done.
+    // A start begins at main; a rerun where the run before ended, as the Rust does.
+    fn begin(&mut self, run: usize) {
+        if self.started[run] {
+            self.vm.at_main().unwrap_or_else(|_| panic!("an empty call stack has room"));
+        }
+    }
+
+    // The machine made anew, at the beginning of the run that is not done.
     fn again(&mut self) {
         self.vm = create(self.image, self.program).unwrap_or_else(|_| panic!("created before"));
-        for _ in 0..self.runs {
+        for run in 0..self.runs {
+            self.begin(run);
             assert!(matches!(self.run(u64::MAX, 0), Outcome::Done(_)));
         }
+        self.begin(self.runs);
         forget_file();
     }
 
@@ -237,7 +255,7 @@ impl Case<'_> {
         }
     }
 
-    // Start or continue: the first line. The run has `reported` turns behind it.
+    // Start, rerun or continue: the first line. The run has `reported` turns behind it.
     fn go(&mut self, fuel: u64, reported: u64) -> String {
         let outcome = self.run(reported.saturating_add(fuel), reported);
         let turns = pools::turns();
@@ -270,12 +288,16 @@ impl Case<'_> {
 
     fn call(&mut self, verb: u64, fuel: u64) -> String {
         match verb {
-            0 if self.phase == Phase::New || self.phase == Phase::Done => self.go(fuel, 0),
+            0 | 3 if self.phase == Phase::New || self.phase == Phase::Done => {
+                self.started.push(verb == 0);
+                self.begin(self.runs);
+                self.go(fuel, 0)
+            }
             1 if self.phase == Phase::Paused => {
                 self.again();
                 self.go(fuel, self.finished)
             }
-            0 | 1 => "refused 26".into(),
+            0 | 1 | 3 => "refused 26".into(),
             _ => match self.vm.save() {
                 Ok(()) => {
                     self.take_file();
@@ -354,9 +376,9 @@ fn case(batch: &mut Reader, out: &mut Vec<u8>) {
         }
     };
     let (result, saved) = (InlineVec::default(), Vec::new());
-    let mut case = Case { image, program, vm, phase: Phase::New, runs: 0, finished: 0, result, saved };
+    let mut case = Case { image, program, vm, phase: Phase::New, started: Vec::new(), runs: 0, finished: 0, result, saved };
     for (verb, fuel) in calls {
-        let name = [format!("start {fuel}"), format!("continue {fuel}"), "save".into()][verb as usize].clone();
+        let name = [format!("start {fuel}"), format!("continue {fuel}"), "save".into(), format!("rerun {fuel}")][verb as usize].clone();
         let said = case.call(verb, fuel);
         out.extend(format!("{name}\n{said}\n").bytes());
         let height = if said.starts_with("done") { case.result.len() } else { 0 };

@@ -101,9 +101,15 @@ class Machine:
     # The calls of the host
 
     def start(self, fuel):
+        return self.begin(fuel, [], [[0, 0]])
+
+    def rerun(self, fuel):
+        return self.begin(fuel, self.loops, self.frames)
+
+    def begin(self, fuel, loops, frames):
         if self.phase in ("paused", "stopped"):
             raise Refused(26)
-        self.memory, self.stack = bytearray(), []
+        self.memory, self.stack, self.loops, self.frames = bytearray(), [], loops, frames
         return self.run(fuel)
 
     def go_on(self, fuel):
@@ -474,13 +480,13 @@ def machine_lines(machine):
 
 
 def call_lines(machine, verb, fuel):
-    yield [b"start %d" % fuel, b"continue %d" % fuel, b"save"][verb]
+    yield [b"start %d" % fuel, b"continue %d" % fuel, b"save", b"rerun %d" % fuel][verb]
     values = []
     try:
         if verb == 2:
             yield b"saved %d" % machine.save()
         else:
-            phase = machine.start(fuel) if verb == 0 else machine.go_on(fuel)
+            phase = {0: machine.start, 1: machine.go_on, 3: machine.rerun}[verb](fuel)
             yield b"%s %d" % (phase.encode(), machine.finished)
             values = machine.stack if phase == "done" else []
     except Refused as refusal:
@@ -519,7 +525,7 @@ def replay_lines(batch):
                 machine = None
                 yield from [refused_line(refusal), b"values 0", b"tasks 0"]
             for _ in range(calls):
-                if batch[at:at + 1] > b"\2":
+                if batch[at:at + 1] > b"\3":
                     raise EOFError
                 verb, fuel = unsigned(1), unsigned(8)
                 if machine:

@@ -1,5 +1,7 @@
 """Every outcome of an opcode (docs/REFERENCE.md, 'Instruction set'), and a machine that notes which ones a case reaches.
 
+A later run begins by a start or by a rerun, and the run before it may have left a loop open or ended inside a task (BEGINNINGS).
+
 EQ and NEQ of some values are answered otherwise by the Rust: those of a scalar with a vector of its tag, which among a program's values is a number
 with numbers, and those of TRUE with FALSE. `otherwise` tells them, from the two values alone, and AsRust has the Rust's answers to them.
 """
@@ -7,6 +9,7 @@ import model
 from model import FALSE, NUMBER, TEXT, TRUE, Refused, is_vector, number
 
 EQ, NEQ = 0x16, 0x17
+BEGINNINGS = [f"{verb} after {end}" for verb in ("start", "rerun") for end in ("an open loop", "a task", "a task with an open loop")]
 OTHERWISE = ["number with numbers", "numbers with number", "true with false", "false with true"]
 
 # By opcode: how it can finish, and its refusals. `3 at 1` is 3 with one value on the stack; `2 after 3` is 2 with three bytes behind the opcode.
@@ -84,11 +87,17 @@ def otherwise(left, right):
 
 
 class Noted(model.Machine):
-    """The model's machine, with the outcomes that it has reached, and those comparisons among them that the Rust answers otherwise."""
+    """The model's machine, with the outcomes that it has reached, those comparisons among them that the Rust answers otherwise, and its beginnings."""
 
     def __init__(self, *words):
-        self.reached, self.otherwise = set(), set()
+        self.reached, self.otherwise, self.begun = set(), set(), set()
         super().__init__(*words)
+
+    def begin(self, fuel, loops, frames):
+        left = " with ".join(["a task"] * (len(self.frames) > 1) + ["an open loop"] * bool(self.loops))
+        if left and self.phase == "done":
+            self.begun.add(f"{'rerun' if frames is self.frames else 'start'} after {left}")
+        return super().begin(fuel, loops, frames)
 
     def step(self, code, place):
         opcode, stack, frames, memory = code[place], self.stack[-3:], len(self.frames), len(self.memory)

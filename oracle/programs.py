@@ -4,7 +4,7 @@ A case is (image, program, calls), a call (verb, fuel). `case(random)` gives one
 """
 import struct
 
-START, GO_ON, SAVE = 0, 1, 2
+START, GO_ON, SAVE, RERUN = 0, 1, 2, 3
 END_CALL, EQ, NEQ, UNUSED = b"\x12", b"\x16", b"\x17", (0x00, 0x02, 0x0c, 0x20, 0x7f, 0xff)
 NUMBERS = (0, 1, 2, 3, 4, 5, 7, 8, 63, 64, 127, 128, 129, 254, 255, 256, 257, 511, 512, 513, 1000, 65535, 65536, 65537, 2 ** 25 - 1, 2 ** 25,
            2 ** 30, 2 ** 30 + 1, 2 ** 31, 2 ** 32 - 2, 2 ** 32 - 1)
@@ -130,20 +130,24 @@ def fuel(r):
     return r.choice((0, 1, 1, 2, 3, 5, 8, 13, 21))
 
 
+def begin(r):
+    return r.choice((START, RERUN))
+
+
 def some_calls(r, whole=2000):
     kind = r.random()
     if kind < 0.35:
-        return [(START, whole)] * r.randrange(1, 5)
+        return [(begin(r), whole) for _ in range(r.randrange(1, 5))]
     if kind < 0.5:
-        return [(START, whole), (SAVE, 0), (START, whole), (SAVE, 0)]
+        return [(begin(r), whole), (SAVE, 0), (begin(r), whole), (SAVE, 0)]
     if kind < 0.85:                                                     # pauses, and runs after them
         calls = []
         for _ in range(r.randrange(1, 4)):
-            calls += [(START, fuel(r))] + [(GO_ON, fuel(r)) for _ in range(r.randrange(3))] + [(GO_ON, whole)]
+            calls += [(begin(r), fuel(r))] + [(GO_ON, fuel(r)) for _ in range(r.randrange(3))] + [(GO_ON, whole)]
             if r.random() < 0.3:
                 calls.insert(r.randrange(len(calls) + 1), (SAVE, 0))
         return calls
-    return [(r.choice((START, START, GO_ON, GO_ON, SAVE)), r.choice((0, 1, 2, 5, 10, whole))) for _ in range(r.randrange(1, 7))]
+    return [(r.choice((START, RERUN, GO_ON, GO_ON, SAVE)), r.choice((0, 1, 2, 5, 10, whole))) for _ in range(r.randrange(1, 7))]
 
 
 def instruction(r, length):
@@ -453,8 +457,8 @@ def boundary(r):
                      orders, orders, orders, orders))
     program = kind(r)
     many = kind is full_pool and len(program) < 10
-    calls = [(START, 3)] * 1030 if many else r.choice(([(START, 20000)], [(START, 20000)] * 2, [(START, 20000), (SAVE, 0)],
-                                                       [(START, 7), (GO_ON, 20000), (SAVE, 0)]))
+    calls = [(begin(r), 3)] * 1030 if many else r.choice(([(START, 20000)], [(START, 20000), (begin(r), 20000)], [(START, 20000), (SAVE, 0)],
+                                                          [(begin(r), 7), (GO_ON, 20000), (SAVE, 0)]))
     return r.choice((b"", b"", b"", edge_image(r))), program, calls
 
 
@@ -465,7 +469,7 @@ def rare(r):
     if r.random() < 0.5:
         program = length(r)
         return b"", program, [(START, 50)]
-    return edge_image(r), bytes([0x0b]), [(START, 5), (START, 5)]
+    return edge_image(r), bytes([0x0b]), [(START, 5), (begin(r), 5)]
 
 
 def edge_image(r):
