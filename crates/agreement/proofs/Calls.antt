@@ -171,12 +171,12 @@ run-split a b vm = sym (more-onward a b vm (begin vm) (more-turns a b))
 -- a start with fuel a and a continue with fuel b leave the Rust as a start with fuel a + b does
 pub start-split : (a b : ℕ) (values : List ℕ) (vm : VM) → rust-history (runs Start a ∷ runs Continue b ∷ []) (returned values vm) ≡ rust-history (runs Start (a + b) ∷ []) (returned values vm)
 unfolding rust-history rust-left-by rust-call if-rests
-start-split a b values vm = run-split a b (from-main vm)
+start-split a b values vm = run-split a b _
 
 -- and so do a rerun and a continue
 pub rerun-split : (a b : ℕ) (values : List ℕ) (vm : VM) → rust-history (runs Rerun a ∷ runs Continue b ∷ []) (returned values vm) ≡ rust-history (runs Rerun (a + b) ∷ []) (returned values vm)
 unfolding rust-history rust-left-by rust-call if-rests
-rerun-split a b values vm = run-split a b vm
+rerun-split a b values vm = run-split a b _
 
 -- and two continues as one, wherever the Rust is
 pub continue-split : (a b : ℕ) (ran : Ran) → rust-history (runs Continue a ∷ runs Continue b ∷ []) ran ≡ rust-history (runs Continue (a + b) ∷ []) ran

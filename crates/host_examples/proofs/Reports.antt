@@ -27,6 +27,7 @@ machine = report.After (new-machine 5 2 4 3)
 pub record Examples : Type 0 where
   pub machine-line : line-of-report machine ≡ ascii "machine height 0 memory 0 pool 5 entries 2 next 4 count 3 saved 0\n"
   pub loop-line : line-of-report loop ≡ ascii "loop 7 1 3\n"
+  pub rerun-line : line-of-report (report.Rerun 5) ≡ ascii "rerun 5\n"
   -- the words before bytes in hex
   pub image-word : text-of-word word.Image ≡ ascii "image "
   pub memory-word : text-of-word word.Memory ≡ ascii "memory "
@@ -39,6 +40,7 @@ unfolding ascii formed line said digit digits decimal hex spaced words filled-in
 examples = record {
   machine-line = refl;
   loop-line = refl;
+  rerun-line = refl;
   image-word = refl;
   memory-word = refl;
   admitted-line = refl;

@@ -35,6 +35,10 @@ use Rattle.printer.specs.Shows as shows-shows
 abbrev C1 : List ℕ
 C1 = 0x01 ∷ 0x00 ∷ 0x00 ∷ 0x00 ∷ 0x00 ∷ 0x01 ∷ 0x00 ∷ 0x00 ∷ 0x00 ∷ 0x05 ∷ 0x0e ∷ 0x01 ∷ 0x00 ∷ 0x00 ∷ 0x00 ∷ 0x63 ∷ 0x0f ∷ []
 
+-- 0d 0d 0e 03 09: a loop that stays open, and 9
+abbrev Open-loop : List ℕ
+Open-loop = 0x0d ∷ 0x0d ∷ 0x0e ∷ 0x03 ∷ 0x09 ∷ []
+
 -- the image of no tasks: a lone kind 1 of zeros
 abbrev No-tasks : List ℕ
 No-tasks = 0x08 ∷ 0 ∷ 0 ∷ 0 ∷ 0x01 ∷ 0 ∷ 0 ∷ 0 ∷ 0 ∷ 0 ∷ 0 ∷ 0 ∷ 0 ∷ 0 ∷ []
@@ -45,6 +49,9 @@ starts fuel = 0 ∷ fuel ∷ 0 ∷ 0 ∷ 0 ∷ 0 ∷ 0 ∷ 0 ∷ 0 ∷ []
 
 abbrev continues : ℕ → List ℕ
 continues fuel = 1 ∷ fuel ∷ 0 ∷ 0 ∷ 0 ∷ 0 ∷ 0 ∷ 0 ∷ 0 ∷ []
+
+abbrev reruns : ℕ → List ℕ
+reruns fuel = 3 ∷ fuel ∷ 0 ∷ 0 ∷ 0 ∷ 0 ∷ 0 ∷ 0 ∷ 0 ∷ []
 
 abbrev saves : List ℕ
 saves = 2 ∷ replicate 8 0
@@ -67,6 +74,10 @@ pub record Examples : Type 0 where
   pub continued : asked 2 C1 (starts 2 ++ continues 9) .stack ≡ asked 1 C1 (starts 9) .stack
   -- start is not for a paused machine
   pub not-restarted : first (asked 2 C1 (starts 2 ++ starts 9)) ≡ to-u32-val 0
+  -- started three times: each run begins with no loop open, and ends with 9
+  pub restarted : first (asked 3 Open-loop (starts 9 ++ starts 9 ++ starts 9)) ≡ to-u32-val 9
+  -- rerun twice: the last run finds two loops open, and is refused at its DO, with two numbers 0 on the stack
+  pub rerun-twice : first (asked 3 Open-loop (starts 9 ++ reruns 9 ++ reruns 9)) ≡ to-u32-val 0
   -- no more calls are performed than were asked for
   pub not-continued : first (asked 1 C1 (starts 2 ++ continues 9)) ≡ to-u32-val 0
   -- a save writes the image; bytes past it stay
@@ -83,6 +94,8 @@ examples = record {
   paused = refl;
   continued = refl;
   not-restarted = refl;
+  restarted = refl;
+  rerun-twice = refl;
   not-continued = refl;
   saved = refl;
   not-saved = refl;
