@@ -472,6 +472,21 @@ def rare(r):
     return edge_image(r), bytes([0x0b]), [(START, 5), (begin(r), 5)]
 
 
+def unfinished(r):
+    """A program whose run mostly leaves loops open, or ends inside a task, or both, and several runs of it by start and by rerun."""
+    def some(most, *pieces):
+        return b"".join(r.choice(pieces) for _ in range(r.randrange(most)))
+    opened = some(3, b"\x0d\x0d\x0e", u8(r.randrange(4)) + u8(r.randrange(4)) + b"\x0e", b"\x0d", b"")
+    often = b"\x0d" + u8(r.randrange(1, 4)) + EQ + jump(13 + r.randrange(2)) + r.choice((END_CALL, b"\x0f", b"\x0d")) + END_CALL
+    body = r.choice((some(4, b"\x0d", b"\x10", b"\x0f", b"\x0d\x0d\x0e", u8(9), text(b"x"), calldata(END_CALL), b"\x0b"), often)) + r.choice((b"", b"", END_CALL))
+    tasks = create(b"t", 2, body) * r.randrange(1, 3) if r.random() < 0.8 else b""
+    main = opened + tasks + some(3, b"\x0d", u8(5), b"\x10", b"\x0f", b"\x0b") + (call(r.randrange(2)) if r.random() < 0.8 else b"") + some(3, u8(7), b"\x0d", call(0), b"\x0f")
+    calls = [(begin(r), 500)]
+    for _ in range(r.randrange(1, 6)):
+        calls += r.choice(([(begin(r), 500)], [(begin(r), 500)], [(begin(r), fuel(r)), (GO_ON, 500)], [(SAVE, 0)]))
+    return some_image(r), main or b"\x0d\x0d\x0e", calls
+
+
 def edge_image(r):
     """An image at the limits: sound, or unsound by one."""
     kind = r.randrange(9)
@@ -495,7 +510,7 @@ def edge_image(r):
     return made[:r.randrange(len(made) + 1)] + bytes(r.randrange(2))
 
 
-KINDS, WEIGHTS = (random_bytes, random_instructions, mostly_good, changed, boundary, rare), (10, 18, 40, 21, 10.9, 0.1)
+KINDS, WEIGHTS = (random_bytes, random_instructions, mostly_good, changed, boundary, rare, unfinished), (10, 18, 38, 19, 10.9, 0.1, 4)
 
 
 def case(r):

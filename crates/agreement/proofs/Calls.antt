@@ -17,7 +17,7 @@ use Rattle.pools.proofs.Laws.{length-entries}
 use Rattle.machine.specs.declared.Machine.{Machine}
 use Rattle.machine.specs.declared.Phase.{Phase}
 use Rattle.machine.specs.declared.Phase.the-variants.{Paused, Done, Stopped}
-use Rattle.machine.specs.Machines.{current, at-main}
+use Rattle.machine.specs.Machines.{main-frame, current, at-main}
 use Rattle.mechanism.specs.Registers.{registers-of, settled}
 use Rattle.machine.specs.Machines.{rewound, placed}
 use Rattle.machine.specs.declared.Outcome.{Outcome}
@@ -255,6 +255,11 @@ start-told fuel w ready common =
     subst (λ (r : Reported). Told r (loop.run fuel (from-main (at-rest w)))) (sym (starts-as fuel w ready))
     (subst (λ (vm : VM). Told (rerun fuel (main-world w)) (loop.run fuel vm)) (rests-at-main w)
     (rerun-told fuel (main-world w) (main-ready w ready) (sym (comes-at-main fuel w ready) ∙ common)))
+
+-- after a run that ended in main with no loop open the Rust begins a start and a rerun with one machine
+pub same-in-main : (w : World) → w .machine .frames .count ≡ 1 → w .machine .frames .main ≡ main-frame → w .machine .loops .count ≡ 0 → from-main (at-rest w) ≡ at-rest w
+unfolding from-main view current last-two callers two-of
+same-in-main w one main none = rw (one, main, none)
 
 -- ---- the values
 
