@@ -5,7 +5,7 @@ use mathlib.Core.Path.{_≡_, refl, sym, ap, subst, _∙_}
 use mathlib.Core.List.{List, [], _∷_}
 use native.Mathlib.Omega.{arith}
 use native.Mathlib.Decide.{ℕ-discrete}
-use lib.Dec.{ltb}
+use lib.Dec.{eqb, ltb}
 use lib.ListN.{length, getD}
 use borrow.Author.Tests.{lt-ltb}
 use Rattle.errors.specs.declared.Refusal.{Refusal}
@@ -17,7 +17,7 @@ use Rattle.pools.proofs.Laws.{length-entries}
 use Rattle.machine.specs.declared.Machine.{Machine}
 use Rattle.machine.specs.declared.Phase.{Phase}
 use Rattle.machine.specs.declared.Phase.the-variants.{Paused, Done, Stopped}
-use Rattle.machine.specs.Machines.{main-frame, current, at-main}
+use Rattle.machine.specs.Machines.{current, at-main}
 use Rattle.mechanism.specs.Registers.{registers-of, settled}
 use Rattle.machine.specs.Machines.{rewound, placed}
 use Rattle.machine.specs.declared.Outcome.{Outcome}
@@ -42,7 +42,7 @@ use Rattle.rust.specs.Run.{Ran, returned, running, failed, panicked, onward, fi
 use Rattle.agreement.specs.View.{callers, view}
 use Rattle.agreement.specs.Agreement.{Over, many-tasks, long-title, many-entries, many-bytes, long-memory, long-image, refusal-of}
 use Rattle.agreement.specs.Reads.{Aligned}
-use Rattle.agreement.specs.Runs.{from-main, if-rests, if-running, rust-call, rust-left-by, rust-history, at-rest, ReadAlike, Answers, ends, pauses, errs, panics, meets}
+use Rattle.agreement.specs.Runs.{main-ref, from-main, if-rests, if-running, rust-call, rust-left-by, rust-history, at-rest, ReadAlike, Answers, ends, pauses, errs, panics, meets}
 use Rattle.agreement.specs.Exceptions.{permitted-comes, call-comes}
 use Rattle.agreement.proofs.Facts.{facts}
 use Rattle.agreement.proofs.Views.{current-is, callers-are}
@@ -239,8 +239,12 @@ main-ready w ready = record { is-sound = at-main-sound w (ready .is-sound); byte
 
 -- what the machine at main shows is the Rust's machine with one frame at main and no loop open
 rests-at-main : (w : World) → at-rest (main-world w) ≡ from-main (at-rest w)
-unfolding from-main view current last-two callers two-of
-rests-at-main w = refl
+unfolding from-main view current last-two callers two-of main-ref
+rests-at-main w = by (eqb (w .machine .frames .count) 1) refl
+  where
+    by : (one : Bool) → eqb (w .machine .frames .count) 1 ≡ one → at-rest (main-world w) ≡ from-main (at-rest w)
+    by true e = rw e
+    by false e = rw e
 
 comes-at-main : (fuel : ℕ) (w : World) → Ready w → call-comes Start fuel w ≡ call-comes Rerun fuel (main-world w)
 unfolding call-comes permitted-comes allowed
@@ -257,9 +261,9 @@ start-told fuel w ready common =
     (rerun-told fuel (main-world w) (main-ready w ready) (sym (comes-at-main fuel w ready) ∙ common)))
 
 -- after a run that ended in main with no loop open the Rust begins a start and a rerun with one machine
-pub same-in-main : (w : World) → w .machine .frames .count ≡ 1 → w .machine .frames .main ≡ main-frame → w .machine .loops .count ≡ 0 → from-main (at-rest w) ≡ at-rest w
-unfolding from-main view current last-two callers two-of
-same-in-main w one main none = rw (one, main, none)
+pub same-in-main : (w : World) → w .machine .frames .count ≡ 1 → place w ≡ 0 → w .machine .loops .count ≡ 0 → from-main (at-rest w) ≡ at-rest w
+unfolding from-main view current last-two callers two-of main-ref
+same-in-main w one at-zero none = rw (at-zero, one, none)
 
 -- ---- the values
 

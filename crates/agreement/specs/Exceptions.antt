@@ -8,7 +8,7 @@ use Rattle.errors.specs.declared.Refusal.the-variants.{TypeMismatch}
 use Rattle.bytecode.specs.Opcodes.{EQ, NEQ}
 use Rattle.values.specs.Values.{is-qnan, is-vec, raw-tag, is-bool, one-vector, to-bool-val, bool-not}
 use Rattle.inlinevec.specs.Stacks.{values-of}
-use Rattle.machine.specs.declared.Permission.{Permission}
+use Rattle.machine.specs.Calls.{Permission}
 use Rattle.machine.specs.declared.Verb.{Verb}
 use Rattle.machine.specs.World.{World, op, place, height, at-end, moved, with-stack, with-machine}
 use Rattle.machine.specs.Words.{StepResult, next, refused}

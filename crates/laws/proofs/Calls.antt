@@ -17,7 +17,7 @@ use Rattle.machine.specs.Calls.{may-continue, allowed, phased, ended, report, R
 use Rattle.machine.specs.World.{with-machine}
 use Rattle.machine.specs.declared.Verb.{Verb}
 use Rattle.machine.specs.declared.Verb.the-variants.{Start, Rerun, Continue}
-use Rattle.machine.specs.declared.Permission.{Permission}
+use Rattle.machine.specs.Calls.{Permission}
 use Rattle.machine.specs.History.{world-after, runs, left-by}
 use Rattle.laws.specs.Sound.{Passes}
 use Rattle.laws.specs.Together.{Together}

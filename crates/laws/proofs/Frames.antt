@@ -77,13 +77,13 @@ one-sound : (frames : Frames) (entries : ℕ) → frames .count ≡ 1 → names 
 unfolding sound-frames
 one-sound frames entries single main = simp (single, main)
 
--- main alone, since a sound frame names an entry, and so there is one
-some-entry : (frames : Frames) (entries : ℕ) → Framed frames entries → 0 < entries
-some-entry frames entries (one single main) = let less : frames .main .entry .0 < entries = ltb-true _ _ main in omega (arith, less)
-some-entry frames entries (two double main task) = let less : frames .main .entry .0 < entries = ltb-true _ _ main in omega (arith, less)
+-- main alone
+main-named : (frames : Frames) (entries : ℕ) → Framed frames entries → names (frames .main) entries ≡ true
+main-named frames entries (one single main) = main
+main-named frames entries (two double main task) = main
 
-pub main-alone-sound : (frames : Frames) (entries : ℕ) → sound-frames frames entries ≡ true → sound-frames main-alone entries ≡ true
-main-alone-sound frames entries sound = one-sound main-alone entries refl (lt-ltb 0 entries (some-entry frames entries (frames-are frames entries sound)))
+pub main-alone-sound : (frames : Frames) (entries : ℕ) → sound-frames frames entries ≡ true → sound-frames (main-alone frames) entries ≡ true
+main-alone-sound frames entries sound = one-sound (main-alone frames) entries refl (main-named frames entries (frames-are frames entries sound))
 
 two-sound : (frames : Frames) (entries : ℕ) → frames .count ≡ 2 → names (frames .main) entries ≡ true → names (frames .task) entries ≡ true → sound-frames frames entries ≡ true
 unfolding sound-frames

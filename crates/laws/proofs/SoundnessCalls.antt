@@ -19,7 +19,7 @@ use Rattle.machine.specs.World.{with-machine}
 use Rattle.machine.specs.Reads.{host-saved, SavedTo, host-save-as, host-save, value-read, task-read}
 use Rattle.machine.specs.declared.Verb.{Verb}
 use Rattle.machine.specs.declared.Verb.the-variants.{Start, Rerun, Continue}
-use Rattle.machine.specs.declared.Permission.{Permission}
+use Rattle.machine.specs.Calls.{Permission}
 use Rattle.machine.specs.History.{world-after, world-saved, HostCall, runs, saves as host-saves, reads-value, reads-task, left-by, history}
 use Rattle.laws.specs.Sound.{Passes, Sound}
 use Rattle.laws.proofs.Either.{either}

@@ -5,7 +5,7 @@ use mathlib.Core.List.{List, [], _∷_, _++_}
 use lib.Dec.{eqb}
 use Rattle.bytecode.specs.Opcodes.{T-CREATE, T-DELETE}
 use Rattle.machine.specs.declared.Verb.{Verb}
-use Rattle.machine.specs.declared.Permission.{Permission}
+use Rattle.machine.specs.Calls.{Permission}
 use Rattle.machine.specs.World.{World, op, at-end, with-machine}
 use Rattle.machine.specs.Words.{StepResult, next, refused}
 use Rattle.machine.specs.Step.{step}

@@ -17,7 +17,6 @@ use Rattle.machine.specs.Sound.{sound-world}
 use Rattle.machine.specs.declared.Verb.{Verb}
 use Rattle.machine.specs.declared.Verb.the-variants.{Start, Rerun, Continue}
 use Rattle.machine.specs.declared.Report.{Report}
-use Rattle.machine.specs.declared.Permission.{Permission}
 
 -- start and rerun are for a machine that is new or done
 unfoldable pub may-start : Phase → Bool
@@ -48,19 +47,29 @@ fresh machine = record {
   saved = machine .saved;
 }
 
+-- whether a phase allows a call
+abbrev pub allows : Verb → Phase → Bool
+allows Start phase = may-start phase
+allows Rerun phase = may-start phase
+allows Continue phase = may-continue phase
+
+-- what a call begins with: start at main, with no loop open; rerun with frames and loops as the run before left them
+abbrev pub begun : Verb → Machine → Machine
+begun Start machine = fresh (at-main machine)
+begun Rerun machine = fresh machine
+begun Continue machine = machine
+
 -- whether a call is allowed, and the machine that it begins with
+pub record Permission : Type 0 where
+  pub allowed : Bool
+  pub machine : Machine
+
 abbrev pub allowing : Bool → Machine → Permission
 allowing allowed machine = record { allowed = allowed; machine = machine }
 
--- by its verb and the phase: start begins at main, with no loop open; rerun with frames and loops as the run before left them
-abbrev pub beginning : Verb → Machine → Permission
-beginning Start machine = allowing (may-start (machine .phase)) (fresh (at-main machine))
-beginning Rerun machine = allowing (may-start (machine .phase)) (fresh machine)
-beginning Continue machine = allowing (may-continue (machine .phase)) machine
-
 -- where the record is sound
 unfoldable pub allowed : Machine → Bool → Verb → Permission
-allowed machine sound verb = cond sound (beginning verb machine) (allowing false machine)
+allowed machine sound verb = cond sound (allowing (allows verb (machine .phase)) (begun verb machine)) (allowing false machine)
 
 -- a machine in a phase
 abbrev pub phased : Machine → Phase → Machine

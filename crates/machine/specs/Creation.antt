@@ -11,12 +11,17 @@ use Rattle.image.specs.Table.{Loading, load-table}
 use Rattle.table_image.specs.Creation.{creation-tests}
 use Rattle.table_image.specs.declared.creation.CreationResult.{CreationResult}
 use Rattle.table_image.specs.declared.creation.CreationResult.the-variants.{Fit, Unfit}
+use Rattle.inlinevec.specs.declared.Frame.{Frame}
 use Rattle.machine.specs.declared.Machine.{Machine}
 use Rattle.machine.specs.declared.Phase.the-variants.{New, Stopped}
-use Rattle.machine.specs.Machines.{no-loops, main-alone}
+use Rattle.machine.specs.Machines.{no-loops}
 use Rattle.machine.specs.Calls.{phased}
 use Rattle.machine.specs.declared.CreateResult.{CreateResult}
 use Rattle.machine.specs.declared.CreateResult.the-variants.{Created, NotCreated}
+
+-- main, which is entry 0, at its start
+abbrev pub main-frame : Frame
+main-frame = record { entry = record { 0 = 0 }; place = 0 }
 
 -- a machine that has not run: at main, with no loop open
 abbrev pub new-machine : ℕ → ℕ → ℕ → ℕ → Machine
@@ -24,7 +29,7 @@ new-machine bytes entries next-id count = record {
   phase = New;
   height = 0;
   loops = no-loops;
-  frames = main-alone;
+  frames = record { count = 1; main = main-frame; task = main-frame };
   memory = 0;
   pool = bytes;
   entries = entries;

@@ -35,12 +35,9 @@ no-loop = record { place = 0; index = 0; limit = 0 }
 abbrev pub no-loops : Loops
 no-loops = record { count = 0; outer = no-loop; inner = no-loop }
 
--- one frame: main, which is entry 0, at its start
-abbrev pub main-frame : Frame
-main-frame = record { entry = record { 0 = 0 }; place = 0 }
-
-abbrev pub main-alone : Frames
-main-alone = record { count = 1; main = main-frame; task = main-frame }
+-- one frame: main, at its start
+abbrev pub main-alone : Frames → Frames
+main-alone frames = record { count = 1; main = record { entry = frames .main .entry; place = 0 }; task = frames .task }
 
 -- ---- the machine with a part of it changed
 
@@ -150,4 +147,4 @@ with-saved machine saved = record {
 
 -- at main, place 0, with an empty control stack
 abbrev pub at-main : Machine → Machine
-at-main machine = with-frames (with-loops machine no-loops) main-alone
+at-main machine = with-frames (with-loops machine no-loops) (main-alone (machine .frames))

@@ -64,12 +64,6 @@ pub struct Report {
     pub outcome: Outcome,
 }
 
-// Whether a call is allowed, and the machine that it begins with.
-pub struct Permission {
-    pub allowed: bool,
-    pub machine: Machine,
-}
-
 // Whether a task can be read.
 pub enum TaskResult {
     Readable,

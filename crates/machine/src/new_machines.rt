@@ -1,6 +1,6 @@
-// Machines at the start of their program: where main begins is written out once, for creation and for start.
+// Machines at the start of their program: one that has not run, and one that starts again.
 ghost use mathlib.Core.Path.{_≡_};
-ghost use Rattle.machine.specs.Machines.{no-loops, main-alone, at-main};
+ghost use Rattle.machine.specs.Machines.{no-loops, at-main};
 ghost use Rattle.machine.specs.Calls.{phased};
 ghost use Rattle.machine.specs.Creation.{new-machine, machine-of};
 use crate::CreateResult;
@@ -29,30 +29,24 @@ fn no_loops() -> Loops
     }
 }
 
-// One frame: main, which is entry 0, at its start.
-fn main_alone() -> Frames
-    ensures { λ r. ⌜ r ≡ main-alone ⌝ }
+// A machine at its program's start, in a phase, with so many bytes and entries in its pool.
+fn at_its_start(phase: Phase, bytes: usize, entries: usize, next_id: TaskId, count: u32) -> Machine
+    ensures { λ r. ⌜ r ≡ phased (new-machine bytes entries («next_id» .0) count) phase ⌝ }
 {
     let main = Frame {
         entry: InstructionsRef(0),
         place: 0,
     };
-    Frames {
+    let frames = Frames {
         count: 1,
         main,
         task: main,
-    }
-}
-
-// A machine at its program's start, in a phase, with so many bytes and entries in its pool.
-fn at_its_start(phase: Phase, bytes: usize, entries: usize, next_id: TaskId, count: u32) -> Machine
-    ensures { λ r. ⌜ r ≡ phased (new-machine bytes entries («next_id» .0) count) phase ⌝ }
-{
+    };
     Machine {
         phase,
         height: 0,
         loops: no_loops(),
-        frames: main_alone(),
+        frames,
         memory: 0,
         pool: bytes,
         entries,
@@ -85,6 +79,7 @@ pub fn at_main(machine: Machine) -> Machine
 {
     let mut started = machine;
     started.loops = no_loops();
-    started.frames = main_alone();
+    started.frames.count = 1;
+    started.frames.main.place = 0;
     started
 }

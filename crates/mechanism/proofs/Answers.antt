@@ -1,7 +1,7 @@
 -- What the callees of each call of a host answer, put together: a test of the record, a run, a read, a save, a creation.
 use Prim.Native.Nat.{ℕ}
 use mathlib.Core.Path.{_≡_, sym, _∙_, ap}
-use mathlib.Core.Bool.{Bool, true, false, cond}
+use mathlib.Core.Bool.{Bool, true, false, cond, false≢true}
 use mathlib.Core.List.{List}
 use lib.ListN.{length, replicate, getD}
 use Rattle.storage.specs.declared.Task.{Task}
@@ -21,13 +21,12 @@ use Rattle.machine.specs.declared.RunEnd.{RunEnd}
 use Rattle.machine.specs.World.{world}
 use Rattle.machine.specs.Run.{ran-to, run}
 use Rattle.machine.specs.Sound.{Tested, tested, RecordTested, record-tested, sound-record, sound-world}
-use Rattle.machine.specs.Calls.{reported, allowed, report, not-allowed, reported-end, call-with, call}
+use Rattle.machine.specs.Calls.{reported, begun, allowing, allowed, report, not-allowed, reported-end, call-with, call}
 use Rattle.machine.specs.Reads.{read-to, value-at, value-read, task-answer, task-read, saved-to, host-saved, not-saved, host-save-as, host-save}
 use Rattle.machine.specs.Reads as reads
 use Rattle.machine.specs.Creation.{made, create}
 use Rattle.mechanism.specs.Creating.{prepared, prepare, created-with, loaded-from, create-as, create-by-parts}
 use Rattle.mechanism.proofs.Creates.{create-is}
-use Rattle.machine.specs.declared.Permission.{Permission}
 use Rattle.machine.specs.declared.Verb.{Verb}
 use Rattle.machine.specs.declared.Report.{Report}
 use Rattle.machine.specs.declared.Preparation.{Preparation}
@@ -69,6 +68,12 @@ module _ (table : List Task) (pool ends image program : List ℕ) {ready : Prepa
 
 -- ---- what follows a test
 
+-- what is allowed begins with what its verb says
+permitted : (machine : Machine) (good : Bool) (verb : Verb) → allowed machine good verb .allowed ≡ true → allowed machine good verb ≡ allowing true (begun verb machine)
+unfolding allowed
+permitted machine true verb e = ap (λ (may : Bool). allowing may (begun verb machine)) e
+permitted machine false verb e = absurd (false≢true e)
+
 module _ (machine : Machine) (table : List Task) (stack memory pool ends save : List ℕ) {good : Bool} {table′ : List Task} {memory′ pool′ ends′ save′ : List ℕ}
     (e : tested good table′ memory′ pool′ ends′ save′ ≡ tested (sound-world table memory pool ends save machine) table memory pool ends save) where
   -- a call
@@ -77,21 +82,22 @@ module _ (machine : Machine) (table : List Task) (stack memory pool ends save : 
   calls verb fuel = ap (λ (t : Tested). call-with fuel (world machine (t .table) stack (t .memory) (t .pool) (t .ends) (t .save)) (allowed machine (t .answer) verb)) e
 
   -- one that is allowed
-  pub calls-run : (verb : Verb) (fuel : ℕ) {a : Permission} {ran : RunEnd} {r : Report} {table″ : List Task} {stack″ memory″ pool″ ends″ save″ : List ℕ} → a ≡ allowed machine good verb → a .allowed ≡ true
-      → ran-to ran table″ stack″ memory″ pool″ ends″ save″ ≡ run fuel (world (a .machine) table′ stack memory′ pool′ ends′ save′) → r ≡ report fuel ran
+  pub calls-run : (verb : Verb) (fuel : ℕ) {may : Bool} {begins : Machine} {ran : RunEnd} {r : Report} {table″ : List Task} {stack″ memory″ pool″ ends″ save″ : List ℕ}
+      → may ≡ allowed machine good verb .allowed → may ≡ true → begins ≡ begun verb machine
+      → ran-to ran table″ stack″ memory″ pool″ ends″ save″ ≡ run fuel (world begins table′ stack memory′ pool′ ends′ save′) → r ≡ report fuel ran
       → reported r table″ stack″ memory″ pool″ ends″ save″ ≡ call verb fuel (world machine table stack memory pool ends save)
   unfolding call-with
-  calls-run verb fuel {a} {ran} {r} {table″} {stack″} {memory″} {pool″} {ends″} {save″} begun may result reports =
+  calls-run verb fuel {begins = begins} {r = r} {table″ = table″} {stack″ = stack″} {memory″ = memory″} {pool″ = pool″} {ends″ = ends″} {save″ = save″} asks granted begin result reports =
       ap (λ (x : Report). reported x table″ stack″ memory″ pool″ ends″ save″) reports ∙ ap (reported-end fuel) result
-      ∙ sym (simp (may)) ∙ ap (call-with fuel (world machine table′ stack memory′ pool′ ends′ save′)) begun ∙ calls verb fuel
+      ∙ ap (λ (m : Machine). call-with fuel (world machine table′ stack memory′ pool′ ends′ save′) (allowing true m)) begin
+      ∙ ap (call-with fuel (world machine table′ stack memory′ pool′ ends′ save′)) (sym (permitted machine good verb (sym asks ∙ granted))) ∙ calls verb fuel
 
-  -- one that is not
-  pub calls-none : (verb : Verb) (fuel : ℕ) {a : Permission} {r : Report} → a ≡ allowed machine good verb → a .allowed ≡ false → r ≡ not-allowed machine
+  pub calls-none : (verb : Verb) (fuel : ℕ) {may : Bool} {r : Report} → may ≡ allowed machine good verb .allowed → may ≡ false → r ≡ not-allowed machine
       → reported r table′ stack memory′ pool′ ends′ save′ ≡ call verb fuel (world machine table stack memory pool ends save)
   unfolding call-with
-  calls-none verb fuel begun may reports =
-      ap (λ (x : Report). reported x table′ stack memory′ pool′ ends′ save′) reports
-      ∙ sym (simp (may)) ∙ ap (call-with fuel (world machine table′ stack memory′ pool′ ends′ save′)) begun ∙ calls verb fuel
+  calls-none verb fuel asks denied reports =
+      let refused : allowed machine good verb .allowed ≡ false = sym asks ∙ denied in
+      ap (λ (x : Report). reported x table′ stack memory′ pool′ ends′ save′) reports ∙ sym (simp (refused)) ∙ calls verb fuel
 
   -- the read of a value
   pub reads-value : (position : ℕ) {r : Return} {stack″ memory″ ends″ : List ℕ} → reads.value-on r stack″ memory″ ends″ ≡ reads.value-on (value-at stack memory′ ends′ machine good position) stack memory′ ends′

@@ -1,4 +1,4 @@
--- What is known of the fields of a machine, of what a call is allowed and of what a creation begins with; and how a walk reads each.
+-- What is known of the fields of a machine and of what a creation begins with; and how a walk reads each.
 use Prim.Native.Nat.{ℕ, _<_, _^_}
 use mathlib.Core.Path.{_≡_, refl}
 use mathlib.Core.List.{List, [], _∷_}
@@ -20,16 +20,12 @@ use Rattle.machine.proofs.Machine as machine
 use Rattle.machine.proofs.Machine.Laws as machine-laws
 use Rattle.mechanism.proofs.Values.{machine-shut, machine-vals}
 use Rattle.mechanism.proofs.Fields.{taken, taken-in}
-use Rattle.machine.specs.declared.Permission.{Permission}
 use Rattle.machine.specs.declared.Preparation.{Preparation}
-use Rattle.machine.proofs.Permission as allowed
-use Rattle.machine.proofs.Permission.Laws as allowed-laws
 use Rattle.machine.proofs.Preparation as prepared
 use Rattle.machine.proofs.Preparation.Laws as prepared-laws
-use Rattle.mechanism.proofs.VmValues.{allowed-shut, allowed-vals, prepared-shut, prepared-vals}
+use Rattle.mechanism.proofs.VmValues.{prepared-shut, prepared-vals}
 open Shut id-shut using (val as id-val)
 open Shut machine-shut using (val as machine-val, ty as machine-ty)
-open Shut allowed-shut using (val as allowed-val, ty as allowed-ty)
 open Shut prepared-shut using (val as prepared-val, ty as prepared-ty)
 
 -- ---- their fields
@@ -42,11 +38,6 @@ pool-fits m is = struct.owed machine.the-type machine-laws.the-laws m (machine-v
 pub count-fits : (m : Machine) → Is machine.the-row m (machine-vals m) → m .count < 2 ^ 32
 unfolding machine-shut
 count-fits m is = struct.owed machine.the-type machine-laws.the-laws m (machine-vals m) is .1 .1 .1 .1 .1 .1 .1 .1 .0 .1
-
--- of what a call is allowed
-pub begun-is : (a : Permission) → Is allowed.the-row a (allowed-vals a) → Is machine.the-row (a .machine) (machine-vals (a .machine))
-unfolding allowed-shut machine-shut
-begun-is a is = struct.owed allowed.the-type allowed-laws.the-laws a (allowed-vals a) is .1 .0
 
 -- of what a creation begins with
 pub new-is : (p : Preparation) → Is prepared.the-row p (prepared-vals p) → Is machine.the-row (p .machine) (machine-vals (p .machine))
@@ -72,15 +63,6 @@ module _ {M : Type 1} {𝓤 : URA M} {H : Heap 𝓤} {A : Atoms 𝓤} {K : Type 
   pub take-count : K → (i n : ℕ) (m : Machine) {l : ℕ} → spotOf 𝓤 H E i ≡ (machine-ty, l, 0) → nth 𝓤 H A n Γ ≡ ‵ (fat fullShare machine-ty l 0 (machine-val m)) → Opd K W Γ E (copy (place i (field 8 ∷ []))) (vint w32 (m .count))
   unfolding machine-shut
   take-count t i n m at holds = taken t 8 i n refl at holds
-
-  -- of what a call is allowed
-  pub take-allowed : K → (i n : ℕ) (a : Permission) {l : ℕ} → spotOf 𝓤 H E i ≡ (allowed-ty, l, 0) → nth 𝓤 H A n Γ ≡ ‵ (fat fullShare allowed-ty l 0 (allowed-val a)) → Opd K W Γ E (copy (place i (field 0 ∷ []))) (vbool (a .allowed))
-  unfolding allowed-shut
-  take-allowed t i n a at holds = taken t 0 i n refl at holds
-
-  pub take-begun : K → (i n : ℕ) (a : Permission) {l : ℕ} → spotOf 𝓤 H E i ≡ (allowed-ty, l, 0) → nth 𝓤 H A n Γ ≡ ‵ (fat fullShare allowed-ty l 0 (allowed-val a)) → Opd K W Γ E (copy (place i (field 1 ∷ []))) (machine-val (a .machine))
-  unfolding allowed-shut machine-shut
-  take-begun t i n a at holds = taken t 1 i n refl at holds
 
   -- of what a creation begins with
   pub take-fits : K → (i n : ℕ) (p : Preparation) {l : ℕ} → spotOf 𝓤 H E i ≡ (prepared-ty, l, 0) → nth 𝓤 H A n Γ ≡ ‵ (fat fullShare prepared-ty l 0 (prepared-val p)) → Opd K W Γ E (copy (place i (field 0 ∷ []))) (vbool (p .fits))

@@ -17,9 +17,6 @@ use Rattle.machine.proofs.Verb.Laws as verb-laws
 use Rattle.machine.specs.declared.Report.{Report}
 use Rattle.machine.proofs.Report as report
 use Rattle.machine.proofs.Report.Laws as report-laws
-use Rattle.machine.specs.declared.Permission.{Permission}
-use Rattle.machine.proofs.Permission as allowed
-use Rattle.machine.proofs.Permission.Laws as allowed-laws
 use Rattle.machine.specs.declared.Preparation.{Preparation}
 use Rattle.machine.proofs.Preparation as prepared
 use Rattle.machine.proofs.Preparation.Laws as prepared-laws
@@ -66,13 +63,6 @@ report-shut = of-struct report.the-type report-laws.the-laws report-laws.the-pla
 
 abbrev pub report-vals : Report → List Val
 report-vals = vals report-shut
-
--- whether a call is allowed
-unfoldable pub allowed-shut : Shut allowed.the-row
-allowed-shut = of-struct allowed.the-type allowed-laws.the-laws allowed-laws.the-plain
-
-abbrev pub allowed-vals : Permission → List Val
-allowed-vals = vals allowed-shut
 
 -- what a creation begins with
 unfoldable pub prepared-shut : Shut prepared.the-row

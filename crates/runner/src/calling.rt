@@ -1,13 +1,12 @@
 // Start, rerun and continue: what they begin with, the run, and what they make of its end.
 ghost use mathlib.Core.Path.{_≡_};
 ghost use Rattle.machine.specs.Machines.{rewound};
-ghost use Rattle.machine.specs.Calls.{may-start, may-continue, fresh, beginning, allowed, phased, ended, spent, report, not-allowed, reported, call};
+ghost use Rattle.machine.specs.Calls.{may-start, may-continue, allows, fresh, begun, allowed, phased, ended, spent, report, not-allowed, reported, call};
 ghost use Rattle.machine.specs.World.{world};
 use crate::run;
 use errors::Refusal;
 use machine::Machine;
 use machine::Outcome;
-use machine::Permission;
 use machine::Phase;
 use machine::Report;
 use machine::RunEnd;
@@ -43,6 +42,28 @@ fn may_continue(phase: Phase) -> bool
     }
 }
 
+// Whether a phase allows a call.
+fn allows(verb: Verb, phase: Phase) -> bool
+    ensures { λ r. ⌜ r ≡ allows verb phase ⌝ }
+{
+    match verb {
+        Verb::Start => may_start(phase),
+        Verb::Rerun => may_start(phase),
+        Verb::Continue => may_continue(phase),
+    }
+}
+
+// Whether a call is allowed: where the record is sound, by its phase.
+fn allowed(machine: Machine, sound: bool, verb: Verb) -> bool
+    ensures { λ r. ⌜ r ≡ allowed machine sound verb .allowed ⌝ }
+{
+    let phase = machine.phase;
+    if sound {
+        return allows(verb, phase);
+    }
+    false
+}
+
 // A start or a rerun: no memory in use, no values.
 fn fresh(machine: Machine) -> Machine
     ensures { λ r. ⌜ r ≡ fresh machine ⌝ }
@@ -53,37 +74,14 @@ fn fresh(machine: Machine) -> Machine
     started
 }
 
-// What a call begins with, where its phase allows it.
-fn beginning(machine: Machine, verb: Verb) -> Permission
-    ensures { λ r. ⌜ r ≡ beginning verb machine ⌝ }
+// What a call begins with: a start at main, with no loop open; a rerun with frames and loops as the run before left them.
+fn begun(machine: Machine, verb: Verb) -> Machine
+    ensures { λ r. ⌜ r ≡ begun verb machine ⌝ }
 {
-    let phase = machine.phase;
     match verb {
-        Verb::Start => Permission {
-            allowed: may_start(phase),
-            machine: fresh(at_main(machine)),
-        },
-        Verb::Rerun => Permission {
-            allowed: may_start(phase),
-            machine: fresh(machine),
-        },
-        Verb::Continue => Permission {
-            allowed: may_continue(phase),
-            machine,
-        },
-    }
-}
-
-// The same where the record is sound; else no call is allowed.
-fn allowed(machine: Machine, sound: bool, verb: Verb) -> Permission
-    ensures { λ r. ⌜ r ≡ allowed machine sound verb ⌝ }
-{
-    if sound {
-        return beginning(machine, verb);
-    }
-    Permission {
-        allowed: false,
-        machine,
+        Verb::Start => fresh(at_main(machine)),
+        Verb::Rerun => fresh(machine),
+        Verb::Continue => machine,
     }
 }
 
@@ -175,9 +173,9 @@ pub fn call(
     ensures { λ r. ⌜ reported r (now (table .exit)) (now (stack .exit)) (now (memory .exit)) (now (pool .exit)) (now (ends .exit)) (now (save .exit)) ≡ call verb fuel (world machine (now (table .entry)) (now (stack .entry)) (now (memory .entry)) (now (pool .entry)) (now (ends .entry)) (now (save .entry))) ⌝ }
 {
     let good = sound(table, memory, pool, ends, save, machine);
-    let begun = allowed(machine, good, verb);
-    if begun.allowed {
-        let ran = run(table, stack, memory, pool, ends, save, begun.machine, fuel);
+    if allowed(machine, good, verb) {
+        let begins = begun(machine, verb);
+        let ran = run(table, stack, memory, pool, ends, save, begins, fuel);
         return report(fuel, ran);
     }
     not_allowed(machine)

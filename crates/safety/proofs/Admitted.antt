@@ -7,7 +7,7 @@ use Rattle.errors.specs.declared.Refusal.{Refusal}
 use Rattle.errors.specs.Refusals.{number-of}
 use Rattle.machine.specs.declared.Outcome.the-variants.{Refused}
 use Rattle.machine.specs.World.{World}
-use Rattle.machine.specs.Calls.{call}
+use Rattle.machine.specs.Calls.{allows, call}
 use Rattle.machine.specs.History.{FreshWorld, is-created, HostCall, history}
 use Rattle.machine.specs.declared.Verb.{Verb}
 use Rattle.laws.specs.Sound.{Sound}
@@ -17,7 +17,7 @@ use Rattle.labels.specs.declared.Kind.{Kind}
 use Rattle.labels.specs.Labels.{Labelled}
 use Rattle.labels.specs.Check.{admitted, admission}
 use Rattle.labels.proofs.Exactly.{exactly}
-use Rattle.safety.specs.Safe.{may-come, allows, Safe}
+use Rattle.safety.specs.Safe.{may-come, Safe}
 use Rattle.safety.proofs.Called.{Ready, call-keeps, call-only, history-ready}
 use Rattle.safety.proofs.Created.{created-ready}
 

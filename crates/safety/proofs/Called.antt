@@ -23,7 +23,7 @@ use Rattle.image.specs.declared.SaveResult.the-variants.{Saved, NotSaved}
 use Rattle.machine.specs.Opcodes.{saving}
 use Rattle.machine.specs.Run.{End, end-at}
 use Rattle.mechanism.proofs.Settled.{current-changed}
-use Rattle.machine.specs.Calls.{may-start, may-continue, fresh, allowing, allowed, ended, report, Reported, reports, not-allowed, is-sound, call-with, call}
+use Rattle.machine.specs.Calls.{may-start, may-continue, allows, fresh, allowing, allowed, ended, report, Reported, reports, not-allowed, is-sound, call-with, call}
 use Rattle.machine.specs.World.{with-machine}
 use Rattle.machine.specs.Calls as calls
 use Rattle.machine.specs.declared.Verb.{Verb}
@@ -33,7 +33,7 @@ use Rattle.labels.specs.declared.Kind.{Kind}
 use Rattle.labels.specs.Labels.{Label, zeroth, Labelled}
 use Rattle.mechanism.proofs.Either.{either}
 use Rattle.machine.specs.History.{world-after, world-saved, HostCall, runs, saves, reads-value, reads-task, left-by, history}
-use Rattle.safety.specs.Safe.{ruled-out, may-come, allows, Safe}
+use Rattle.safety.specs.Safe.{ruled-out, may-come, Safe}
 use Rattle.safety.proofs.Kinded.{nil}
 use Rattle.safety.proofs.Rules.{on-bool}
 use Rattle.safety.proofs.Holds.{May, Looping, none-open, Holds, starts}
@@ -89,7 +89,7 @@ module _ (program : List ℕ) (kinds : List Kind) (labelled : Labelled program k
   unfolding current last-two
   at-main-rests w r = record {
     lent = r .lent;
-    main = record { one-frame = refl; in-main = refl; ends-lent = r .main .ends-lent; pooled = r .main .pooled; some-entries = r .main .some-entries; program = r .main .program };
+    main = record { one-frame = refl; in-main = rw (r .main .one-frame) at (r .main .in-main); ends-lent = r .main .ends-lent; pooled = r .main .pooled; some-entries = r .main .some-entries; program = r .main .program };
     at-zero = refl;
     closed = refl;
   }

@@ -6,11 +6,8 @@ use mathlib.Core.List.{List, reverse}
 use lib.Dec.{eqb, leb}
 use Rattle.errors.specs.declared.Refusal.{Refusal}
 use Rattle.errors.specs.Refusals.{number-of}
-use Rattle.machine.specs.declared.Phase.{Phase}
 use Rattle.machine.specs.declared.Outcome.the-variants.{Done, Refused}
-use Rattle.machine.specs.Calls.{may-start, may-continue, Reported}
-use Rattle.machine.specs.declared.Verb.{Verb}
-use Rattle.machine.specs.declared.Verb.the-variants.{Start, Rerun, Continue}
+use Rattle.machine.specs.Calls.{Reported}
 use Rattle.machine.specs.History.{world-after}
 use Rattle.labels.specs.declared.Kind.{Kind}
 use Rattle.safety.specs.Kinds.{Listed}
@@ -22,12 +19,6 @@ ruled-out number = eqb number 2 || eqb number 3 || eqb number 4 || eqb number 5 
 -- refusals that may still come at run: 7 to 9, 11 to 15 and 20 to 24
 abbrev pub may-come : ℕ → Bool
 may-come number = (leb 7 number && leb number 9) || ((leb 11 number && leb number 15) || (leb 20 number && leb number 24))
-
--- whether a phase allows a start, a rerun, or a continue
-abbrev pub allows : Verb → Phase → Bool
-allows Start phase = may-start phase
-allows Rerun phase = may-start phase
-allows Continue phase = may-continue phase
 
 -- a call is never refused for what admission rules out, and if it ends done, its values have the listed kinds, bottom first, and there are no more
 pub record Safe (kinds : List Kind) (r : Reported) : Type 0 where

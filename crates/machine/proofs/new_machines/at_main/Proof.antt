@@ -6,11 +6,8 @@ use Rattle.machine.proofs.new_machines.at_main.Tie as tie
 no-loops-requires : tie.Need-no-loops-requires
 no-loops-requires c κs = search needs
 
-main-alone-requires : tie.Need-main-alone-requires
-main-alone-requires c κs = search needs
-
 returns : tie.Need-returns
-returns c = simp (← c .main-alone .ensures, ← c .before .no-loops .ensures)
+returns c = simp (← c .before .before .no-loops .ensures)
 
 pub at-main-spec : {M : Type 1} → statement M
-at-main-spec = tie.close (tie.spec no-loops-requires main-alone-requires returns)
+at-main-spec = tie.close (tie.spec no-loops-requires returns)

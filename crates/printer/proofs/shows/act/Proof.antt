@@ -1,7 +1,7 @@
 -- `printer::shows::act` meets its contract: a walk of its MIR by hand, which lends all six on to the call that the verb names.
 use Prim.Native.Nat.{ℕ, _<_, _-_, _^_}
 use mathlib.Core.Path.{_≡_, refl}
-use mathlib.Core.Bool.{true, false, not}
+use mathlib.Core.Bool.{true, not}
 use mathlib.Core.List.{[], _∷_, List}
 use lib.Dec.{eqb}
 use lib.ListN.{length}

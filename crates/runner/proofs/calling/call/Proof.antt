@@ -55,17 +55,15 @@ use Rattle.mechanism.proofs.Values.{machine-shut, machine-vals, ran-shut, ran-v
 use Rattle.mechanism.proofs.Fields.{is-true, is-false}
 use Rattle.machine.specs.declared.Verb.{Verb}
 use Rattle.machine.specs.declared.Report.{Report}
-use Rattle.machine.specs.declared.Permission.{Permission}
 use Rattle.machine.proofs.Verb as verb-row
 use Rattle.machine.proofs.Report as report
-use Rattle.machine.proofs.Permission as allowed
-use Rattle.mechanism.proofs.VmValues.{report-shut, report-vals, allowed-shut, allowed-vals, verb-shut, verb-vals}
+use Rattle.mechanism.proofs.VmValues.{report-shut, report-vals, verb-shut, verb-vals}
 use Rattle.machine.specs.Sound.{tested, sound-world}
-use Rattle.machine.specs.Calls.{allowed as allowed-of, report as report-of, not-allowed, reported, call as call-of}
-use Rattle.mechanism.proofs.VmFields.{begun-is, take-allowed, take-begun}
+use Rattle.machine.specs.Calls.{begun as begun-of, allowed as allowed-of, report as report-of, not-allowed, reported, call as call-of}
 use Rattle.mechanism.proofs.Answers.{calls-run, calls-none}
 use Rattle.vm.proofs.sound.sound.Symbol.{name as #tests}
 use Rattle.runner.proofs.calling.allowed.Symbol.{name as #allows}
+use Rattle.runner.proofs.calling.begun.Symbol.{name as #begins}
 use Rattle.runner.proofs.run.Symbol.{name as #drives}
 use Rattle.runner.proofs.calling.report.Symbol.{name as #reports}
 use Rattle.runner.proofs.calling.not_allowed.Symbol.{name as #refuses}
@@ -76,6 +74,9 @@ use Rattle.vm.proofs.sound.sound.Met as tests-thm
 use Rattle.runner.proofs.calling.allowed as allows
 use Rattle.runner.proofs.calling.allowed.Symbol as allows-def
 use Rattle.runner.proofs.calling.allowed.Met as allows-thm
+use Rattle.runner.proofs.calling.begun as begins
+use Rattle.runner.proofs.calling.begun.Symbol as begins-def
+use Rattle.runner.proofs.calling.begun.Met as begins-thm
 use Rattle.runner.proofs.run as drives
 use Rattle.runner.proofs.run.Symbol as drives-def
 use Rattle.runner.proofs.run.Met as drives-thm
@@ -92,7 +93,6 @@ use Rattle.runner.proofs.calling.call.Code.Mir as mir
 open Shut machine-shut using (val as machine-val, ty as machine-ty, tells as machine-tells, makes as machine-makes, typed as machine-typed)
 open Shut ran-shut using (val as ran-val, ty as ran-ty, tells as ran-tells, makes as ran-makes, typed as ran-typed)
 open Shut report-shut using (val as report-val, ty as report-ty, tells as report-tells, makes as report-makes, typed as report-typed)
-open Shut allowed-shut using (val as allowed-val, ty as allowed-ty, tells as allowed-tells, typed as allowed-typed)
 open Shut verb-shut using (val as verb-val, ty as verb-ty, tells as verb-tells, makes as verb-makes, typed as verb-typed)
 
 abbrev stayed : Stays (f.ended .signature .params) (f.ended .kept)
@@ -105,6 +105,9 @@ module _ {M : Type 1} (𝓤 : URA M) (H : Heap 𝓤) (A : Atoms 𝓤) (at-mem : 
 
   abbrev allows-con : Contract 𝓤
   allows-con = tripleOf 𝓤 H A allows.signature (allows.spec 𝓤 H A at-mem run)
+
+  abbrev begins-con : Contract 𝓤
+  begins-con = tripleOf 𝓤 H A begins.signature (begins.spec 𝓤 H A at-mem run)
 
   abbrev drives-con : Contract 𝓤
   drives-con = tripleOf 𝓤 H A drives.signature (drives.spec 𝓤 H A at-mem run)
@@ -164,7 +167,7 @@ module _ {M : Type 1} (𝓤 : URA M) (H : Heap 𝓤) (A : Atoms 𝓤) (W : Given
         fsplit ! $ move ! (1 ∷ []) $ fsplit ! $ move ! (1 ∷ []) $ fsplit ! $ move ! (1 ∷ []) $ fsplit ! $ move ! (1 ∷ []) $ fsplit ! $ move ! (1 ∷ []) $ fsplit ! $ move ! (1 ∷ []) $ drop ! $ nothing ! $ owned ! u64 (Is u64) (uint-makes 𝓤 H A W w64) fuel _ (refl, fuel-is) $ fjoin ! $ owned ! verb-row.the-row (Is verb-row.the-row) (verb-makes 𝓤 H A) verb _ verb-is $ fjoin ! $ owned ! machine.the-row (Is machine.the-row) (machine-makes 𝓤 H A) m _ m-is $ fjoin ! $ move ! (1 ∷ 0 ∷ []) $ fjoin ! $ move ! (1 ∷ 0 ∷ []) $ fjoin ! $ move ! (1 ∷ 0 ∷ []) $ fjoin ! $ move ! (1 ∷ 0 ∷ []) $ fjoin ! $ move ! (1 ∷ 0 ∷ []) $ fjoin ! $ move ! (1 ∷ 0 ∷ []) $ fjoin ! $
         owned ! report.the-row (Is report.the-row) (report-makes 𝓤 H A) r _ is $ move ! (1 ∷ 0 ∷ []) $ done !
 
-    module _ (𝓣 : Tables 𝓤 H) (known-tests : Triple 𝓤 (𝓣 .C #tests) (tests-con 𝓤 H A at-mem run)) (known-allows : Triple 𝓤 (𝓣 .C #allows) (allows-con 𝓤 H A at-mem run)) (known-drives : Triple 𝓤 (𝓣 .C #drives) (drives-con 𝓤 H A at-mem run)) (known-reports : Triple 𝓤 (𝓣 .C #reports) (reports-con 𝓤 H A at-mem run)) (known-refuses : Triple 𝓤 (𝓣 .C #refuses) (refuses-con 𝓤 H A at-mem run)) (l₀ l₁ l₂ l₃ l₄ l₅ l₆ l₇ l₈ l₉ l₁₀ l₁₁ l₁₂ l₁₃ l₁₄ l₁₅ l₁₆ l₁₇ l₁₈ l₁₉ l₂₀ l₂₁ l₂₂ l₂₃ l₂₄ l₂₅ l₂₆ l₂₇ l₂₈ l₂₉ l₃₀ l₃₁ l₃₂ : ℕ) where
+    module _ (𝓣 : Tables 𝓤 H) (known-tests : Triple 𝓤 (𝓣 .C #tests) (tests-con 𝓤 H A at-mem run)) (known-allows : Triple 𝓤 (𝓣 .C #allows) (allows-con 𝓤 H A at-mem run)) (known-begins : Triple 𝓤 (𝓣 .C #begins) (begins-con 𝓤 H A at-mem run)) (known-drives : Triple 𝓤 (𝓣 .C #drives) (drives-con 𝓤 H A at-mem run)) (known-reports : Triple 𝓤 (𝓣 .C #reports) (reports-con 𝓤 H A at-mem run)) (known-refuses : Triple 𝓤 (𝓣 .C #refuses) (refuses-con 𝓤 H A at-mem run)) (l₀ l₁ l₂ l₃ l₄ l₅ l₆ l₇ l₈ l₉ l₁₀ l₁₁ l₁₂ l₁₃ l₁₄ l₁₅ l₁₆ l₁₇ l₁₈ l₁₉ l₂₀ l₂₁ l₂₂ l₂₃ l₂₄ l₂₅ l₂₆ l₂₇ l₂₈ l₂₉ l₃₀ l₃₁ l₃₂ : ℕ) where
       abbrev C : Calls 𝓤 H
       C = 𝓣 .C
 
@@ -172,7 +175,7 @@ module _ {M : Type 1} (𝓤 : URA M) (H : Heap 𝓤) (A : Atoms 𝓤) (W : Given
       Λ = 𝓣 .Λ
 
       abbrev En : Env 𝓤 H
-      En = (report-ty, l₀) ∷ (sliceTy (tyRef (named 0) mut table-ty), l₁) ∷ (tyRef (named 1) mut (tyArray (tyInt w64) 1000), l₂) ∷ (sliceTy (tyRef (named 2) mut (tyInt w8)), l₃) ∷ (sliceTy (tyRef (named 3) mut (tyInt w8)), l₄) ∷ (tyRef (named 4) mut (tyArray (tyInt w32) 1024), l₅) ∷ (sliceTy (tyRef (named 5) mut (tyInt w8)), l₆) ∷ (machine-ty, l₇) ∷ (verb-ty, l₈) ∷ (tyInt w64, l₉) ∷ (tyBool, l₁₀) ∷ (allowed-ty, l₁₁) ∷ (ran-ty, l₁₂) ∷ (tyRef erased mut table-ty, l₁₃) ∷ (sliceTy (tyRef erased mut table-ty), l₁₄) ∷ (tyRef erased mut (tyInt w8), l₁₅) ∷ (sliceTy (tyRef erased mut (tyInt w8)), l₁₆) ∷ (tyRef erased mut (tyInt w8), l₁₇) ∷ (sliceTy (tyRef erased mut (tyInt w8)), l₁₈) ∷ (tyRef erased mut (tyArray (tyInt w32) 1024), l₁₉) ∷ (tyRef erased mut (tyInt w8), l₂₀) ∷ (sliceTy (tyRef erased mut (tyInt w8)), l₂₁) ∷ (tyBool, l₂₂) ∷ (tyRef erased mut table-ty, l₂₃) ∷ (sliceTy (tyRef erased mut table-ty), l₂₄) ∷ (tyRef erased mut (tyArray (tyInt w64) 1000), l₂₅) ∷ (tyRef erased mut (tyInt w8), l₂₆) ∷ (sliceTy (tyRef erased mut (tyInt w8)), l₂₇) ∷ (tyRef erased mut (tyInt w8), l₂₈) ∷ (sliceTy (tyRef erased mut (tyInt w8)), l₂₉) ∷ (tyRef erased mut (tyArray (tyInt w32) 1024), l₃₀) ∷ (tyRef erased mut (tyInt w8), l₃₁) ∷ (sliceTy (tyRef erased mut (tyInt w8)), l₃₂) ∷ []
+      En = (report-ty, l₀) ∷ (sliceTy (tyRef (named 0) mut table-ty), l₁) ∷ (tyRef (named 1) mut (tyArray (tyInt w64) 1000), l₂) ∷ (sliceTy (tyRef (named 2) mut (tyInt w8)), l₃) ∷ (sliceTy (tyRef (named 3) mut (tyInt w8)), l₄) ∷ (tyRef (named 4) mut (tyArray (tyInt w32) 1024), l₅) ∷ (sliceTy (tyRef (named 5) mut (tyInt w8)), l₆) ∷ (machine-ty, l₇) ∷ (verb-ty, l₈) ∷ (tyInt w64, l₉) ∷ (tyBool, l₁₀) ∷ (machine-ty, l₁₁) ∷ (ran-ty, l₁₂) ∷ (tyRef erased mut table-ty, l₁₃) ∷ (sliceTy (tyRef erased mut table-ty), l₁₄) ∷ (tyRef erased mut (tyInt w8), l₁₅) ∷ (sliceTy (tyRef erased mut (tyInt w8)), l₁₆) ∷ (tyRef erased mut (tyInt w8), l₁₇) ∷ (sliceTy (tyRef erased mut (tyInt w8)), l₁₈) ∷ (tyRef erased mut (tyArray (tyInt w32) 1024), l₁₉) ∷ (tyRef erased mut (tyInt w8), l₂₀) ∷ (sliceTy (tyRef erased mut (tyInt w8)), l₂₁) ∷ (tyBool, l₂₂) ∷ (tyRef erased mut table-ty, l₂₃) ∷ (sliceTy (tyRef erased mut table-ty), l₂₄) ∷ (tyRef erased mut (tyArray (tyInt w64) 1000), l₂₅) ∷ (tyRef erased mut (tyInt w8), l₂₆) ∷ (sliceTy (tyRef erased mut (tyInt w8)), l₂₇) ∷ (tyRef erased mut (tyInt w8), l₂₈) ∷ (sliceTy (tyRef erased mut (tyInt w8)), l₂₉) ∷ (tyRef erased mut (tyArray (tyInt w32) 1024), l₃₀) ∷ (tyRef erased mut (tyInt w8), l₃₁) ∷ (sliceTy (tyRef erased mut (tyInt w8)), l₃₂) ∷ []
 
       -- the locals, given up
       abbrev Bare : List (Item 𝓤)
@@ -183,13 +186,13 @@ module _ {M : Type 1} (𝓤 : URA M) (H : Heap 𝓤) (A : Atoms 𝓤) (W : Given
           freed ! $ by ! (exits r ts st me po en sv is m₀ m₂ m₃ m₅ e)
 
       -- the locals after both tests
-      abbrev With : Bool → Permission → List (Item 𝓤)
-      With good a = ‵ (froom (sliceTy (tyRef erased mut (tyInt w8))) l₃₂ 0) ∷ ‵ (fdies (sliceTy (tyRef erased mut (tyInt w8))) l₃₂) ∷ ‵ (froom (tyRef erased mut (tyInt w8)) l₃₁ 0) ∷ ‵ (fdies (tyRef erased mut (tyInt w8)) l₃₁) ∷ ‵ (froom (tyRef erased mut (tyArray (tyInt w32) 1024)) l₃₀ 0) ∷ ‵ (fdies (tyRef erased mut (tyArray (tyInt w32) 1024)) l₃₀) ∷ ‵ (froom (sliceTy (tyRef erased mut (tyInt w8))) l₂₉ 0) ∷ ‵ (fdies (sliceTy (tyRef erased mut (tyInt w8))) l₂₉) ∷ ‵ (froom (tyRef erased mut (tyInt w8)) l₂₈ 0) ∷ ‵ (fdies (tyRef erased mut (tyInt w8)) l₂₈) ∷ ‵ (froom (sliceTy (tyRef erased mut (tyInt w8))) l₂₇ 0) ∷ ‵ (fdies (sliceTy (tyRef erased mut (tyInt w8))) l₂₇) ∷ ‵ (froom (tyRef erased mut (tyInt w8)) l₂₆ 0) ∷ ‵ (fdies (tyRef erased mut (tyInt w8)) l₂₆) ∷ ‵ (froom (tyRef erased mut (tyArray (tyInt w64) 1000)) l₂₅ 0) ∷ ‵ (fdies (tyRef erased mut (tyArray (tyInt w64) 1000)) l₂₅) ∷ ‵ (froom (sliceTy (tyRef erased mut table-ty)) l₂₄ 0) ∷ ‵ (fdies (sliceTy (tyRef erased mut table-ty)) l₂₄) ∷ ‵ (froom (tyRef erased mut table-ty) l₂₃ 0) ∷ ‵ (fdies (tyRef erased mut table-ty) l₂₃) ∷ ‵ (froom tyBool l₂₂ 0) ∷ ‵ (fdies tyBool l₂₂) ∷ ‵ (froom (sliceTy (tyRef erased mut (tyInt w8))) l₂₁ 0) ∷ ‵ (fdies (sliceTy (tyRef erased mut (tyInt w8))) l₂₁) ∷ ‵ (froom (tyRef erased mut (tyInt w8)) l₂₀ 0) ∷ ‵ (fdies (tyRef erased mut (tyInt w8)) l₂₀) ∷ ‵ (froom (tyRef erased mut (tyArray (tyInt w32) 1024)) l₁₉ 0) ∷ ‵ (fdies (tyRef erased mut (tyArray (tyInt w32) 1024)) l₁₉) ∷ ‵ (froom (sliceTy (tyRef erased mut (tyInt w8))) l₁₈ 0) ∷ ‵ (fdies (sliceTy (tyRef erased mut (tyInt w8))) l₁₈) ∷ ‵ (froom (tyRef erased mut (tyInt w8)) l₁₇ 0) ∷ ‵ (fdies (tyRef erased mut (tyInt w8)) l₁₇) ∷ ‵ (froom (sliceTy (tyRef erased mut (tyInt w8))) l₁₆ 0) ∷ ‵ (fdies (sliceTy (tyRef erased mut (tyInt w8))) l₁₆) ∷ ‵ (froom (tyRef erased mut (tyInt w8)) l₁₅ 0) ∷ ‵ (fdies (tyRef erased mut (tyInt w8)) l₁₅) ∷ ‵ (froom (sliceTy (tyRef erased mut table-ty)) l₁₄ 0) ∷ ‵ (fdies (sliceTy (tyRef erased mut table-ty)) l₁₄) ∷ ‵ (froom (tyRef erased mut table-ty) l₁₃ 0) ∷ ‵ (fdies (tyRef erased mut table-ty) l₁₃) ∷ ‵ (froom ran-ty l₁₂ 0) ∷ ‵ (fdies ran-ty l₁₂) ∷ ‵ (fat fullShare allowed-ty l₁₁ 0 (allowed-val a)) ∷ ‵ (fdies allowed-ty l₁₁) ∷ ‵ (fat fullShare tyBool l₁₀ 0 (vbool good)) ∷ ‵ (fdies tyBool l₁₀) ∷ ‵ (fat fullShare (tyInt w64) l₉ 0 (vint w64 fuel)) ∷ ‵ (fdies (tyInt w64) l₉) ∷ ‵ (fat fullShare verb-ty l₈ 0 (verb-val verb)) ∷ ‵ (fdies verb-ty l₈) ∷ ‵ (fat fullShare machine-ty l₇ 0 (machine-val m)) ∷ ‵ (fdies machine-ty l₇) ∷ ‵ (fat fullShare (sliceTy (tyRef (named 5) mut (tyInt w8))) l₆ 0 (sliceVal (b₅, o₅) n₅)) ∷ ‵ (fdies (sliceTy (tyRef (named 5) mut (tyInt w8))) l₆) ∷ ‵ (fat fullShare (tyRef (named 4) mut (tyArray (tyInt w32) 1024)) l₅ 0 (vptr b₄ o₄)) ∷ ‵ (fdies (tyRef (named 4) mut (tyArray (tyInt w32) 1024)) l₅) ∷ ‵ (fat fullShare (sliceTy (tyRef (named 3) mut (tyInt w8))) l₄ 0 (sliceVal (b₃, o₃) n₃)) ∷ ‵ (fdies (sliceTy (tyRef (named 3) mut (tyInt w8))) l₄) ∷ ‵ (fat fullShare (sliceTy (tyRef (named 2) mut (tyInt w8))) l₃ 0 (sliceVal (b₂, o₂) n₂)) ∷ ‵ (fdies (sliceTy (tyRef (named 2) mut (tyInt w8))) l₃) ∷ ‵ (fat fullShare (tyRef (named 1) mut (tyArray (tyInt w64) 1000)) l₂ 0 (vptr b₁ o₁)) ∷ ‵ (fdies (tyRef (named 1) mut (tyArray (tyInt w64) 1000)) l₂) ∷ ‵ (fat fullShare (sliceTy (tyRef (named 0) mut table-ty)) l₁ 0 (sliceVal (b₀, o₀) n₀)) ∷ ‵ (fdies (sliceTy (tyRef (named 0) mut table-ty)) l₁) ∷ ‵ (froom report-ty l₀ 0) ∷ ‵ (fdies report-ty l₀) ∷ []
+      abbrev With : Bool → Bool → List (Item 𝓤)
+      With good may = ‵ (froom (sliceTy (tyRef erased mut (tyInt w8))) l₃₂ 0) ∷ ‵ (fdies (sliceTy (tyRef erased mut (tyInt w8))) l₃₂) ∷ ‵ (froom (tyRef erased mut (tyInt w8)) l₃₁ 0) ∷ ‵ (fdies (tyRef erased mut (tyInt w8)) l₃₁) ∷ ‵ (froom (tyRef erased mut (tyArray (tyInt w32) 1024)) l₃₀ 0) ∷ ‵ (fdies (tyRef erased mut (tyArray (tyInt w32) 1024)) l₃₀) ∷ ‵ (froom (sliceTy (tyRef erased mut (tyInt w8))) l₂₉ 0) ∷ ‵ (fdies (sliceTy (tyRef erased mut (tyInt w8))) l₂₉) ∷ ‵ (froom (tyRef erased mut (tyInt w8)) l₂₈ 0) ∷ ‵ (fdies (tyRef erased mut (tyInt w8)) l₂₈) ∷ ‵ (froom (sliceTy (tyRef erased mut (tyInt w8))) l₂₇ 0) ∷ ‵ (fdies (sliceTy (tyRef erased mut (tyInt w8))) l₂₇) ∷ ‵ (froom (tyRef erased mut (tyInt w8)) l₂₆ 0) ∷ ‵ (fdies (tyRef erased mut (tyInt w8)) l₂₆) ∷ ‵ (froom (tyRef erased mut (tyArray (tyInt w64) 1000)) l₂₅ 0) ∷ ‵ (fdies (tyRef erased mut (tyArray (tyInt w64) 1000)) l₂₅) ∷ ‵ (froom (sliceTy (tyRef erased mut table-ty)) l₂₄ 0) ∷ ‵ (fdies (sliceTy (tyRef erased mut table-ty)) l₂₄) ∷ ‵ (froom (tyRef erased mut table-ty) l₂₃ 0) ∷ ‵ (fdies (tyRef erased mut table-ty) l₂₃) ∷ ‵ (fat fullShare tyBool l₂₂ 0 (vbool may)) ∷ ‵ (fdies tyBool l₂₂) ∷ ‵ (froom (sliceTy (tyRef erased mut (tyInt w8))) l₂₁ 0) ∷ ‵ (fdies (sliceTy (tyRef erased mut (tyInt w8))) l₂₁) ∷ ‵ (froom (tyRef erased mut (tyInt w8)) l₂₀ 0) ∷ ‵ (fdies (tyRef erased mut (tyInt w8)) l₂₀) ∷ ‵ (froom (tyRef erased mut (tyArray (tyInt w32) 1024)) l₁₉ 0) ∷ ‵ (fdies (tyRef erased mut (tyArray (tyInt w32) 1024)) l₁₉) ∷ ‵ (froom (sliceTy (tyRef erased mut (tyInt w8))) l₁₈ 0) ∷ ‵ (fdies (sliceTy (tyRef erased mut (tyInt w8))) l₁₈) ∷ ‵ (froom (tyRef erased mut (tyInt w8)) l₁₇ 0) ∷ ‵ (fdies (tyRef erased mut (tyInt w8)) l₁₇) ∷ ‵ (froom (sliceTy (tyRef erased mut (tyInt w8))) l₁₆ 0) ∷ ‵ (fdies (sliceTy (tyRef erased mut (tyInt w8))) l₁₆) ∷ ‵ (froom (tyRef erased mut (tyInt w8)) l₁₅ 0) ∷ ‵ (fdies (tyRef erased mut (tyInt w8)) l₁₅) ∷ ‵ (froom (sliceTy (tyRef erased mut table-ty)) l₁₄ 0) ∷ ‵ (fdies (sliceTy (tyRef erased mut table-ty)) l₁₄) ∷ ‵ (froom (tyRef erased mut table-ty) l₁₃ 0) ∷ ‵ (fdies (tyRef erased mut table-ty) l₁₃) ∷ ‵ (froom ran-ty l₁₂ 0) ∷ ‵ (fdies ran-ty l₁₂) ∷ ‵ (froom machine-ty l₁₁ 0) ∷ ‵ (fdies machine-ty l₁₁) ∷ ‵ (fat fullShare tyBool l₁₀ 0 (vbool good)) ∷ ‵ (fdies tyBool l₁₀) ∷ ‵ (fat fullShare (tyInt w64) l₉ 0 (vint w64 fuel)) ∷ ‵ (fdies (tyInt w64) l₉) ∷ ‵ (fat fullShare verb-ty l₈ 0 (verb-val verb)) ∷ ‵ (fdies verb-ty l₈) ∷ ‵ (fat fullShare machine-ty l₇ 0 (machine-val m)) ∷ ‵ (fdies machine-ty l₇) ∷ ‵ (fat fullShare (sliceTy (tyRef (named 5) mut (tyInt w8))) l₆ 0 (sliceVal (b₅, o₅) n₅)) ∷ ‵ (fdies (sliceTy (tyRef (named 5) mut (tyInt w8))) l₆) ∷ ‵ (fat fullShare (tyRef (named 4) mut (tyArray (tyInt w32) 1024)) l₅ 0 (vptr b₄ o₄)) ∷ ‵ (fdies (tyRef (named 4) mut (tyArray (tyInt w32) 1024)) l₅) ∷ ‵ (fat fullShare (sliceTy (tyRef (named 3) mut (tyInt w8))) l₄ 0 (sliceVal (b₃, o₃) n₃)) ∷ ‵ (fdies (sliceTy (tyRef (named 3) mut (tyInt w8))) l₄) ∷ ‵ (fat fullShare (sliceTy (tyRef (named 2) mut (tyInt w8))) l₃ 0 (sliceVal (b₂, o₂) n₂)) ∷ ‵ (fdies (sliceTy (tyRef (named 2) mut (tyInt w8))) l₃) ∷ ‵ (fat fullShare (tyRef (named 1) mut (tyArray (tyInt w64) 1000)) l₂ 0 (vptr b₁ o₁)) ∷ ‵ (fdies (tyRef (named 1) mut (tyArray (tyInt w64) 1000)) l₂) ∷ ‵ (fat fullShare (sliceTy (tyRef (named 0) mut table-ty)) l₁ 0 (sliceVal (b₀, o₀) n₀)) ∷ ‵ (fdies (sliceTy (tyRef (named 0) mut table-ty)) l₁) ∷ ‵ (froom report-ty l₀ 0) ∷ ‵ (fdies report-ty l₀) ∷ []
 
       -- a call that is not allowed
-      goes-not : (good : Bool) (a : Permission) (ts : List Task) (me po en sv : List ℕ) → Is allowed.the-row a (allowed-vals a) → length ts ≡ n₀ → length me ≡ n₂ → length po ≡ n₃ → length sv ≡ n₅ → tested good ts me po en sv ≡ tested (sound-world x₀ x₂ x₃ x₄ x₅ m) x₀ x₂ x₃ x₄ x₅ → a ≡ allowed-of m good verb → a .allowed ≡ false
-          → Sq W (Has ts x₁ me po en sv (‵ (froom (sliceTy (tyRef erased mut (tyInt w8))) l₃₂ 0) ∷ ‵ (fdies (sliceTy (tyRef erased mut (tyInt w8))) l₃₂) ∷ ‵ (froom (tyRef erased mut (tyInt w8)) l₃₁ 0) ∷ ‵ (fdies (tyRef erased mut (tyInt w8)) l₃₁) ∷ ‵ (froom (tyRef erased mut (tyArray (tyInt w32) 1024)) l₃₀ 0) ∷ ‵ (fdies (tyRef erased mut (tyArray (tyInt w32) 1024)) l₃₀) ∷ ‵ (froom (sliceTy (tyRef erased mut (tyInt w8))) l₂₉ 0) ∷ ‵ (fdies (sliceTy (tyRef erased mut (tyInt w8))) l₂₉) ∷ ‵ (froom (tyRef erased mut (tyInt w8)) l₂₈ 0) ∷ ‵ (fdies (tyRef erased mut (tyInt w8)) l₂₈) ∷ ‵ (froom (sliceTy (tyRef erased mut (tyInt w8))) l₂₇ 0) ∷ ‵ (fdies (sliceTy (tyRef erased mut (tyInt w8))) l₂₇) ∷ ‵ (froom (tyRef erased mut (tyInt w8)) l₂₆ 0) ∷ ‵ (fdies (tyRef erased mut (tyInt w8)) l₂₆) ∷ ‵ (froom (tyRef erased mut (tyArray (tyInt w64) 1000)) l₂₅ 0) ∷ ‵ (fdies (tyRef erased mut (tyArray (tyInt w64) 1000)) l₂₅) ∷ ‵ (froom (sliceTy (tyRef erased mut table-ty)) l₂₄ 0) ∷ ‵ (fdies (sliceTy (tyRef erased mut table-ty)) l₂₄) ∷ ‵ (froom (tyRef erased mut table-ty) l₂₃ 0) ∷ ‵ (fdies (tyRef erased mut table-ty) l₂₃) ∷ ‵ (fat fullShare tyBool l₂₂ 0 (vbool (a .allowed))) ∷ ‵ (fdies tyBool l₂₂) ∷ ‵ (froom (sliceTy (tyRef erased mut (tyInt w8))) l₂₁ 0) ∷ ‵ (fdies (sliceTy (tyRef erased mut (tyInt w8))) l₂₁) ∷ ‵ (froom (tyRef erased mut (tyInt w8)) l₂₀ 0) ∷ ‵ (fdies (tyRef erased mut (tyInt w8)) l₂₀) ∷ ‵ (froom (tyRef erased mut (tyArray (tyInt w32) 1024)) l₁₉ 0) ∷ ‵ (fdies (tyRef erased mut (tyArray (tyInt w32) 1024)) l₁₉) ∷ ‵ (froom (sliceTy (tyRef erased mut (tyInt w8))) l₁₈ 0) ∷ ‵ (fdies (sliceTy (tyRef erased mut (tyInt w8))) l₁₈) ∷ ‵ (froom (tyRef erased mut (tyInt w8)) l₁₇ 0) ∷ ‵ (fdies (tyRef erased mut (tyInt w8)) l₁₇) ∷ ‵ (froom (sliceTy (tyRef erased mut (tyInt w8))) l₁₆ 0) ∷ ‵ (fdies (sliceTy (tyRef erased mut (tyInt w8))) l₁₆) ∷ ‵ (froom (tyRef erased mut (tyInt w8)) l₁₅ 0) ∷ ‵ (fdies (tyRef erased mut (tyInt w8)) l₁₅) ∷ ‵ (froom (sliceTy (tyRef erased mut table-ty)) l₁₄ 0) ∷ ‵ (fdies (sliceTy (tyRef erased mut table-ty)) l₁₄) ∷ ‵ (froom (tyRef erased mut table-ty) l₁₃ 0) ∷ ‵ (fdies (tyRef erased mut table-ty) l₁₃) ∷ ‵ (froom ran-ty l₁₂ 0) ∷ ‵ (fdies ran-ty l₁₂) ∷ ‵ (fat fullShare allowed-ty l₁₁ 0 (allowed-val a)) ∷ ‵ (fdies allowed-ty l₁₁) ∷ ‵ (fat fullShare tyBool l₁₀ 0 (vbool good)) ∷ ‵ (fdies tyBool l₁₀) ∷ ‵ (fat fullShare (tyInt w64) l₉ 0 (vint w64 fuel)) ∷ ‵ (fdies (tyInt w64) l₉) ∷ ‵ (fat fullShare verb-ty l₈ 0 (verb-val verb)) ∷ ‵ (fdies verb-ty l₈) ∷ ‵ (fat fullShare machine-ty l₇ 0 (machine-val m)) ∷ ‵ (fdies machine-ty l₇) ∷ ‵ (fat fullShare (sliceTy (tyRef (named 5) mut (tyInt w8))) l₆ 0 (sliceVal (b₅, o₅) n₅)) ∷ ‵ (fdies (sliceTy (tyRef (named 5) mut (tyInt w8))) l₆) ∷ ‵ (fat fullShare (tyRef (named 4) mut (tyArray (tyInt w32) 1024)) l₅ 0 (vptr b₄ o₄)) ∷ ‵ (fdies (tyRef (named 4) mut (tyArray (tyInt w32) 1024)) l₅) ∷ ‵ (fat fullShare (sliceTy (tyRef (named 3) mut (tyInt w8))) l₄ 0 (sliceVal (b₃, o₃) n₃)) ∷ ‵ (fdies (sliceTy (tyRef (named 3) mut (tyInt w8))) l₄) ∷ ‵ (fat fullShare (sliceTy (tyRef (named 2) mut (tyInt w8))) l₃ 0 (sliceVal (b₂, o₂) n₂)) ∷ ‵ (fdies (sliceTy (tyRef (named 2) mut (tyInt w8))) l₃) ∷ ‵ (fat fullShare (tyRef (named 1) mut (tyArray (tyInt w64) 1000)) l₂ 0 (vptr b₁ o₁)) ∷ ‵ (fdies (tyRef (named 1) mut (tyArray (tyInt w64) 1000)) l₂) ∷ ‵ (fat fullShare (sliceTy (tyRef (named 0) mut table-ty)) l₁ 0 (sliceVal (b₀, o₀) n₀)) ∷ ‵ (fdies (sliceTy (tyRef (named 0) mut table-ty)) l₁) ∷ ‵ (froom report-ty l₀ 0) ∷ ‵ (fdies report-ty l₀) ∷ [])) (runs C Λ En mir.t-14 (atRet En Post))
-      goes-not good a ts me po en sv is m₀ m₂ m₃ m₅ e begun may =
+      goes-not : (good may : Bool) (ts : List Task) (me po en sv : List ℕ) → length ts ≡ n₀ → length me ≡ n₂ → length po ≡ n₃ → length sv ≡ n₅ → tested good ts me po en sv ≡ tested (sound-world x₀ x₂ x₃ x₄ x₅ m) x₀ x₂ x₃ x₄ x₅
+          → may ≡ allowed-of m good verb .allowed → may ≡ false → Sq W (Has ts x₁ me po en sv (With good may)) (runs C Λ En mir.t-13 (atRet En Post))
+      goes-not good may ts me po en sv m₀ m₂ m₃ m₅ e asks denied =
           nothing ! $ nothing ! $
           lent 0 [] tt (machine.the-row ∷ []) report.the-row 𝓤 (refuses.clauses 𝓤 H A at-mem run) tt (m, tt) (machine-val m ∷ [], tt) ! (fmOf 𝓤 H (W .laws) 𝓣) known-refuses
           tt tt (machine-makes 𝓤 H A m _ m-is, tt) (λ αs δs. tt) (λ αs δs. id⊢ 𝓤 (emp 𝓤))
@@ -197,15 +200,20 @@ module _ {M : Type 1} (𝓤 : URA M) (H : Heap 𝓤) (A : Atoms 𝓤) (W : Given
           (λ αs δs w₁ r₁ z₁ f₁. heard ! (r₁ ≡ not-allowed m) (λ e₁. landed-by ! report.the-row report-vals report-tells r₁ w₁ (λ is₁.
           drop ! $ drop ! $ land ! (from ! (stop !)) (init ! 66 refl (report-typed 𝓤 H A W r₁ is₁)) $
           returns ! (look ! 66 refl) $ emptied ! refl $
-          ends r₁ ts x₁ me po en sv is₁ m₀ m₂ m₃ m₅ (calls-none m x₀ x₁ x₂ x₃ x₄ x₅ e verb fuel begun may e₁))))
+          ends r₁ ts x₁ me po en sv is₁ m₀ m₂ m₃ m₅ (calls-none m x₀ x₁ x₂ x₃ x₄ x₅ e verb fuel asks denied e₁))))
 
       -- the run, where it is allowed
-      goes-or-not : (good : Bool) (a : Permission) (ts : List Task) (me po en sv : List ℕ) → Is allowed.the-row a (allowed-vals a) → length ts ≡ n₀ → length me ≡ n₂ → length po ≡ n₃ → length sv ≡ n₅ → tested good ts me po en sv ≡ tested (sound-world x₀ x₂ x₃ x₄ x₅ m) x₀ x₂ x₃ x₄ x₅ → a ≡ allowed-of m good verb
-          → Sq W (Has ts x₁ me po en sv (With good a)) (runs C Λ En mir.t-12 (atRet En Post))
-      goes-or-not good a ts me po en sv is m₀ m₂ m₃ m₅ e begun =
-          assigns ! (of-opd ! (take-allowed ! 11 44 a refl refl)) (from ! (stop !)) (init ! 22 refl (tt, tt)) $
+      goes-or-not : (good may : Bool) (ts : List Task) (me po en sv : List ℕ) → length ts ≡ n₀ → length me ≡ n₂ → length po ≡ n₃ → length sv ≡ n₅ → tested good ts me po en sv ≡ tested (sound-world x₀ x₂ x₃ x₄ x₅ m) x₀ x₂ x₃ x₄ x₅
+          → may ≡ allowed-of m good verb .allowed → Sq W (Has ts x₁ me po en sv (With good may)) (runs C Λ En mir.t-12 (atRet En Post))
+      goes-or-not good may ts me po en sv m₀ m₂ m₃ m₅ e asks =
           first ! $ branches ! (load ! (from ! (stop !)) (look ! 22 refl))
-          (λ yes.
+          (λ granted.
+          nothing ! $ nothing ! $
+          lent 0 [] tt (machine.the-row ∷ verb-row.the-row ∷ []) machine.the-row 𝓤 (begins.clauses 𝓤 H A at-mem run) tt (m, (verb, tt)) (machine-val m ∷ [], (verb-val verb ∷ [], tt)) ! (fmOf 𝓤 H (W .laws) 𝓣) known-begins
+          tt tt (machine-makes 𝓤 H A m _ m-is, (verb-makes 𝓤 H A verb _ verb-is, tt)) (λ αs δs. tt) (λ αs δs. id⊢ 𝓤 (emp 𝓤))
+          (λ αs δs. (and-then ! (load ! (from ! (stop !)) (look ! 54 refl)) (and-then ! (load ! (from ! (stop !)) (look ! 52 refl)) (no-more !))))
+          (λ αs δs w₀ r₀ z₀ f₀. heard ! (r₀ ≡ begun-of verb m) (λ e₀. landed-by ! machine.the-row machine-vals machine-tells r₀ w₀ (λ is₀.
+          drop ! $ drop ! $ land ! (from ! (stop !)) (init ! 44 refl (machine-typed 𝓤 H A W r₀ is₀)) $
           assigns ! (addr ! (from ! (fld ! refl (hop ! (look-in ! 64 (sub ! 0 refl (whole !))) (stop !))))) (from ! (stop !)) (init ! 20 refl (tt, tt)) $
           assigns ! (agg ! (and-then ! (load ! (from ! (stop !)) (look ! 20 refl)) (and-then ! (load ! (from ! (fld ! refl (stop !))) (look-in ! 64 (sub ! 1 refl (whole !)))) (no-more !)))) (from ! (stop !)) (init ! 18 refl (tt, (tt, (record { fits = g₀ .0 }, tt)))) $
           assigns ! (addr ! (from ! (hop ! (look ! 62 refl) (stop !)))) (from ! (stop !)) (init ! 16 refl (tt, tt)) $
@@ -216,10 +224,10 @@ module _ {M : Type 1} (𝓤 : URA M) (H : Heap 𝓤) (A : Atoms 𝓤) (W : Given
           assigns ! (addr ! (from ! (hop ! (look ! 56 refl) (stop !)))) (from ! (stop !)) (init ! 6 refl (tt, tt)) $
           assigns ! (addr ! (from ! (fld ! refl (hop ! (look-in ! 54 (sub ! 0 refl (whole !))) (stop !))))) (from ! (stop !)) (init ! 4 refl (tt, tt)) $
           assigns ! (agg ! (and-then ! (load ! (from ! (stop !)) (look ! 4 refl)) (and-then ! (load ! (from ! (fld ! refl (stop !))) (look-in ! 54 (sub ! 1 refl (whole !)))) (no-more !)))) (from ! (stop !)) (init ! 2 refl (tt, (tt, (record { fits = g₅ .0 }, tt)))) $
-          lent 6 All (tt, (tt, (tt, (tt, (tt, (tt, tt)))))) (machine.the-row ∷ u64 ∷ []) ran.the-row 𝓤 (drives.clauses 𝓤 H A at-mem run) (ts, (x₁, (me, (po, (en, (sv, tt)))))) (a .machine, (fuel, tt)) (machine-val (a .machine) ∷ [], (vint w64 fuel ∷ [], tt)) ! (fmOf 𝓤 H (W .laws) 𝓣) known-drives
-          (g₀, (tt, (g₂, (g₃, (tt, (g₅, tt)))))) (m₀, (tt, (m₂, (m₃, (tt, (m₅, tt)))))) (machine-makes 𝓤 H A (a .machine) _ (begun-is a is), (uint-makes 𝓤 H A W w64 fuel _ (refl, fuel-is), tt)) (λ αs δs. tt) (λ αs δs. id⊢ 𝓤 (emp 𝓤))
-          (λ αs δs. (and-then ! (load ! (from ! (stop !)) (look ! 18 refl)) (and-then ! (load ! (from ! (stop !)) (look ! 16 refl)) (and-then ! (load ! (from ! (stop !)) (look ! 12 refl)) (and-then ! (load ! (from ! (stop !)) (look ! 8 refl)) (and-then ! (load ! (from ! (stop !)) (look ! 6 refl)) (and-then ! (load ! (from ! (stop !)) (look ! 2 refl)) (and-then ! (take-begun ! 11 44 a refl refl) (and-then ! (load ! (from ! (stop !)) (look ! 48 refl)) (no-more !))))))))))
-          (λ αs δs w₁ r₁ z₁ f₁. heard ! (ran-to r₁ (z₁ .0) (z₁ .1 .0) (z₁ .1 .1 .0) (z₁ .1 .1 .1 .0) (z₁ .1 .1 .1 .1 .0) (z₁ .1 .1 .1 .1 .1 .0) ≡ run-of fuel (world (a .machine) ts x₁ me po en sv)) (λ e₁. landed-by ! ran.the-row ran-vals ran-tells r₁ w₁ (λ is₁.
+          lent 6 All (tt, (tt, (tt, (tt, (tt, (tt, tt)))))) (machine.the-row ∷ u64 ∷ []) ran.the-row 𝓤 (drives.clauses 𝓤 H A at-mem run) (ts, (x₁, (me, (po, (en, (sv, tt)))))) (r₀, (fuel, tt)) (machine-val r₀ ∷ [], (vint w64 fuel ∷ [], tt)) ! (fmOf 𝓤 H (W .laws) 𝓣) known-drives
+          (g₀, (tt, (g₂, (g₃, (tt, (g₅, tt)))))) (m₀, (tt, (m₂, (m₃, (tt, (m₅, tt)))))) (machine-makes 𝓤 H A r₀ _ is₀, (uint-makes 𝓤 H A W w64 fuel _ (refl, fuel-is), tt)) (λ αs δs. tt) (λ αs δs. id⊢ 𝓤 (emp 𝓤))
+          (λ αs δs. (and-then ! (load ! (from ! (stop !)) (look ! 18 refl)) (and-then ! (load ! (from ! (stop !)) (look ! 16 refl)) (and-then ! (load ! (from ! (stop !)) (look ! 12 refl)) (and-then ! (load ! (from ! (stop !)) (look ! 8 refl)) (and-then ! (load ! (from ! (stop !)) (look ! 6 refl)) (and-then ! (load ! (from ! (stop !)) (look ! 2 refl)) (and-then ! (load ! (from ! (stop !)) (look ! 44 refl)) (and-then ! (load ! (from ! (stop !)) (look ! 48 refl)) (no-more !))))))))))
+          (λ αs δs w₁ r₁ z₁ f₁. heard ! (ran-to r₁ (z₁ .0) (z₁ .1 .0) (z₁ .1 .1 .0) (z₁ .1 .1 .1 .0) (z₁ .1 .1 .1 .1 .0) (z₁ .1 .1 .1 .1 .1 .0) ≡ run-of fuel (world r₀ ts x₁ me po en sv)) (λ e₁. landed-by ! ran.the-row ran-vals ran-tells r₁ w₁ (λ is₁.
           land ! (from ! (stop !)) (init ! 42 refl (ran-typed 𝓤 H A W r₁ is₁)) $
           nothing ! $ nothing ! $
           lent 0 [] tt (u64 ∷ ran.the-row ∷ []) report.the-row 𝓤 (reports.clauses 𝓤 H A at-mem run) tt (fuel, (r₁, tt)) (vint w64 fuel ∷ [], (ran-val r₁ ∷ [], tt)) ! (fmOf 𝓤 H (W .laws) 𝓣) known-reports
@@ -228,22 +236,22 @@ module _ {M : Type 1} (𝓤 : URA M) (H : Heap 𝓤) (A : Atoms 𝓤) (W : Given
           (λ αs δs w₂ r₂ z₂ f₂. heard ! (r₂ ≡ report-of fuel r₁) (λ e₂. landed-by ! report.the-row report-vals report-tells r₂ w₂ (λ is₂.
           drop ! $ drop ! $ land ! (from ! (stop !)) (init ! 66 refl (report-typed 𝓤 H A W r₂ is₂)) $
           returns-within ! Post refl (look ! 66 refl) $ forget ! 2 refl $ forget ! 4 refl $ forget ! 6 refl $ forget ! 8 refl $ forget ! 10 refl $ forget ! 12 refl $ forget ! 14 refl $ forget ! 16 refl $ forget ! 18 refl $ forget ! 20 refl $ forget ! 22 refl $ forget ! 42 refl $ forget ! 44 refl $ forget ! 46 refl $ forget ! 48 refl $ forget ! 50 refl $ forget ! 52 refl $ forget ! 54 refl $ forget ! 56 refl $ forget ! 58 refl $ forget ! 60 refl $ forget ! 62 refl $ forget ! 64 refl $ forget ! 66 refl $
-          ends r₂ (z₁ .0) (z₁ .1 .0) (z₁ .1 .1 .0) (z₁ .1 .1 .1 .0) (z₁ .1 .1 .1 .1 .0) (z₁ .1 .1 .1 .1 .1 .0) is₂ (f₁ .0) (f₁ .1 .1 .0) (f₁ .1 .1 .1 .0) (f₁ .1 .1 .1 .1 .1 .0) (calls-run m x₀ x₁ x₂ x₃ x₄ x₅ e verb fuel begun (is-true (a .allowed) yes) e₁ e₂))))))))
-          (λ no. skips ! $ exec ! C Λ En mir.t-14 (atRet En Post) $ goes-not good a ts me po en sv is m₀ m₂ m₃ m₅ e begun (is-false (a .allowed) no))
+          ends r₂ (z₁ .0) (z₁ .1 .0) (z₁ .1 .1 .0) (z₁ .1 .1 .1 .0) (z₁ .1 .1 .1 .1 .0) (z₁ .1 .1 .1 .1 .1 .0) is₂ (f₁ .0) (f₁ .1 .1 .0) (f₁ .1 .1 .1 .0) (f₁ .1 .1 .1 .1 .1 .0) (calls-run m x₀ x₁ x₂ x₃ x₄ x₅ e verb fuel asks (is-true may granted) e₀ e₁ e₂)))))))))))
+          (λ denied. skips ! $ exec ! C Λ En mir.t-13 (atRet En Post) $ goes-not good may ts me po en sv m₀ m₂ m₃ m₅ e asks (is-false may denied))
 
-      -- what the call begins with
+      -- whether the call is allowed
       allows-or-not : (good : Bool) (ts : List Task) (me po en sv : List ℕ) → length ts ≡ n₀ → length me ≡ n₂ → length po ≡ n₃ → length sv ≡ n₅ → tested good ts me po en sv ≡ tested (sound-world x₀ x₂ x₃ x₄ x₅ m) x₀ x₂ x₃ x₄ x₅
-          → Sq W (Has ts x₁ me po en sv (‵ (froom (sliceTy (tyRef erased mut (tyInt w8))) l₃₂ 0) ∷ ‵ (fdies (sliceTy (tyRef erased mut (tyInt w8))) l₃₂) ∷ ‵ (froom (tyRef erased mut (tyInt w8)) l₃₁ 0) ∷ ‵ (fdies (tyRef erased mut (tyInt w8)) l₃₁) ∷ ‵ (froom (tyRef erased mut (tyArray (tyInt w32) 1024)) l₃₀ 0) ∷ ‵ (fdies (tyRef erased mut (tyArray (tyInt w32) 1024)) l₃₀) ∷ ‵ (froom (sliceTy (tyRef erased mut (tyInt w8))) l₂₉ 0) ∷ ‵ (fdies (sliceTy (tyRef erased mut (tyInt w8))) l₂₉) ∷ ‵ (froom (tyRef erased mut (tyInt w8)) l₂₈ 0) ∷ ‵ (fdies (tyRef erased mut (tyInt w8)) l₂₈) ∷ ‵ (froom (sliceTy (tyRef erased mut (tyInt w8))) l₂₇ 0) ∷ ‵ (fdies (sliceTy (tyRef erased mut (tyInt w8))) l₂₇) ∷ ‵ (froom (tyRef erased mut (tyInt w8)) l₂₆ 0) ∷ ‵ (fdies (tyRef erased mut (tyInt w8)) l₂₆) ∷ ‵ (froom (tyRef erased mut (tyArray (tyInt w64) 1000)) l₂₅ 0) ∷ ‵ (fdies (tyRef erased mut (tyArray (tyInt w64) 1000)) l₂₅) ∷ ‵ (froom (sliceTy (tyRef erased mut table-ty)) l₂₄ 0) ∷ ‵ (fdies (sliceTy (tyRef erased mut table-ty)) l₂₄) ∷ ‵ (froom (tyRef erased mut table-ty) l₂₃ 0) ∷ ‵ (fdies (tyRef erased mut table-ty) l₂₃) ∷ ‵ (froom tyBool l₂₂ 0) ∷ ‵ (fdies tyBool l₂₂) ∷ ‵ (froom (sliceTy (tyRef erased mut (tyInt w8))) l₂₁ 0) ∷ ‵ (fdies (sliceTy (tyRef erased mut (tyInt w8))) l₂₁) ∷ ‵ (froom (tyRef erased mut (tyInt w8)) l₂₀ 0) ∷ ‵ (fdies (tyRef erased mut (tyInt w8)) l₂₀) ∷ ‵ (froom (tyRef erased mut (tyArray (tyInt w32) 1024)) l₁₉ 0) ∷ ‵ (fdies (tyRef erased mut (tyArray (tyInt w32) 1024)) l₁₉) ∷ ‵ (froom (sliceTy (tyRef erased mut (tyInt w8))) l₁₈ 0) ∷ ‵ (fdies (sliceTy (tyRef erased mut (tyInt w8))) l₁₈) ∷ ‵ (froom (tyRef erased mut (tyInt w8)) l₁₇ 0) ∷ ‵ (fdies (tyRef erased mut (tyInt w8)) l₁₇) ∷ ‵ (froom (sliceTy (tyRef erased mut (tyInt w8))) l₁₆ 0) ∷ ‵ (fdies (sliceTy (tyRef erased mut (tyInt w8))) l₁₆) ∷ ‵ (froom (tyRef erased mut (tyInt w8)) l₁₅ 0) ∷ ‵ (fdies (tyRef erased mut (tyInt w8)) l₁₅) ∷ ‵ (froom (sliceTy (tyRef erased mut table-ty)) l₁₄ 0) ∷ ‵ (fdies (sliceTy (tyRef erased mut table-ty)) l₁₄) ∷ ‵ (froom (tyRef erased mut table-ty) l₁₃ 0) ∷ ‵ (fdies (tyRef erased mut table-ty) l₁₃) ∷ ‵ (froom ran-ty l₁₂ 0) ∷ ‵ (fdies ran-ty l₁₂) ∷ ‵ (froom allowed-ty l₁₁ 0) ∷ ‵ (fdies allowed-ty l₁₁) ∷ ‵ (fat fullShare tyBool l₁₀ 0 (vbool good)) ∷ ‵ (fdies tyBool l₁₀) ∷ ‵ (fat fullShare (tyInt w64) l₉ 0 (vint w64 fuel)) ∷ ‵ (fdies (tyInt w64) l₉) ∷ ‵ (fat fullShare verb-ty l₈ 0 (verb-val verb)) ∷ ‵ (fdies verb-ty l₈) ∷ ‵ (fat fullShare machine-ty l₇ 0 (machine-val m)) ∷ ‵ (fdies machine-ty l₇) ∷ ‵ (fat fullShare (sliceTy (tyRef (named 5) mut (tyInt w8))) l₆ 0 (sliceVal (b₅, o₅) n₅)) ∷ ‵ (fdies (sliceTy (tyRef (named 5) mut (tyInt w8))) l₆) ∷ ‵ (fat fullShare (tyRef (named 4) mut (tyArray (tyInt w32) 1024)) l₅ 0 (vptr b₄ o₄)) ∷ ‵ (fdies (tyRef (named 4) mut (tyArray (tyInt w32) 1024)) l₅) ∷ ‵ (fat fullShare (sliceTy (tyRef (named 3) mut (tyInt w8))) l₄ 0 (sliceVal (b₃, o₃) n₃)) ∷ ‵ (fdies (sliceTy (tyRef (named 3) mut (tyInt w8))) l₄) ∷ ‵ (fat fullShare (sliceTy (tyRef (named 2) mut (tyInt w8))) l₃ 0 (sliceVal (b₂, o₂) n₂)) ∷ ‵ (fdies (sliceTy (tyRef (named 2) mut (tyInt w8))) l₃) ∷ ‵ (fat fullShare (tyRef (named 1) mut (tyArray (tyInt w64) 1000)) l₂ 0 (vptr b₁ o₁)) ∷ ‵ (fdies (tyRef (named 1) mut (tyArray (tyInt w64) 1000)) l₂) ∷ ‵ (fat fullShare (sliceTy (tyRef (named 0) mut table-ty)) l₁ 0 (sliceVal (b₀, o₀) n₀)) ∷ ‵ (fdies (sliceTy (tyRef (named 0) mut table-ty)) l₁) ∷ ‵ (froom report-ty l₀ 0) ∷ ‵ (fdies report-ty l₀) ∷ [])) (runs C Λ En mir.t-11 (atRet En Post))
+          → Sq W (Has ts x₁ me po en sv (‵ (froom (sliceTy (tyRef erased mut (tyInt w8))) l₃₂ 0) ∷ ‵ (fdies (sliceTy (tyRef erased mut (tyInt w8))) l₃₂) ∷ ‵ (froom (tyRef erased mut (tyInt w8)) l₃₁ 0) ∷ ‵ (fdies (tyRef erased mut (tyInt w8)) l₃₁) ∷ ‵ (froom (tyRef erased mut (tyArray (tyInt w32) 1024)) l₃₀ 0) ∷ ‵ (fdies (tyRef erased mut (tyArray (tyInt w32) 1024)) l₃₀) ∷ ‵ (froom (sliceTy (tyRef erased mut (tyInt w8))) l₂₉ 0) ∷ ‵ (fdies (sliceTy (tyRef erased mut (tyInt w8))) l₂₉) ∷ ‵ (froom (tyRef erased mut (tyInt w8)) l₂₈ 0) ∷ ‵ (fdies (tyRef erased mut (tyInt w8)) l₂₈) ∷ ‵ (froom (sliceTy (tyRef erased mut (tyInt w8))) l₂₇ 0) ∷ ‵ (fdies (sliceTy (tyRef erased mut (tyInt w8))) l₂₇) ∷ ‵ (froom (tyRef erased mut (tyInt w8)) l₂₆ 0) ∷ ‵ (fdies (tyRef erased mut (tyInt w8)) l₂₆) ∷ ‵ (froom (tyRef erased mut (tyArray (tyInt w64) 1000)) l₂₅ 0) ∷ ‵ (fdies (tyRef erased mut (tyArray (tyInt w64) 1000)) l₂₅) ∷ ‵ (froom (sliceTy (tyRef erased mut table-ty)) l₂₄ 0) ∷ ‵ (fdies (sliceTy (tyRef erased mut table-ty)) l₂₄) ∷ ‵ (froom (tyRef erased mut table-ty) l₂₃ 0) ∷ ‵ (fdies (tyRef erased mut table-ty) l₂₃) ∷ ‵ (froom tyBool l₂₂ 0) ∷ ‵ (fdies tyBool l₂₂) ∷ ‵ (froom (sliceTy (tyRef erased mut (tyInt w8))) l₂₁ 0) ∷ ‵ (fdies (sliceTy (tyRef erased mut (tyInt w8))) l₂₁) ∷ ‵ (froom (tyRef erased mut (tyInt w8)) l₂₀ 0) ∷ ‵ (fdies (tyRef erased mut (tyInt w8)) l₂₀) ∷ ‵ (froom (tyRef erased mut (tyArray (tyInt w32) 1024)) l₁₉ 0) ∷ ‵ (fdies (tyRef erased mut (tyArray (tyInt w32) 1024)) l₁₉) ∷ ‵ (froom (sliceTy (tyRef erased mut (tyInt w8))) l₁₈ 0) ∷ ‵ (fdies (sliceTy (tyRef erased mut (tyInt w8))) l₁₈) ∷ ‵ (froom (tyRef erased mut (tyInt w8)) l₁₇ 0) ∷ ‵ (fdies (tyRef erased mut (tyInt w8)) l₁₇) ∷ ‵ (froom (sliceTy (tyRef erased mut (tyInt w8))) l₁₆ 0) ∷ ‵ (fdies (sliceTy (tyRef erased mut (tyInt w8))) l₁₆) ∷ ‵ (froom (tyRef erased mut (tyInt w8)) l₁₅ 0) ∷ ‵ (fdies (tyRef erased mut (tyInt w8)) l₁₅) ∷ ‵ (froom (sliceTy (tyRef erased mut table-ty)) l₁₄ 0) ∷ ‵ (fdies (sliceTy (tyRef erased mut table-ty)) l₁₄) ∷ ‵ (froom (tyRef erased mut table-ty) l₁₃ 0) ∷ ‵ (fdies (tyRef erased mut table-ty) l₁₃) ∷ ‵ (froom ran-ty l₁₂ 0) ∷ ‵ (fdies ran-ty l₁₂) ∷ ‵ (froom machine-ty l₁₁ 0) ∷ ‵ (fdies machine-ty l₁₁) ∷ ‵ (fat fullShare tyBool l₁₀ 0 (vbool good)) ∷ ‵ (fdies tyBool l₁₀) ∷ ‵ (fat fullShare (tyInt w64) l₉ 0 (vint w64 fuel)) ∷ ‵ (fdies (tyInt w64) l₉) ∷ ‵ (fat fullShare verb-ty l₈ 0 (verb-val verb)) ∷ ‵ (fdies verb-ty l₈) ∷ ‵ (fat fullShare machine-ty l₇ 0 (machine-val m)) ∷ ‵ (fdies machine-ty l₇) ∷ ‵ (fat fullShare (sliceTy (tyRef (named 5) mut (tyInt w8))) l₆ 0 (sliceVal (b₅, o₅) n₅)) ∷ ‵ (fdies (sliceTy (tyRef (named 5) mut (tyInt w8))) l₆) ∷ ‵ (fat fullShare (tyRef (named 4) mut (tyArray (tyInt w32) 1024)) l₅ 0 (vptr b₄ o₄)) ∷ ‵ (fdies (tyRef (named 4) mut (tyArray (tyInt w32) 1024)) l₅) ∷ ‵ (fat fullShare (sliceTy (tyRef (named 3) mut (tyInt w8))) l₄ 0 (sliceVal (b₃, o₃) n₃)) ∷ ‵ (fdies (sliceTy (tyRef (named 3) mut (tyInt w8))) l₄) ∷ ‵ (fat fullShare (sliceTy (tyRef (named 2) mut (tyInt w8))) l₃ 0 (sliceVal (b₂, o₂) n₂)) ∷ ‵ (fdies (sliceTy (tyRef (named 2) mut (tyInt w8))) l₃) ∷ ‵ (fat fullShare (tyRef (named 1) mut (tyArray (tyInt w64) 1000)) l₂ 0 (vptr b₁ o₁)) ∷ ‵ (fdies (tyRef (named 1) mut (tyArray (tyInt w64) 1000)) l₂) ∷ ‵ (fat fullShare (sliceTy (tyRef (named 0) mut table-ty)) l₁ 0 (sliceVal (b₀, o₀) n₀)) ∷ ‵ (fdies (sliceTy (tyRef (named 0) mut table-ty)) l₁) ∷ ‵ (froom report-ty l₀ 0) ∷ ‵ (fdies report-ty l₀) ∷ [])) (runs C Λ En mir.t-11 (atRet En Post))
       allows-or-not good ts me po en sv m₀ m₂ m₃ m₅ e =
           nothing ! $ nothing ! $
-          lent 0 [] tt (machine.the-row ∷ bool ∷ verb-row.the-row ∷ []) allowed.the-row 𝓤 (allows.clauses 𝓤 H A at-mem run) tt (m, (good, (verb, tt))) (machine-val m ∷ [], (vbool good ∷ [], (verb-val verb ∷ [], tt))) ! (fmOf 𝓤 H (W .laws) 𝓣) known-allows
+          lent 0 [] tt (machine.the-row ∷ bool ∷ verb-row.the-row ∷ []) bool 𝓤 (allows.clauses 𝓤 H A at-mem run) tt (m, (good, (verb, tt))) (machine-val m ∷ [], (vbool good ∷ [], (verb-val verb ∷ [], tt))) ! (fmOf 𝓤 H (W .laws) 𝓣) known-allows
           tt tt (machine-makes 𝓤 H A m _ m-is, (bool-makes 𝓤 H A W good _ refl, (verb-makes 𝓤 H A verb _ verb-is, tt))) (λ αs δs. tt) (λ αs δs. id⊢ 𝓤 (emp 𝓤))
           (λ αs δs. (and-then ! (load ! (from ! (stop !)) (look ! 54 refl)) (and-then ! (load ! (from ! (stop !)) (look ! 48 refl)) (and-then ! (load ! (from ! (stop !)) (look ! 52 refl)) (no-more !)))))
-          (λ αs δs w₁ r₁ z₁ f₁. heard ! (r₁ ≡ allowed-of m good verb) (λ e₁. landed-by ! allowed.the-row allowed-vals allowed-tells r₁ w₁ (λ is₁.
-          drop ! $ drop ! $ land ! (from ! (stop !)) (init ! 44 refl (allowed-typed 𝓤 H A W r₁ is₁)) $
-          goes-or-not good r₁ ts me po en sv is₁ m₀ m₂ m₃ m₅ e e₁)))
+          (λ αs δs w₁ r₁ z₁ f₁. heard ! (r₁ ≡ allowed-of m good verb .allowed) (λ e₁. landed-by ! bool bool-vals bool-tells r₁ w₁ (λ is₁.
+          drop ! $ drop ! $ land ! (from ! (stop !)) (init ! 22 refl (tt, tt)) $
+          goes-or-not good r₁ ts me po en sv m₀ m₂ m₃ m₅ e e₁)))
 
-      steps : Sq W (Has x₀ x₁ x₂ x₃ x₄ x₅ (‵ (froom (sliceTy (tyRef erased mut (tyInt w8))) l₃₂ 0) ∷ ‵ (fdies (sliceTy (tyRef erased mut (tyInt w8))) l₃₂) ∷ ‵ (froom (tyRef erased mut (tyInt w8)) l₃₁ 0) ∷ ‵ (fdies (tyRef erased mut (tyInt w8)) l₃₁) ∷ ‵ (froom (tyRef erased mut (tyArray (tyInt w32) 1024)) l₃₀ 0) ∷ ‵ (fdies (tyRef erased mut (tyArray (tyInt w32) 1024)) l₃₀) ∷ ‵ (froom (sliceTy (tyRef erased mut (tyInt w8))) l₂₉ 0) ∷ ‵ (fdies (sliceTy (tyRef erased mut (tyInt w8))) l₂₉) ∷ ‵ (froom (tyRef erased mut (tyInt w8)) l₂₈ 0) ∷ ‵ (fdies (tyRef erased mut (tyInt w8)) l₂₈) ∷ ‵ (froom (sliceTy (tyRef erased mut (tyInt w8))) l₂₇ 0) ∷ ‵ (fdies (sliceTy (tyRef erased mut (tyInt w8))) l₂₇) ∷ ‵ (froom (tyRef erased mut (tyInt w8)) l₂₆ 0) ∷ ‵ (fdies (tyRef erased mut (tyInt w8)) l₂₆) ∷ ‵ (froom (tyRef erased mut (tyArray (tyInt w64) 1000)) l₂₅ 0) ∷ ‵ (fdies (tyRef erased mut (tyArray (tyInt w64) 1000)) l₂₅) ∷ ‵ (froom (sliceTy (tyRef erased mut table-ty)) l₂₄ 0) ∷ ‵ (fdies (sliceTy (tyRef erased mut table-ty)) l₂₄) ∷ ‵ (froom (tyRef erased mut table-ty) l₂₃ 0) ∷ ‵ (fdies (tyRef erased mut table-ty) l₂₃) ∷ ‵ (froom tyBool l₂₂ 0) ∷ ‵ (fdies tyBool l₂₂) ∷ ‵ (froom (sliceTy (tyRef erased mut (tyInt w8))) l₂₁ 0) ∷ ‵ (fdies (sliceTy (tyRef erased mut (tyInt w8))) l₂₁) ∷ ‵ (froom (tyRef erased mut (tyInt w8)) l₂₀ 0) ∷ ‵ (fdies (tyRef erased mut (tyInt w8)) l₂₀) ∷ ‵ (froom (tyRef erased mut (tyArray (tyInt w32) 1024)) l₁₉ 0) ∷ ‵ (fdies (tyRef erased mut (tyArray (tyInt w32) 1024)) l₁₉) ∷ ‵ (froom (sliceTy (tyRef erased mut (tyInt w8))) l₁₈ 0) ∷ ‵ (fdies (sliceTy (tyRef erased mut (tyInt w8))) l₁₈) ∷ ‵ (froom (tyRef erased mut (tyInt w8)) l₁₇ 0) ∷ ‵ (fdies (tyRef erased mut (tyInt w8)) l₁₇) ∷ ‵ (froom (sliceTy (tyRef erased mut (tyInt w8))) l₁₆ 0) ∷ ‵ (fdies (sliceTy (tyRef erased mut (tyInt w8))) l₁₆) ∷ ‵ (froom (tyRef erased mut (tyInt w8)) l₁₅ 0) ∷ ‵ (fdies (tyRef erased mut (tyInt w8)) l₁₅) ∷ ‵ (froom (sliceTy (tyRef erased mut table-ty)) l₁₄ 0) ∷ ‵ (fdies (sliceTy (tyRef erased mut table-ty)) l₁₄) ∷ ‵ (froom (tyRef erased mut table-ty) l₁₃ 0) ∷ ‵ (fdies (tyRef erased mut table-ty) l₁₃) ∷ ‵ (froom ran-ty l₁₂ 0) ∷ ‵ (fdies ran-ty l₁₂) ∷ ‵ (froom allowed-ty l₁₁ 0) ∷ ‵ (fdies allowed-ty l₁₁) ∷ ‵ (froom tyBool l₁₀ 0) ∷ ‵ (fdies tyBool l₁₀) ∷ ‵ (fat fullShare (tyInt w64) l₉ 0 (vint w64 fuel)) ∷ ‵ (fdies (tyInt w64) l₉) ∷ ‵ (fat fullShare verb-ty l₈ 0 (verb-val verb)) ∷ ‵ (fdies verb-ty l₈) ∷ ‵ (fat fullShare machine-ty l₇ 0 (machine-val m)) ∷ ‵ (fdies machine-ty l₇) ∷ ‵ (fat fullShare (sliceTy (tyRef (named 5) mut (tyInt w8))) l₆ 0 (sliceVal (b₅, o₅) n₅)) ∷ ‵ (fdies (sliceTy (tyRef (named 5) mut (tyInt w8))) l₆) ∷ ‵ (fat fullShare (tyRef (named 4) mut (tyArray (tyInt w32) 1024)) l₅ 0 (vptr b₄ o₄)) ∷ ‵ (fdies (tyRef (named 4) mut (tyArray (tyInt w32) 1024)) l₅) ∷ ‵ (fat fullShare (sliceTy (tyRef (named 3) mut (tyInt w8))) l₄ 0 (sliceVal (b₃, o₃) n₃)) ∷ ‵ (fdies (sliceTy (tyRef (named 3) mut (tyInt w8))) l₄) ∷ ‵ (fat fullShare (sliceTy (tyRef (named 2) mut (tyInt w8))) l₃ 0 (sliceVal (b₂, o₂) n₂)) ∷ ‵ (fdies (sliceTy (tyRef (named 2) mut (tyInt w8))) l₃) ∷ ‵ (fat fullShare (tyRef (named 1) mut (tyArray (tyInt w64) 1000)) l₂ 0 (vptr b₁ o₁)) ∷ ‵ (fdies (tyRef (named 1) mut (tyArray (tyInt w64) 1000)) l₂) ∷ ‵ (fat fullShare (sliceTy (tyRef (named 0) mut table-ty)) l₁ 0 (sliceVal (b₀, o₀) n₀)) ∷ ‵ (fdies (sliceTy (tyRef (named 0) mut table-ty)) l₁) ∷ ‵ (froom report-ty l₀ 0) ∷ ‵ (fdies report-ty l₀) ∷ [])) (runs C Λ En mir.t-1 (atRet En Post))
+      steps : Sq W (Has x₀ x₁ x₂ x₃ x₄ x₅ (‵ (froom (sliceTy (tyRef erased mut (tyInt w8))) l₃₂ 0) ∷ ‵ (fdies (sliceTy (tyRef erased mut (tyInt w8))) l₃₂) ∷ ‵ (froom (tyRef erased mut (tyInt w8)) l₃₁ 0) ∷ ‵ (fdies (tyRef erased mut (tyInt w8)) l₃₁) ∷ ‵ (froom (tyRef erased mut (tyArray (tyInt w32) 1024)) l₃₀ 0) ∷ ‵ (fdies (tyRef erased mut (tyArray (tyInt w32) 1024)) l₃₀) ∷ ‵ (froom (sliceTy (tyRef erased mut (tyInt w8))) l₂₉ 0) ∷ ‵ (fdies (sliceTy (tyRef erased mut (tyInt w8))) l₂₉) ∷ ‵ (froom (tyRef erased mut (tyInt w8)) l₂₈ 0) ∷ ‵ (fdies (tyRef erased mut (tyInt w8)) l₂₈) ∷ ‵ (froom (sliceTy (tyRef erased mut (tyInt w8))) l₂₇ 0) ∷ ‵ (fdies (sliceTy (tyRef erased mut (tyInt w8))) l₂₇) ∷ ‵ (froom (tyRef erased mut (tyInt w8)) l₂₆ 0) ∷ ‵ (fdies (tyRef erased mut (tyInt w8)) l₂₆) ∷ ‵ (froom (tyRef erased mut (tyArray (tyInt w64) 1000)) l₂₅ 0) ∷ ‵ (fdies (tyRef erased mut (tyArray (tyInt w64) 1000)) l₂₅) ∷ ‵ (froom (sliceTy (tyRef erased mut table-ty)) l₂₄ 0) ∷ ‵ (fdies (sliceTy (tyRef erased mut table-ty)) l₂₄) ∷ ‵ (froom (tyRef erased mut table-ty) l₂₃ 0) ∷ ‵ (fdies (tyRef erased mut table-ty) l₂₃) ∷ ‵ (froom tyBool l₂₂ 0) ∷ ‵ (fdies tyBool l₂₂) ∷ ‵ (froom (sliceTy (tyRef erased mut (tyInt w8))) l₂₁ 0) ∷ ‵ (fdies (sliceTy (tyRef erased mut (tyInt w8))) l₂₁) ∷ ‵ (froom (tyRef erased mut (tyInt w8)) l₂₀ 0) ∷ ‵ (fdies (tyRef erased mut (tyInt w8)) l₂₀) ∷ ‵ (froom (tyRef erased mut (tyArray (tyInt w32) 1024)) l₁₉ 0) ∷ ‵ (fdies (tyRef erased mut (tyArray (tyInt w32) 1024)) l₁₉) ∷ ‵ (froom (sliceTy (tyRef erased mut (tyInt w8))) l₁₈ 0) ∷ ‵ (fdies (sliceTy (tyRef erased mut (tyInt w8))) l₁₈) ∷ ‵ (froom (tyRef erased mut (tyInt w8)) l₁₇ 0) ∷ ‵ (fdies (tyRef erased mut (tyInt w8)) l₁₇) ∷ ‵ (froom (sliceTy (tyRef erased mut (tyInt w8))) l₁₆ 0) ∷ ‵ (fdies (sliceTy (tyRef erased mut (tyInt w8))) l₁₆) ∷ ‵ (froom (tyRef erased mut (tyInt w8)) l₁₅ 0) ∷ ‵ (fdies (tyRef erased mut (tyInt w8)) l₁₅) ∷ ‵ (froom (sliceTy (tyRef erased mut table-ty)) l₁₄ 0) ∷ ‵ (fdies (sliceTy (tyRef erased mut table-ty)) l₁₄) ∷ ‵ (froom (tyRef erased mut table-ty) l₁₃ 0) ∷ ‵ (fdies (tyRef erased mut table-ty) l₁₃) ∷ ‵ (froom ran-ty l₁₂ 0) ∷ ‵ (fdies ran-ty l₁₂) ∷ ‵ (froom machine-ty l₁₁ 0) ∷ ‵ (fdies machine-ty l₁₁) ∷ ‵ (froom tyBool l₁₀ 0) ∷ ‵ (fdies tyBool l₁₀) ∷ ‵ (fat fullShare (tyInt w64) l₉ 0 (vint w64 fuel)) ∷ ‵ (fdies (tyInt w64) l₉) ∷ ‵ (fat fullShare verb-ty l₈ 0 (verb-val verb)) ∷ ‵ (fdies verb-ty l₈) ∷ ‵ (fat fullShare machine-ty l₇ 0 (machine-val m)) ∷ ‵ (fdies machine-ty l₇) ∷ ‵ (fat fullShare (sliceTy (tyRef (named 5) mut (tyInt w8))) l₆ 0 (sliceVal (b₅, o₅) n₅)) ∷ ‵ (fdies (sliceTy (tyRef (named 5) mut (tyInt w8))) l₆) ∷ ‵ (fat fullShare (tyRef (named 4) mut (tyArray (tyInt w32) 1024)) l₅ 0 (vptr b₄ o₄)) ∷ ‵ (fdies (tyRef (named 4) mut (tyArray (tyInt w32) 1024)) l₅) ∷ ‵ (fat fullShare (sliceTy (tyRef (named 3) mut (tyInt w8))) l₄ 0 (sliceVal (b₃, o₃) n₃)) ∷ ‵ (fdies (sliceTy (tyRef (named 3) mut (tyInt w8))) l₄) ∷ ‵ (fat fullShare (sliceTy (tyRef (named 2) mut (tyInt w8))) l₃ 0 (sliceVal (b₂, o₂) n₂)) ∷ ‵ (fdies (sliceTy (tyRef (named 2) mut (tyInt w8))) l₃) ∷ ‵ (fat fullShare (tyRef (named 1) mut (tyArray (tyInt w64) 1000)) l₂ 0 (vptr b₁ o₁)) ∷ ‵ (fdies (tyRef (named 1) mut (tyArray (tyInt w64) 1000)) l₂) ∷ ‵ (fat fullShare (sliceTy (tyRef (named 0) mut table-ty)) l₁ 0 (sliceVal (b₀, o₀) n₀)) ∷ ‵ (fdies (sliceTy (tyRef (named 0) mut table-ty)) l₁) ∷ ‵ (froom report-ty l₀ 0) ∷ ‵ (fdies report-ty l₀) ∷ [])) (runs C Λ En mir.t-1 (atRet En Post))
       steps =
           assigns ! (addr ! (from ! (fld ! refl (hop ! (look-in ! 64 (sub ! 0 refl (whole !))) (stop !))))) (from ! (stop !)) (init ! 40 refl (tt, tt)) $
           assigns ! (agg ! (and-then ! (load ! (from ! (stop !)) (look ! 40 refl)) (and-then ! (load ! (from ! (fld ! refl (stop !))) (look-in ! 64 (sub ! 1 refl (whole !)))) (no-more !)))) (from ! (stop !)) (init ! 38 refl (tt, (tt, (record { fits = g₀ .0 }, tt)))) $
@@ -262,9 +270,9 @@ module _ {M : Type 1} (𝓤 : URA M) (H : Heap 𝓤) (A : Atoms 𝓤) (W : Given
           forget ! 24 refl $ forget ! 26 refl $ forget ! 28 refl $ forget ! 30 refl $ forget ! 32 refl $ forget ! 34 refl $ forget ! 36 refl $ forget ! 38 refl $ forget ! 40 refl $
           allows-or-not r₁ (z₁ .0) (z₁ .1 .0) (z₁ .1 .1 .0) (z₁ .1 .1 .1 .0) (z₁ .1 .1 .1 .1 .0) (f₁ .0) (f₁ .1 .0) (f₁ .1 .1 .0) (f₁ .1 .1 .1 .1 .0) e₁)))
 
-    walk : (𝓣 : Tables 𝓤 H) (known-tests : Triple 𝓤 (𝓣 .C #tests) (tests-con 𝓤 H A at-mem run)) (known-allows : Triple 𝓤 (𝓣 .C #allows) (allows-con 𝓤 H A at-mem run)) (known-drives : Triple 𝓤 (𝓣 .C #drives) (drives-con 𝓤 H A at-mem run)) (known-reports : Triple 𝓤 (𝓣 .C #reports) (reports-con 𝓤 H A at-mem run)) (known-refuses : Triple 𝓤 (𝓣 .C #refuses) (refuses-con 𝓤 H A at-mem run)) → ent 𝓤 (onEntry 𝓤 H A f.signature κs₀ qs₀ x at) (WpFn 𝓤 H (𝓣 .C) (𝓣 .Λ) code.function (sliceVal (b₀, o₀) n₀ ∷ vptr b₁ o₁ ∷ sliceVal (b₂, o₂) n₂ ∷ sliceVal (b₃, o₃) n₃ ∷ vptr b₄ o₄ ∷ sliceVal (b₅, o₅) n₅ ∷ machine-val m ∷ verb-val verb ∷ vint w64 fuel ∷ []) Post)
-    unfolding allowed-shut machine-shut ran-shut report-shut verb-shut
-    walk 𝓣 known-tests known-allows known-drives known-reports known-refuses =
+    walk : (𝓣 : Tables 𝓤 H) (known-tests : Triple 𝓤 (𝓣 .C #tests) (tests-con 𝓤 H A at-mem run)) (known-allows : Triple 𝓤 (𝓣 .C #allows) (allows-con 𝓤 H A at-mem run)) (known-begins : Triple 𝓤 (𝓣 .C #begins) (begins-con 𝓤 H A at-mem run)) (known-drives : Triple 𝓤 (𝓣 .C #drives) (drives-con 𝓤 H A at-mem run)) (known-reports : Triple 𝓤 (𝓣 .C #reports) (reports-con 𝓤 H A at-mem run)) (known-refuses : Triple 𝓤 (𝓣 .C #refuses) (refuses-con 𝓤 H A at-mem run)) → ent 𝓤 (onEntry 𝓤 H A f.signature κs₀ qs₀ x at) (WpFn 𝓤 H (𝓣 .C) (𝓣 .Λ) code.function (sliceVal (b₀, o₀) n₀ ∷ vptr b₁ o₁ ∷ sliceVal (b₂, o₂) n₂ ∷ sliceVal (b₃, o₃) n₃ ∷ vptr b₄ o₄ ∷ sliceVal (b₅, o₅) n₅ ∷ machine-val m ∷ verb-val verb ∷ vint w64 fuel ∷ []) Post)
+    unfolding machine-shut ran-shut report-shut verb-shut
+    walk 𝓣 known-tests known-allows known-begins known-drives known-reports known-refuses =
         qed W ((‵ (flft κ₀ q₀) ⊛ ‵ (flft κ₁ q₁) ⊛ ‵ (flft κ₂ q₂) ⊛ ‵ (flft κ₃ q₃) ⊛ ‵ (flft κ₄ q₄) ⊛ ‵ (flft κ₅ q₅) ⊛ ‵ ftrue) ∷ ‵ (owns (typesAt (f.signature .params) κs₀) x at) ∷ []) ∵
         move ! (1 ∷ []) $ fsplit ! $ move ! (1 ∷ []) $ fsplit ! $ move ! (1 ∷ []) $ fsplit ! $ move ! (1 ∷ []) $ fsplit ! $ move ! (1 ∷ []) $ fsplit ! $ move ! (1 ∷ []) $ fsplit ! $ move ! (1 ∷ []) $ drop ! $ nothing ! $ move ! (1 ∷ 0 ∷ []) $ fjoin ! $ move ! (1 ∷ 0 ∷ []) $ fjoin ! $ move ! (1 ∷ 0 ∷ []) $ fjoin ! $ move ! (1 ∷ 0 ∷ []) $ fjoin ! $ move ! (1 ∷ 0 ∷ []) $ fjoin ! $ move ! (1 ∷ 0 ∷ []) $ fjoin ! $
         move ! (1 ∷ []) $ split ! $ move ! (1 ∷ []) $ split ! $ move ! (1 ∷ []) $ split ! $ move ! (1 ∷ []) $ split ! $ move ! (1 ∷ []) $ split ! $ move ! (1 ∷ []) $ split ! $ move ! (1 ∷ []) $ drop ! $ nothing ! $ move ! (1 ∷ 0 ∷ []) $ fjoin ! $ move ! (1 ∷ 0 ∷ []) $ fjoin ! $ move ! (1 ∷ 0 ∷ []) $ fjoin ! $ move ! (1 ∷ 0 ∷ []) $ fjoin ! $ move ! (1 ∷ 0 ∷ []) $ fjoin ! $ move ! (1 ∷ 0 ∷ []) $ fjoin ! $ move ! (1 ∷ 0 ∷ []) $
@@ -272,16 +280,16 @@ module _ {M : Type 1} (𝓤 : URA M) (H : Heap 𝓤) (A : Atoms 𝓤) (W : Given
         alloc1 ! (λ l₀. alloc1 ! (λ l₁. alloc1 ! (λ l₂. alloc1 ! (λ l₃. alloc1 ! (λ l₄. alloc1 ! (λ l₅. alloc1 ! (λ l₆. alloc1 ! (λ l₇. alloc1 ! (λ l₈. alloc1 ! (λ l₉. alloc1 ! (λ l₁₀. alloc1 ! (λ l₁₁. alloc1 ! (λ l₁₂. alloc1 ! (λ l₁₃. alloc1 ! (λ l₁₄. alloc1 ! (λ l₁₅. alloc1 ! (λ l₁₆. alloc1 ! (λ l₁₇. alloc1 ! (λ l₁₈. alloc1 ! (λ l₁₉. alloc1 ! (λ l₂₀. alloc1 ! (λ l₂₁. alloc1 ! (λ l₂₂. alloc1 ! (λ l₂₃. alloc1 ! (λ l₂₄. alloc1 ! (λ l₂₅. alloc1 ! (λ l₂₆. alloc1 ! (λ l₂₇. alloc1 ! (λ l₂₈. alloc1 ! (λ l₂₉. alloc1 ! (λ l₃₀. alloc1 ! (λ l₃₁. alloc1 ! (λ l₃₂. alloc0 ! $ params1 ! $
         pass1 ! (init ! 62 refl (tt, (tt, (record { fits = g₀ .0 }, tt)))) $ pass1 ! (init ! 60 refl (tt, tt)) $ pass1 ! (init ! 58 refl (tt, (tt, (record { fits = g₂ .0 }, tt)))) $ pass1 ! (init ! 56 refl (tt, (tt, (record { fits = g₃ .0 }, tt)))) $ pass1 ! (init ! 54 refl (tt, tt)) $ pass1 ! (init ! 52 refl (tt, (tt, (record { fits = g₅ .0 }, tt)))) $ pass1 ! (init ! 50 refl (machine-typed 𝓤 H A W m m-is)) $ pass1 ! (init ! 48 refl (verb-typed 𝓤 H A W verb verb-is)) $ pass1 ! (init ! 46 refl (tt, record { fits = fuel-is })) $ pass0 ! $
         move ! (66 ∷ 67 ∷ []) $
-        steps 𝓣 known-tests known-allows known-drives known-reports known-refuses l₀ l₁ l₂ l₃ l₄ l₅ l₆ l₇ l₈ l₉ l₁₀ l₁₁ l₁₂ l₁₃ l₁₄ l₁₅ l₁₆ l₁₇ l₁₈ l₁₉ l₂₀ l₂₁ l₂₂ l₂₃ l₂₄ l₂₅ l₂₆ l₂₇ l₂₈ l₂₉ l₃₀ l₃₁ l₃₂)))))))))))))))))))))))))))))))))
+        steps 𝓣 known-tests known-allows known-begins known-drives known-reports known-refuses l₀ l₁ l₂ l₃ l₄ l₅ l₆ l₇ l₈ l₉ l₁₀ l₁₁ l₁₂ l₁₃ l₁₄ l₁₅ l₁₆ l₁₇ l₁₈ l₁₉ l₂₀ l₂₁ l₂₂ l₂₃ l₂₄ l₂₅ l₂₆ l₂₇ l₂₈ l₂₉ l₃₀ l₃₁ l₃₂)))))))))))))))))))))))))))))))))
 
-module _ {M : Type 1} (𝓤 : URA M) (H : Heap 𝓤) (A : Atoms 𝓤) (W : Given 𝓤 H A) (at-mem : Memory → SProp 𝓤) (run : Routine → Fun 𝓤) (𝓣 : Tables 𝓤 H) (known-tests : Triple 𝓤 (𝓣 .C #tests) (tests-con 𝓤 H A at-mem run)) (known-allows : Triple 𝓤 (𝓣 .C #allows) (allows-con 𝓤 H A at-mem run)) (known-drives : Triple 𝓤 (𝓣 .C #drives) (drives-con 𝓤 H A at-mem run)) (known-reports : Triple 𝓤 (𝓣 .C #reports) (reports-con 𝓤 H A at-mem run)) (known-refuses : Triple 𝓤 (𝓣 .C #refuses) (refuses-con 𝓤 H A at-mem run)) where
+module _ {M : Type 1} (𝓤 : URA M) (H : Heap 𝓤) (A : Atoms 𝓤) (W : Given 𝓤 H A) (at-mem : Memory → SProp 𝓤) (run : Routine → Fun 𝓤) (𝓣 : Tables 𝓤 H) (known-tests : Triple 𝓤 (𝓣 .C #tests) (tests-con 𝓤 H A at-mem run)) (known-allows : Triple 𝓤 (𝓣 .C #allows) (allows-con 𝓤 H A at-mem run)) (known-begins : Triple 𝓤 (𝓣 .C #begins) (begins-con 𝓤 H A at-mem run)) (known-drives : Triple 𝓤 (𝓣 .C #drives) (drives-con 𝓤 H A at-mem run)) (known-reports : Triple 𝓤 (𝓣 .C #reports) (reports-con 𝓤 H A at-mem run)) (known-refuses : Triple 𝓤 (𝓣 .C #refuses) (refuses-con 𝓤 H A at-mem run)) where
   walks : Walks 𝓤 H A f.ended stayed (WpFn 𝓤 H (𝓣 .C) (𝓣 .Λ) code.function) (f.clauses 𝓤 H A at-mem run)
   walks =
       walked 𝓤 H A f.ended stayed (f.clauses 𝓤 H A at-mem run) (WpFn 𝓤 H (𝓣 .C) (𝓣 .Λ) code.function) (λ κs. (slice-vals, (ptr-vals, (slice-vals, (slice-vals, (ptr-vals, (slice-vals, (machine-vals, (verb-vals, (uint-vals w64, tt))))))))))
       (λ κs. (mut-slice-tells (named 0) (κs .0) R, (mut-tells (named 1) (κs .1 .0) (Array u64 1000), (mut-slice-tells (named 2) (κs .1 .1 .0) u8, (mut-slice-tells (named 3) (κs .1 .1 .1 .0) u8, (mut-tells (named 4) (κs .1 .1 .1 .1 .0) (Array u32 1024), (mut-slice-tells (named 5) (κs .1 .1 .1 .1 .1 .0) u8, (machine-tells, (verb-tells, (uint-tells w64, tt))))))))))
       (λ κs qs bounds a g are. via 𝓤 _ (fst∗ 𝓤 _ (emp 𝓤))
       (walk 𝓤 H A W at-mem run (κs .0) (κs .1 .0) (κs .1 .1 .0) (κs .1 .1 .1 .0) (κs .1 .1 .1 .1 .0) (κs .1 .1 .1 .1 .1 .0) (qs .0) (qs .1 .0) (qs .1 .1 .0) (qs .1 .1 .1 .0) (qs .1 .1 .1 .1 .0) (qs .1 .1 .1 .1 .1 .0) (a .0 .ptr .0) (a .0 .ptr .1) (a .1 .0 .ptr .0) (a .1 .0 .ptr .1) (a .1 .1 .0 .ptr .0) (a .1 .1 .0 .ptr .1) (a .1 .1 .1 .0 .ptr .0) (a .1 .1 .1 .0 .ptr .1) (a .1 .1 .1 .1 .0 .ptr .0) (a .1 .1 .1 .1 .0 .ptr .1) (a .1 .1 .1 .1 .1 .0 .ptr .0) (a .1 .1 .1 .1 .1 .0 .ptr .1) (a .0 .name) (a .1 .0 .name) (a .1 .1 .0 .name) (a .1 .1 .1 .0 .name) (a .1 .1 .1 .1 .0 .name) (a .1 .1 .1 .1 .1 .0 .name) (a .0 .now) (a .1 .0 .now) (a .1 .1 .0 .now) (a .1 .1 .1 .0 .now) (a .1 .1 .1 .1 .0 .now) (a .1 .1 .1 .1 .1 .0 .now) (a .1 .1 .1 .1 .1 .1 .0) (a .1 .1 .1 .1 .1 .1 .1 .0) (a .1 .1 .1 .1 .1 .1 .1 .1 .0)
-      (are .0 .0 .1) (are .1 .1 .0 .0 .1) (are .1 .1 .1 .0 .0 .1) (are .1 .1 .1 .1 .1 .0 .0 .1) (are .1 .1 .1 .1 .1 .1 .0) (are .1 .1 .1 .1 .1 .1 .1 .0) (are .1 .1 .1 .1 .1 .1 .1 .1 .0 .1) 𝓣 known-tests known-allows known-drives known-reports known-refuses))
+      (are .0 .0 .1) (are .1 .1 .0 .0 .1) (are .1 .1 .1 .0 .0 .1) (are .1 .1 .1 .1 .1 .0 .0 .1) (are .1 .1 .1 .1 .1 .1 .0) (are .1 .1 .1 .1 .1 .1 .1 .0) (are .1 .1 .1 .1 .1 .1 .1 .1 .0 .1) 𝓣 known-tests known-allows known-begins known-drives known-reports known-refuses))
 
   meets : Meets 𝓤 H A f.signature (WpFn 𝓤 H (𝓣 .C) (𝓣 .Λ) code.function) (f.spec 𝓤 H A at-mem run)
   meets =
@@ -296,6 +304,7 @@ call-spec 𝓤 H 𝓜 𝓖 𝓡 =
     (meets 𝓤 H (𝓖 .A) (givenOf 𝓤 H 𝓜 𝓖) (𝓜 .mem) (𝓡 .run) (tablesOf 𝓤 H 𝓜 (tables 𝓤 H 𝓜 𝓡 code.env))
     (cited 𝓤 H (tests-con 𝓤 H (𝓖 .A) (𝓜 .mem) (𝓡 .run)) 𝓜 𝓡 code.env #tests tests-def.routine code.calls-vm·sound·sound (tests-thm.met 𝓤 H 𝓜 𝓖 𝓡))
     (cited 𝓤 H (allows-con 𝓤 H (𝓖 .A) (𝓜 .mem) (𝓡 .run)) 𝓜 𝓡 code.env #allows allows-def.routine code.calls-runner·calling·allowed (allows-thm.met 𝓤 H 𝓜 𝓖 𝓡))
+    (cited 𝓤 H (begins-con 𝓤 H (𝓖 .A) (𝓜 .mem) (𝓡 .run)) 𝓜 𝓡 code.env #begins begins-def.routine code.calls-runner·calling·begun (begins-thm.met 𝓤 H 𝓜 𝓖 𝓡))
     (cited 𝓤 H (drives-con 𝓤 H (𝓖 .A) (𝓜 .mem) (𝓡 .run)) 𝓜 𝓡 code.env #drives drives-def.routine code.calls-runner·run (drives-thm.met 𝓤 H 𝓜 𝓖 𝓡))
     (cited 𝓤 H (reports-con 𝓤 H (𝓖 .A) (𝓜 .mem) (𝓡 .run)) 𝓜 𝓡 code.env #reports reports-def.routine code.calls-runner·calling·report (reports-thm.met 𝓤 H 𝓜 𝓖 𝓡))
     (cited 𝓤 H (refuses-con 𝓤 H (𝓖 .A) (𝓜 .mem) (𝓡 .run)) 𝓜 𝓡 code.env #refuses refuses-def.routine code.calls-runner·calling·not-allowed (refuses-thm.met 𝓤 H 𝓜 𝓖 𝓡)))
