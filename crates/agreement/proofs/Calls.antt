@@ -5,7 +5,7 @@ use mathlib.Core.Path.{_≡_, refl, sym, ap, subst, _∙_}
 use mathlib.Core.List.{List, [], _∷_}
 use native.Mathlib.Omega.{arith}
 use native.Mathlib.Decide.{ℕ-discrete}
-use lib.Dec.{eqb, ltb}
+use lib.Dec.{ltb}
 use lib.ListN.{length, getD}
 use borrow.Author.Tests.{lt-ltb}
 use Rattle.errors.specs.declared.Refusal.{Refusal}
@@ -26,6 +26,7 @@ use Rattle.machine.specs.World.{World, place, memory-in-use, with-machine}
 use Rattle.machine.specs.Run.{End, run}
 use Rattle.machine.specs.Calls.{may-start, may-continue, fresh, allowed, ended, report, Reported, reported-end, call-with, call, start, rerun, go-on}
 use Rattle.machine.specs.declared.Verb.the-variants.{Start, Rerun, Continue}
+use Rattle.machine.specs.Creation.{main-frame}
 use Rattle.machine.specs.Reads.{is-done, readable, value-at, value-read}
 use Rattle.machine.specs.History.{runs, world-after}
 use Rattle.memory.specs.Unbox as unbox
@@ -42,7 +43,7 @@ use Rattle.rust.specs.Run.{Ran, returned, running, failed, panicked, onward, fi
 use Rattle.agreement.specs.View.{callers, view}
 use Rattle.agreement.specs.Agreement.{Over, many-tasks, long-title, many-entries, many-bytes, long-memory, long-image, refusal-of}
 use Rattle.agreement.specs.Reads.{Aligned}
-use Rattle.agreement.specs.Runs.{main-ref, from-main, if-rests, if-running, rust-call, rust-left-by, rust-history, at-rest, ReadAlike, Answers, ends, pauses, errs, panics, meets}
+use Rattle.agreement.specs.Runs.{from-main, if-rests, if-running, rust-call, rust-left-by, rust-history, at-rest, ReadAlike, Answers, ends, pauses, errs, panics, meets}
 use Rattle.agreement.specs.Exceptions.{permitted-comes, call-comes}
 use Rattle.agreement.proofs.Facts.{facts}
 use Rattle.agreement.proofs.Views.{current-is, callers-are}
@@ -238,13 +239,9 @@ main-ready : (w : World) → Ready w → Ready (main-world w)
 main-ready w ready = record { is-sound = at-main-sound w (ready .is-sound); bytes = ready .bytes; phase = ready .phase }
 
 -- what the machine at main shows is the Rust's machine with one frame at main and no loop open
-rests-at-main : (w : World) → at-rest (main-world w) ≡ from-main (at-rest w)
-unfolding from-main view current last-two callers two-of main-ref
-rests-at-main w = by (eqb (w .machine .frames .count) 1) refl
-  where
-    by : (one : Bool) → eqb (w .machine .frames .count) 1 ≡ one → at-rest (main-world w) ≡ from-main (at-rest w)
-    by true e = rw e
-    by false e = rw e
+rests-at-main : (w : World) → w .machine .frames .main .entry .0 ≡ 0 → at-rest (main-world w) ≡ from-main (at-rest w)
+unfolding from-main view current last-two callers two-of
+rests-at-main w main = rw main
 
 comes-at-main : (fuel : ℕ) (w : World) → Ready w → call-comes Start fuel w ≡ call-comes Rerun fuel (main-world w)
 unfolding call-comes permitted-comes allowed
@@ -254,16 +251,16 @@ starts-as : (fuel : ℕ) (w : World) → Ready w → start fuel w ≡ rerun fuel
 starts-as fuel w ready = start-is-rerun fuel w (record { tested = ready .is-sound .tested; ends-lent = ready .is-sound .ends-lent }) (ready .phase)
 
 -- so a start answers the Rust's run from main
-pub start-told : (fuel : ℕ) (w : World) → Ready w → call-comes Start fuel w ≡ false → Told (start fuel w) (loop.run fuel (from-main (at-rest w)))
-start-told fuel w ready common =
+pub start-told : (fuel : ℕ) (w : World) → Ready w → w .machine .frames .main .entry .0 ≡ 0 → call-comes Start fuel w ≡ false → Told (start fuel w) (loop.run fuel (from-main (at-rest w)))
+start-told fuel w ready main common =
     subst (λ (r : Reported). Told r (loop.run fuel (from-main (at-rest w)))) (sym (starts-as fuel w ready))
-    (subst (λ (vm : VM). Told (rerun fuel (main-world w)) (loop.run fuel vm)) (rests-at-main w)
+    (subst (λ (vm : VM). Told (rerun fuel (main-world w)) (loop.run fuel vm)) (rests-at-main w main)
     (rerun-told fuel (main-world w) (main-ready w ready) (sym (comes-at-main fuel w ready) ∙ common)))
 
 -- after a run that ended in main with no loop open the Rust begins a start and a rerun with one machine
-pub same-in-main : (w : World) → w .machine .frames .count ≡ 1 → place w ≡ 0 → w .machine .loops .count ≡ 0 → from-main (at-rest w) ≡ at-rest w
-unfolding from-main view current last-two callers two-of main-ref
-same-in-main w one at-zero none = rw (at-zero, one, none)
+pub same-in-main : (w : World) → w .machine .frames .count ≡ 1 → w .machine .frames .main ≡ main-frame → w .machine .loops .count ≡ 0 → from-main (at-rest w) ≡ at-rest w
+unfolding from-main view current last-two callers two-of
+same-in-main w one main none = rw (one, main, none)
 
 -- ---- the values
 

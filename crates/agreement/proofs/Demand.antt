@@ -26,6 +26,7 @@ use Rattle.machine.specs.declared.CreateResult.{CreateResult}
 use Rattle.machine.specs.declared.CreateResult.the-variants.{Created, NotCreated}
 use Rattle.machine.specs.History.{FreshWorld, is-created, HostCall, history, world-after}
 use Rattle.laws.specs.Sound.{Sound}
+use Rattle.laws.proofs.Main.{fresh-main, main-is-the-program}
 use Rattle.rust.specs.Errors.{ok}
 use Rattle.rust.specs.Vm.{VM}
 use Rattle.rust.specs.Run.{Ran, returned, running, init}
@@ -180,23 +181,27 @@ module _ {program image : List ℕ} {first : World} {vm : VM} (both : Beginning 
   related =
       let shown : init program (stored (both .holds)) ≡ ok (at-rest first) = init-agrees (both .fresh) (both .pool-bytes) (both .image-bytes) (both .program-bytes) (both .holds) (both .is-read) in
       let made = created-is (both .fresh) (both .pool-bytes) (both .image-bytes) (both .program-bytes) in
-      history-related calls none-met (subst (λ (v : VM). Related first (returned [] v)) (ok-is (sym shown ∙ both .is-initialised)) (first-related (both .fresh) made))
+      history-related calls none-met (fresh-main (both .fresh)) (subst (λ (v : VM). Related first (returned [] v)) (ok-is (sym shown ∙ both .is-initialised)) (first-related (both .fresh) made))
+
+  -- main is the program
+  main : later .machine .frames .main .entry .0 ≡ 0
+  main = main-is-the-program program image first (both .fresh) calls
 
   -- a start, a rerun or a continue that the Rust takes answers the Rust's run of as many turns, a start the run from main, or reaches a limit that this port adds, with its reason
   pub call-answers : (verb : Verb) (fuel : ℕ) → rust-takes verb rust-later ≡ true → call-comes verb fuel later ≡ false → Answers (call verb fuel later) (rust-call verb fuel rust-later)
-  call-answers verb fuel takes common = answers (told-call verb fuel related takes common) (given-call verb fuel related takes)
+  call-answers verb fuel takes common = answers (told-call verb fuel related main takes common) (given-call verb fuel related takes)
 
   -- demand 2: values, tasks, memory and refusals equal the Rust's wherever the Rust ends without a panic and no limit that this port adds is reached, except where the Rust compares a scalar with a vector, or TRUE with FALSE
   pub demand-2 : (verb : Verb) (fuel : ℕ) → rust-takes verb rust-later ≡ true → meets-added (call verb fuel later .report .outcome) ≡ false → call-comes verb fuel later ≡ false
       → RustEnds (rust-call verb fuel rust-later) → Equal (call verb fuel later) (rust-call verb fuel rust-later)
-  demand-2 verb fuel takes not-met common ends = equal (told-call verb fuel related takes common) (given-call verb fuel related takes) not-met ends
+  demand-2 verb fuel takes not-met common ends = equal (told-call verb fuel related main takes common) (given-call verb fuel related takes) not-met ends
 
   -- up to the first instruction that is left out: a call that comes to one has the same machine as the Rust before it, and both answers there are known
   pub up-to-excepted : (verb : Verb) (fuel : ℕ) → rust-takes verb rust-later ≡ true → call-comes verb fuel later ≡ true → UpTo verb fuel later rust-later
   unfolding is-paused
   up-to-excepted verb fuel takes e =
       let c = comes verb fuel later e in
-      let b = paused-both (told-call verb (c .finished) related takes (c .none)) (ap is-paused (c .paused)) in
+      let b = paused-both (told-call verb (c .finished) related main takes (c .none)) (ap is-paused (c .paused)) in
       record {
         finished = c .finished;
         fewer = c .fewer;

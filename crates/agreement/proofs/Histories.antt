@@ -21,6 +21,7 @@ use Rattle.machine.specs.Reads.{value-read, task-read, host-saved, host-save-as
 use Rattle.machine.specs.History.{HostCall, runs, saves, reads-value, reads-task, left-by, history, world-after, world-saved}
 use Rattle.laws.specs.Sound.{Sound}
 use Rattle.laws.proofs.SoundnessCalls.{left-sound}
+use Rattle.laws.proofs.Main.{left-main}
 use Rattle.laws.proofs.Refused.{start-in-phase, rerun-in-phase, continue-in-phase}
 use Rattle.rust.specs.Errors.{VMError}
 use Rattle.rust.specs.Vm.{VM}
@@ -106,9 +107,9 @@ module _ {w : World} where
   no-continue (it-panicked s phase) not-there = ap may-continue phase
 
   -- each of them that the Rust takes
-  told-start : {ran : Ran} (fuel : ℕ) → BothRest w ran → call-comes Start fuel w ≡ false → Told (call Start fuel w) (rust-call Start fuel ran)
+  told-start : {ran : Ran} (fuel : ℕ) → BothRest w ran → w .machine .frames .main .entry .0 ≡ 0 → call-comes Start fuel w ≡ false → Told (call Start fuel w) (rust-call Start fuel ran)
   unfolding rust-call if-rests
-  told-start fuel (resting ready is) common = subst (λ (v : VM). Told (call Start fuel w) (loop.run fuel (from-main v))) is (start-told fuel w ready common)
+  told-start fuel (resting ready is) main common = subst (λ (v : VM). Told (call Start fuel w) (loop.run fuel (from-main v))) is (start-told fuel w ready main common)
 
   told-rerun : {ran : Ran} (fuel : ℕ) → BothRest w ran → call-comes Rerun fuel w ≡ false → Told (call Rerun fuel w) (rust-call Rerun fuel ran)
   unfolding rust-call if-rests
@@ -118,11 +119,11 @@ module _ {w : World} where
   unfolding rust-call if-running may-continue
   told-continue fuel (going stale s bytes phase lined is) common = subst (λ (v : VM). Told (call Continue fuel w) (loop.while fuel v)) is (go-on-told fuel stale w s bytes (ap may-continue phase) common)
 
-  pub told-call : {ran : Ran} (verb : Verb) (fuel : ℕ) → Related w ran → rust-takes verb ran ≡ true → call-comes verb fuel w ≡ false → Told (call verb fuel w) (rust-call verb fuel ran)
+  pub told-call : {ran : Ran} (verb : Verb) (fuel : ℕ) → Related w ran → w .machine .frames .main .entry .0 ≡ 0 → rust-takes verb ran ≡ true → call-comes verb fuel w ≡ false → Told (call verb fuel w) (rust-call verb fuel ran)
   unfolding rust-takes
-  told-call Start fuel related takes common = told-start fuel (at-rest-both related takes) common
-  told-call Rerun fuel related takes common = told-rerun fuel (at-rest-both related takes) common
-  told-call Continue fuel related takes common = told-continue fuel (in-a-run-both related takes) common
+  told-call Start fuel related main takes common = told-start fuel (at-rest-both related takes) main common
+  told-call Rerun fuel related main takes common = told-rerun fuel (at-rest-both related takes) common
+  told-call Continue fuel related main takes common = told-continue fuel (in-a-run-both related takes) common
 
   given-start : {ran : Ran} (fuel : ℕ) → BothRest w ran → Given (rust-call Start fuel ran)
   unfolding rust-call if-rests from-main view
@@ -190,11 +191,11 @@ left-related {r} (told-err stale error e leaves f) g none-met = it-failed stale 
 left-related {r} (told-panic stale e leaves f) g none-met = it-panicked (leaves .is-sound) (stopped-is r e leaves)
 left-related {r} (told-met stale number vm e f over ran) g none-met = is-met (r .report .outcome) e over none-met
 
-call-related : {w : World} {ran : Ran} (verb : Verb) (fuel : ℕ) → Related w ran → meets-added (call verb fuel w .report .outcome) ≡ false → call-comes verb fuel w ≡ false → Related (world-after (call verb fuel w)) (rust-call verb fuel ran)
-call-related {w} {ran} verb fuel related none-met common = by (rust-takes verb ran) refl
+call-related : {w : World} {ran : Ran} (verb : Verb) (fuel : ℕ) → Related w ran → w .machine .frames .main .entry .0 ≡ 0 → meets-added (call verb fuel w .report .outcome) ≡ false → call-comes verb fuel w ≡ false → Related (world-after (call verb fuel w)) (rust-call verb fuel ran)
+call-related {w} {ran} verb fuel related main none-met common = by (rust-takes verb ran) refl
   where
     by : (b : Bool) → rust-takes verb ran ≡ b → Related (world-after (call verb fuel w)) (rust-call verb fuel ran)
-    by true takes = left-related (told-call verb fuel related takes common) (given-call verb fuel related takes) none-met
+    by true takes = left-related (told-call verb fuel related main takes common) (given-call verb fuel related takes) none-met
     by false takes =
         subst (λ (r : Reported). Related (world-after r) (rust-call verb fuel ran)) (sym (refused-call verb fuel related takes)) (subst (λ (x : Ran). Related w x) (sym (not-taken verb fuel ran takes)) related)
 
@@ -236,14 +237,17 @@ sound-related (it-panicked s phase) = s
 
 -- ---- a history
 
-left-by-related : {w : World} {ran : Ran} (one : HostCall) → Related w ran → call-meets one w ≡ false → host-call-comes one w ≡ false → Related (left-by one w) (rust-left-by one ran)
+left-by-related : {w : World} {ran : Ran} (one : HostCall) → Related w ran → w .machine .frames .main .entry .0 ≡ 0 → call-meets one w ≡ false → host-call-comes one w ≡ false → Related (left-by one w) (rust-left-by one ran)
 unfolding left-by rust-left-by call-meets host-call-comes value-read task-read
-left-by-related (runs verb fuel) related none-met common = call-related verb fuel related none-met common
-left-by-related {w} saves related none-met common = image-related (save-is w) (left-sound saves w (sound-related related)) related
-left-by-related (reads-value position) related none-met common = related
-left-by-related (reads-task id) related none-met common = related
+left-by-related (runs verb fuel) related main none-met common = call-related verb fuel related main none-met common
+left-by-related {w} saves related main none-met common = image-related (save-is w) (left-sound saves w (sound-related related)) related
+left-by-related (reads-value position) related main none-met common = related
+left-by-related (reads-task id) related main none-met common = related
 
-pub history-related : {w : World} {ran : Ran} (calls : List HostCall) → NoneMet calls w → Related w ran → Related (history calls w) (rust-history calls ran)
+-- main is the program all along
+pub history-related : {w : World} {ran : Ran} (calls : List HostCall) → NoneMet calls w → w .machine .frames .main .entry .0 ≡ 0 → Related w ran → Related (history calls w) (rust-history calls ran)
 unfolding history rust-history
-history-related [] no-call related = related
-history-related (one ∷ others) (not-met none-met common later) related = history-related others later (left-by-related one related none-met common)
+history-related [] no-call main related = related
+history-related {w} (one ∷ others) (not-met none-met common later) main related =
+    let s = sound-related related in
+    history-related others later (left-main one w (record { tested = s .tested; ends-lent = s .ends-lent }) ∙ main) (left-by-related one related main none-met common)

@@ -24,19 +24,13 @@ use Rattle.agreement.specs.Agreement.{Over, refusal-of}
 
 -- ---- the Rust in a history
 
--- what main runs: the instructions of the first frame of call_stack, which init pushed; it stands last, since the top is first
-unfoldable pub main-ref : List InstructionsFrame → ℕ
-main-ref [] = 0
-main-ref (frame ∷ []) = frame .instructions-ref
-main-ref (frame ∷ below ∷ others) = main-ref (below ∷ others)
-
--- main at place 0
-abbrev pub main-of : VM → InstructionsFrame
-main-of vm = record { instructions-ref = main-ref (vm .call-stack); pc = 0 }
+-- main at place 0: the program is the first entry
+abbrev pub rust-main : InstructionsFrame
+rust-main = record { instructions-ref = 0; pc = 0 }
 
 -- the machine of the Rust with the same tasks, pool and storage, one frame at main, place 0, and an empty control stack
 unfoldable pub from-main : VM → VM
-from-main vm = in-frame (with-call-stack (with-control-stack vm []) (main-of vm ∷ [])) (main-of vm)
+from-main vm = in-frame (with-call-stack (with-control-stack vm []) (rust-main ∷ [])) rust-main
 
 -- on from a machine of the Rust that rests; any other stays as it is
 unfoldable pub if-rests : (VM → Ran) → Ran → Ran

@@ -77,6 +77,14 @@ one-sound : (frames : Frames) (entries : ℕ) → frames .count ≡ 1 → names 
 unfolding sound-frames
 one-sound frames entries single main = simp (single, main)
 
+-- at least one
+some-by : (frames : Frames) (entries : ℕ) → Framed frames entries → eqb (frames .count) 0 ≡ false
+some-by frames entries (one single main) = rw single
+some-by frames entries (two double main task) = rw double
+
+pub some-frame : (frames : Frames) (entries : ℕ) → sound-frames frames entries ≡ true → eqb (frames .count) 0 ≡ false
+some-frame frames entries sound = some-by frames entries (frames-are frames entries sound)
+
 -- main alone
 main-named : (frames : Frames) (entries : ℕ) → Framed frames entries → names (frames .main) entries ≡ true
 main-named frames entries (one single main) = main

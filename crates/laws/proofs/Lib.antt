@@ -28,5 +28,6 @@ pub mod SoundnessCalls
 pub mod Loading
 pub mod Creation
 pub mod Creates
+pub mod Main
 pub mod Saved
 pub mod Starts

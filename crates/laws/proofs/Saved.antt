@@ -39,6 +39,7 @@ use Rattle.laws.specs.Creatable.{Creatable}
 use Rattle.laws.specs.Saved.{saved-first}
 use Rattle.laws.proofs.Finished.{steps-to}
 use Rattle.laws.proofs.Creation.{none-image, none-joined, create-sound, fresh-new}
+use Rattle.laws.proofs.Main.{fresh-main}
 use Rattle.laws.proofs.Creates.{first-room, few, with-first, created-as, created-is, creates-exactly}
 
 module _ (table : List Task) (pool ends program : List ℕ) (lent : length ends ≡ 1024) where
@@ -108,16 +109,10 @@ module _ {program image : List ℕ} (all : Bytes image) where
 abbrev begun : World → World
 begun w = with-machine w (fresh (at-main (w .machine)))
 
--- main is entry 0
-main-first : {program image : List ℕ} {w : World} → FreshWorld program image w → w .machine .frames .main .entry .0 ≡ 0
-main-first {program} {image} (is-created table pool ends machine stack memory save lent long e) =
-    let c = creates-exactly table pool ends image program .0 (machine, e) in
-    ap (λ (x : Machine). x .frames .main .entry .0) (created-is (sym e ∙ ap (λ (x : Made). x .answer) (created-as table pool ends image program c)))
-
 module _ {rest image : List ℕ} {w : World} (all : Bytes image) (fresh-one : FreshWorld (S-SAVE ∷ rest) image w) where
   code-first : code (begun w) ≡ S-SAVE ∷ rest
   unfolding code-of current last-two
-  code-first = rw (main-first fresh-one) (code-is all fresh-one)
+  code-first = rw (fresh-main fresh-one) (code-is all fresh-one)
 
   place-first : place (begun w) ≡ 0
   unfolding current last-two
