@@ -5,28 +5,28 @@ use mathlib.Core.Path.{_≡_, refl}
 use native.Mathlib.Omega.{arith}
 use lib.Dec.{eqb}
 use borrow.Author.Tests.{eq-eqb, ne-eqb, eqb-true}
-use Rattle.values.specs.Values.{make-scalar-tagged, make-vec-tagged, to-u32-val, to-calldata-val, to-bool-val, head, is-qnan, is-scalar, is-vec, raw-tag, to-u32, fat-pointer, bool-not, get-value-type, vec-type, scalar-type}
+use Rattle.values.specs.Values.{OFFSET-BEGIN, OFFSET-WIDTH, SIZE-BEGIN, SIZE-WIDTH, make-scalar-tagged, make-vec-tagged, to-u32-val, to-calldata-val, to-bool-val, head, is-qnan, is-scalar, is-vec, raw-tag, to-u32, fat-pointer, bool-not, get-value-type, vec-type, scalar-type}
 use Rattle.values.specs.declared.ValueType.the-variants.{U32, String, CallData, Boolean, VecU32}
 
 -- the head of a scalar
-scalar-head : (tag payload : ℕ) → head (make-scalar-tagged tag payload) ≡ 2 ^ 13 - 1
+scalar-head-back : (tag payload : ℕ) → head (make-scalar-tagged tag payload) ≡ 2 ^ 13 - 1
 unfolding make-scalar-tagged
-scalar-head tag payload = omega arith
+scalar-head-back tag payload = omega arith
 
 -- the head of a vector
-vec-head : (offset size tag : ℕ) → head (make-vec-tagged offset size tag) ≡ 2 ^ 14 - 1
+vec-head-back : (offset size tag : ℕ) → head (make-vec-tagged offset size tag) ≡ 2 ^ 14 - 1
 unfolding make-vec-tagged
-vec-head offset size tag = omega arith
+vec-head-back offset size tag = omega arith
 
 -- a scalar is a scalar
 pub scalar-is-scalar : (tag payload : ℕ) → is-scalar (make-scalar-tagged tag payload) ≡ true
 unfolding is-scalar
-scalar-is-scalar tag payload = eq-eqb _ _ (scalar-head tag payload)
+scalar-is-scalar tag payload = eq-eqb _ _ (scalar-head-back tag payload)
 
 -- a vector is a vector
 pub vec-is-vec : (offset size tag : ℕ) → is-vec (make-vec-tagged offset size tag) ≡ true
 unfolding is-vec
-vec-is-vec offset size tag = eq-eqb _ _ (vec-head offset size tag)
+vec-is-vec offset size tag = eq-eqb _ _ (vec-head-back offset size tag)
 
 -- no value is both
 pub scalar-no-vec : (v : ℕ) → is-scalar v ≡ true → is-vec v ≡ false
@@ -56,8 +56,8 @@ scalar-tag-back tag payload small = omega arith
 pub pointer-back : (offset size tag : ℕ) → offset < 2 ^ 25 → size < 2 ^ 16 → fat-pointer (make-vec-tagged offset size tag) ≡ record { offset = offset; size = size }
 unfolding make-vec-tagged fat-pointer
 pointer-back offset size tag small short =
-    let o : (0xFFFC000000000000 + offset % 2 ^ 25 * 2 ^ 25 + size % 2 ^ 16 * 2 ^ 9 + tag % 2 ^ 3) / 2 ^ 25 % 2 ^ 25 ≡ offset = omega arith in
-    let s : (0xFFFC000000000000 + offset % 2 ^ 25 * 2 ^ 25 + size % 2 ^ 16 * 2 ^ 9 + tag % 2 ^ 3) / 2 ^ 9 % 2 ^ 16 ≡ size = omega arith in
+    let o : make-vec-tagged offset size tag / OFFSET-BEGIN % OFFSET-WIDTH ≡ offset = omega arith in
+    let s : make-vec-tagged offset size tag / SIZE-BEGIN % SIZE-WIDTH ≡ size = omega arith in
     simp (o, s)
 
 -- and so does its tag

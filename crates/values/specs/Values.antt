@@ -1,4 +1,17 @@
--- Boxed values, as the drawing at the head of values.rs has them: fields side by side in a word of 64 bits.
+-- Boxed values: a scalar or a vector in one word of 64 bits, made and read field by field as they are drawn.
+--
+--     bit   63 62          50 49                            18 17              3 2   0
+--          +--+--------------+--------------------------------+-----------------+-----+
+--          | 0| QNAN, ones   | payload                        | unused, zeros   | tag |   scalar
+--          +--+--------------+--------------------------------+-----------------+-----+
+--
+--     bit   63 62          50 49                    25 24            9 8       3 2   0
+--          +--+--------------+------------------------+---------------+---------+-----+
+--          | 1| QNAN, ones   | offset                 | size          | zeros   | tag |   vector
+--          +--+--------------+------------------------+---------------+---------+-----+
+--
+-- A field begins at 2 to the power of its lowest bit, and is as wide as 2 to the power of how many bits it has. A box is the sum of its fields, each times
+-- its begin; a field is the word divided by its begin, and of that the remainder by its width.
 use Prim.Native.Nat.{ℕ, _+_, _-_, _*_, _/_, _%_, _^_}
 use mathlib.Core.Bool.{Bool, true, false, cond, not}
 use lib.Dec.{eqb, ltb}
@@ -13,50 +26,113 @@ use Rattle.values.specs.declared.PointerResult.the-variants.{Pointer, No
 use Rattle.values.specs.declared.ValueType.{ValueType}
 use Rattle.values.specs.declared.ValueType.the-variants.{U32, String, CallData, Boolean, VecU32, Null, NoType}
 
--- SIGN_BIT(1) 0 - QNAN BITS(13) - PAYLOAD(32) - UNUSED(15) - TAG BITS(3)
+abbrev pub QNAN-BEGIN : ℕ
+QNAN-BEGIN = 2 ^ 50
+
+abbrev pub QNAN-WIDTH : ℕ
+QNAN-WIDTH = 2 ^ 13
+
+abbrev pub PAYLOAD-BEGIN : ℕ
+PAYLOAD-BEGIN = 2 ^ 18
+
+abbrev pub PAYLOAD-WIDTH : ℕ
+PAYLOAD-WIDTH = 2 ^ 32
+
+abbrev pub OFFSET-BEGIN : ℕ
+OFFSET-BEGIN = 2 ^ 25
+
+abbrev pub OFFSET-WIDTH : ℕ
+OFFSET-WIDTH = 2 ^ 25
+
+abbrev pub SIZE-BEGIN : ℕ
+SIZE-BEGIN = 2 ^ 9
+
+abbrev pub SIZE-WIDTH : ℕ
+SIZE-WIDTH = 2 ^ 16
+
+abbrev pub TAG-BEGIN : ℕ
+TAG-BEGIN = 2 ^ 0
+
+abbrev pub TAG-WIDTH : ℕ
+TAG-WIDTH = 2 ^ 3
+
+-- all the QNAN bits, set
+abbrev pub QNAN : ℕ
+QNAN = QNAN-WIDTH - 1
+
+-- the sign and the QNAN bits of a scalar, side by side
+abbrev pub SCALAR-HEAD : ℕ
+SCALAR-HEAD = 0 * QNAN-WIDTH + QNAN
+
+-- and of a vector
+abbrev pub VEC-HEAD : ℕ
+VEC-HEAD = 1 * QNAN-WIDTH + QNAN
+
+-- what the tag of a value can be
+abbrev pub TAG-NULL : ℕ
+TAG-NULL = 1
+
+abbrev pub TAG-FALSE : ℕ
+TAG-FALSE = 2
+
+abbrev pub TAG-TRUE : ℕ
+TAG-TRUE = 3
+
+abbrev pub TAG-STRING : ℕ
+TAG-STRING = 4
+
+abbrev pub TAG-CALLDATA : ℕ
+TAG-CALLDATA = 5
+
+abbrev pub TAG-U32 : ℕ
+TAG-U32 = 6
+
+-- a scalar: its head, its payload, its tag
 unfoldable pub make-scalar-tagged : ℕ → ℕ → ℕ
-make-scalar-tagged tag payload = 0x7FFC000000000000 + payload % 2 ^ 32 * 2 ^ 18 + tag % 2 ^ 3
+make-scalar-tagged tag payload =
+    SCALAR-HEAD * QNAN-BEGIN + payload % PAYLOAD-WIDTH * PAYLOAD-BEGIN + tag % TAG-WIDTH * TAG-BEGIN
 
--- SIGN_BIT(1) 1 - QNAN BITS(13) - OFFSET(25) - SIZE(16) - UNUSED(6) - TAG BITS(3)
+-- a vector: its head, its offset, its size, its tag
 unfoldable pub make-vec-tagged : ℕ → ℕ → ℕ → ℕ
-make-vec-tagged offset size tag = 0xFFFC000000000000 + offset % 2 ^ 25 * 2 ^ 25 + size % 2 ^ 16 * 2 ^ 9 + tag % 2 ^ 3
+make-vec-tagged offset size tag =
+    VEC-HEAD * QNAN-BEGIN + offset % OFFSET-WIDTH * OFFSET-BEGIN + size % SIZE-WIDTH * SIZE-BEGIN + tag % TAG-WIDTH * TAG-BEGIN
 
--- a vector, whose offset is below 2^25
+-- a vector, whose offset must fit its field
 unfoldable pub to-vec-val : ℕ → ℕ → ℕ → ValueResult
-to-vec-val offset size tag = cond (ltb offset (2 ^ 25)) (Value (make-vec-tagged offset size tag)) (NoValue MSliceParamOverflow)
+to-vec-val offset size tag = cond (ltb offset OFFSET-WIDTH) (Value (make-vec-tagged offset size tag)) (NoValue MSliceParamOverflow)
 
 -- a number
 abbrev pub to-u32-val : ℕ → ℕ
-to-u32-val number = make-scalar-tagged 6 number
+to-u32-val number = make-scalar-tagged TAG-U32 number
 
 -- a reference to an entry of the pool
 abbrev pub to-calldata-val : ℕ → ℕ
-to-calldata-val index = make-scalar-tagged 5 index
+to-calldata-val index = make-scalar-tagged TAG-CALLDATA index
 
 -- TRUE and FALSE
 unfoldable pub to-bool-val : Bool → ℕ
-to-bool-val true = make-scalar-tagged 3 0
-to-bool-val false = make-scalar-tagged 2 0
+to-bool-val true = make-scalar-tagged TAG-TRUE 0
+to-bool-val false = make-scalar-tagged TAG-FALSE 0
 
--- the sign and the thirteen QNAN bits
+-- the sign and the QNAN bits
 abbrev pub head : ℕ → ℕ
-head v = v / 2 ^ 50
+head v = v / QNAN-BEGIN
 
 -- boxed: all QNAN bits are set
 unfoldable pub is-qnan : ℕ → Bool
-is-qnan v = eqb (head v % 2 ^ 13) (2 ^ 13 - 1)
+is-qnan v = eqb (head v % QNAN-WIDTH) QNAN
 
 -- boxed, with the sign clear
 unfoldable pub is-scalar : ℕ → Bool
-is-scalar v = eqb (head v) (2 ^ 13 - 1)
+is-scalar v = eqb (head v) SCALAR-HEAD
 
 -- boxed, with the sign set
 unfoldable pub is-vec : ℕ → Bool
-is-vec v = eqb (head v) (2 ^ 14 - 1)
+is-vec v = eqb (head v) VEC-HEAD
 
 -- the three lowest bits
 unfoldable pub raw-tag : ℕ → ℕ
-raw-tag v = v % 2 ^ 3
+raw-tag v = v / TAG-BEGIN % TAG-WIDTH
 
 -- the tag of a boxed value
 unfoldable pub tag-of : ℕ → TagResult
@@ -64,15 +140,15 @@ tag-of v = cond (is-qnan v) (Tag (raw-tag v)) (NoTag InvalidType)
 
 -- a number, by its box
 unfoldable pub is-u32-val : ℕ → Bool
-is-u32-val v = cond (is-scalar v) (eqb (raw-tag v) 6) false
+is-u32-val v = cond (is-scalar v) (eqb (raw-tag v) TAG-U32) false
 
 -- any value read as a number: the payload of a scalar, 128·offset + size div 512 of a vector
 unfoldable pub to-u32 : ℕ → ℕ
-to-u32 v = v / 2 ^ 18 % 2 ^ 32
+to-u32 v = v / PAYLOAD-BEGIN % PAYLOAD-WIDTH
 
 -- the offset and the size of a vector
 unfoldable pub fat-pointer : ℕ → FatPointer
-fat-pointer v = record { offset = v / 2 ^ 25 % 2 ^ 25; size = v / 2 ^ 9 % 2 ^ 16 }
+fat-pointer v = record { offset = v / OFFSET-BEGIN % OFFSET-WIDTH; size = v / SIZE-BEGIN % SIZE-WIDTH }
 
 -- the same, where the value is a vector
 unfoldable pub to-fat-pointer : ℕ → PointerResult
@@ -99,7 +175,7 @@ mul-checked-i lhs rhs = cond (is-u32-val lhs) (product (to-u32 lhs) rhs) (NoValu
 
 -- TRUE or FALSE, by its box
 unfoldable pub is-bool : ℕ → Bool
-is-bool v = cond (is-scalar v) (cond (eqb (raw-tag v) 3) true (eqb (raw-tag v) 2)) false
+is-bool v = cond (is-scalar v) (cond (eqb (raw-tag v) TAG-TRUE) true (eqb (raw-tag v) TAG-FALSE)) false
 
 -- exactly one side is a vector
 unfoldable pub one-vector : ℕ → ℕ → Bool
@@ -112,10 +188,10 @@ of-one-kind left right = cond (eqb (raw-tag left) (raw-tag right)) true (cond (i
 -- two values of one kind, by the left one's tag: numbers and references by what they read as, bools by the whole word
 unfoldable pub alike : ℕ → ℕ → ℕ → ValueResult
 alike tag left right =
-    cond (eqb tag 6) (Value (to-bool-val (eqb (to-u32 left) (to-u32 right))))
-    (cond (eqb tag 5) (Value (to-bool-val (eqb (to-u32 left) (to-u32 right))))
-    (cond (eqb tag 3) (Value (to-bool-val (eqb left right)))
-    (cond (eqb tag 2) (Value (to-bool-val (eqb left right))) (NoValue InvalidType))))
+    cond (eqb tag TAG-U32) (Value (to-bool-val (eqb (to-u32 left) (to-u32 right))))
+    (cond (eqb tag TAG-CALLDATA) (Value (to-bool-val (eqb (to-u32 left) (to-u32 right))))
+    (cond (eqb tag TAG-TRUE) (Value (to-bool-val (eqb left right)))
+    (cond (eqb tag TAG-FALSE) (Value (to-bool-val (eqb left right))) (NoValue InvalidType))))
 
 -- EQ of two values, not both vectors: 5 for a word that is no box; 6 for a vector with a scalar, then for different tags, but TRUE and FALSE are compared
 unfoldable pub value-eq : ℕ → ℕ → ValueResult
@@ -147,17 +223,17 @@ value-cmp left right is-lt =
 
 -- the type of a vector by its tag
 unfoldable pub vec-type : ℕ → ValueType
-vec-type tag = cond (eqb tag 6) VecU32 (cond (eqb tag 4) String NoType)
+vec-type tag = cond (eqb tag TAG-U32) VecU32 (cond (eqb tag TAG-STRING) String NoType)
 
 -- the type of a scalar by its tag
 unfoldable pub scalar-type : ℕ → ValueType
 scalar-type tag =
-    cond (eqb tag 6) U32
-    (cond (eqb tag 5) CallData
-    (cond (eqb tag 4) String
-    (cond (eqb tag 3) Boolean
-    (cond (eqb tag 2) Boolean
-    (cond (eqb tag 1) Null NoType)))))
+    cond (eqb tag TAG-U32) U32
+    (cond (eqb tag TAG-CALLDATA) CallData
+    (cond (eqb tag TAG-STRING) String
+    (cond (eqb tag TAG-TRUE) Boolean
+    (cond (eqb tag TAG-FALSE) Boolean
+    (cond (eqb tag TAG-NULL) Null NoType)))))
 
 -- the type of a value, if it has one
 unfoldable pub get-value-type : ℕ → ValueType

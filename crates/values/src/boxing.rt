@@ -1,37 +1,22 @@
 // What makes a box: of a vector, of a number, of a reference to an entry of the pool, of a bool.
 ghost use mathlib.Core.Path.{_≡_};
-ghost use Rattle.values.specs.Values.{make-scalar-tagged, make-vec-tagged, to-vec-val, to-u32-val, to-calldata-val, to-bool-val};
+ghost use Rattle.values.specs.Values.{to-vec-val, to-u32-val, to-calldata-val, to-bool-val};
+use crate::OFFSET_WIDTH;
 use crate::TAG_CALLDATA;
 use crate::TAG_FALSE;
 use crate::TAG_TRUE;
 use crate::TAG_U32;
 use crate::ValueResult;
+use crate::make_scalar_tagged;
+use crate::make_vec_tagged;
 use errors::Refusal;
 use pools::InstructionsRef;
-
-const QNAN: u64 = 0x7FFC000000000000;
-
-const SIGN_BIT: u64 = 0x8000000000000000;
-
-// A scalar: its tag, and its payload from bit 18.
-fn make_scalar_tagged(tag: u64, payload: u32) -> u64
-    ensures { λ r. ⌜ r ≡ make-scalar-tagged tag payload ⌝ }
-{
-    QNAN + (payload as u64) * 0x40000 + tag % 8
-}
-
-// A vector: its tag, its size from bit 9, its offset from bit 25.
-fn make_vec_tagged(offset: u32, size: u16, tag: u64) -> u64
-    ensures { λ r. ⌜ r ≡ make-vec-tagged offset size tag ⌝ }
-{
-    SIGN_BIT + QNAN + (offset % 0x2000000) as u64 * 0x2000000 + (size as u64) * 0x200 + tag % 8
-}
 
 // The box of a vector, whose offset must be below 2^25.
 pub fn to_vec_val(offset: usize, size: u16, tag: u64) -> ValueResult
     ensures { λ r. ⌜ r ≡ to-vec-val offset size tag ⌝ }
 {
-    if offset < 0x2000000 {
+    if (offset as u64) < OFFSET_WIDTH {
         return ValueResult::Value(make_vec_tagged(offset as u32, size, tag));
     }
     ValueResult::NoValue(Refusal::MSliceParamOverflow)

@@ -1,13 +1,55 @@
-// Boxed values: scalars and vectors in one word of 64 bits, and what is read of one, as quotients and remainders by powers of two.
+// Boxed values: a scalar or a vector in one word of 64 bits, made and read field by field as they are drawn.
+//
+//     bit   63 62          50 49                            18 17              3 2   0
+//          +--+--------------+--------------------------------+-----------------+-----+
+//          | 0| QNAN, ones   | payload                        | unused, zeros   | tag |   scalar
+//          +--+--------------+--------------------------------+-----------------+-----+
+//
+//     bit   63 62          50 49                    25 24            9 8       3 2   0
+//          +--+--------------+------------------------+---------------+---------+-----+
+//          | 1| QNAN, ones   | offset                 | size          | zeros   | tag |   vector
+//          +--+--------------+------------------------+---------------+---------+-----+
+//
+// A field begins at 2 to the power of its lowest bit, and is as wide as 2 to the power of how many bits it has. A box is the sum of its fields, each times
+// its begin; a field is the word divided by its begin, and of that the remainder by its width.
 pub mod boxing;
 pub mod calculations;
 pub mod comparison;
 pub mod kinds;
 
 ghost use mathlib.Core.Path.{_≡_};
-ghost use Rattle.values.specs.Values.{is-qnan, is-scalar, is-vec, raw-tag, tag-of, is-u32-val, to-u32, fat-pointer, to-fat-pointer};
+ghost use Rattle.values.specs.Values.{make-scalar-tagged, make-vec-tagged, is-qnan, is-scalar, is-vec, raw-tag, tag-of, is-u32-val, to-u32, fat-pointer, to-fat-pointer};
 use errors::Refusal;
 
+const QNAN_BEGIN: u64 = 0x4000000000000; // 2^50
+
+const QNAN_WIDTH: u64 = 0x2000; // 2^13
+
+const PAYLOAD_BEGIN: u64 = 0x40000; // 2^18
+
+const PAYLOAD_WIDTH: u64 = 0x100000000; // 2^32
+
+const OFFSET_BEGIN: u64 = 0x2000000; // 2^25
+
+pub(crate) const OFFSET_WIDTH: u64 = 0x2000000; // 2^25
+
+const SIZE_BEGIN: u64 = 0x200; // 2^9
+
+const SIZE_WIDTH: u64 = 0x10000; // 2^16
+
+const TAG_BEGIN: u64 = 0x1; // 2^0
+
+const TAG_WIDTH: u64 = 0x8; // 2^3
+
+// All the QNAN bits, set.
+const QNAN: u64 = QNAN_WIDTH - 1;
+
+// The head of a box is its sign and its QNAN bits, side by side: of a scalar with sign 0, of a vector with sign 1.
+const SCALAR_HEAD: u64 = 0 * QNAN_WIDTH + QNAN;
+
+const VEC_HEAD: u64 = 1 * QNAN_WIDTH + QNAN;
+
+// What the tag of a value can be.
 pub const TAG_NULL: u64 = 1;
 
 pub const TAG_FALSE: u64 = 2;
@@ -55,32 +97,49 @@ pub enum ValueType {
     NoType,
 }
 
+// A scalar: its head, its payload, its tag.
+pub(crate) fn make_scalar_tagged(tag: u64, payload: u32) -> u64
+    ensures { λ r. ⌜ r ≡ make-scalar-tagged tag payload ⌝ }
+{
+    SCALAR_HEAD * QNAN_BEGIN + (payload as u64) * PAYLOAD_BEGIN + tag % TAG_WIDTH * TAG_BEGIN
+}
+
+// A vector: its head, its offset, its size, its tag.
+pub(crate) fn make_vec_tagged(offset: u32, size: u16, tag: u64) -> u64
+    ensures { λ r. ⌜ r ≡ make-vec-tagged offset size tag ⌝ }
+{
+    VEC_HEAD * QNAN_BEGIN
+        + (offset as u64) % OFFSET_WIDTH * OFFSET_BEGIN
+        + (size as u64) * SIZE_BEGIN
+        + tag % TAG_WIDTH * TAG_BEGIN
+}
+
 // Whether a word is a boxed value.
 pub(crate) fn is_qnan(v: u64) -> bool
     ensures { λ r. ⌜ r ≡ is-qnan v ⌝ }
 {
-    v / 0x4000000000000 % 0x2000 == 0x1FFF
+    v / QNAN_BEGIN % QNAN_WIDTH == QNAN
 }
 
 // Whether a word is a boxed scalar.
 pub(crate) fn is_scalar(v: u64) -> bool
     ensures { λ r. ⌜ r ≡ is-scalar v ⌝ }
 {
-    v / 0x4000000000000 == 0x1FFF
+    v / QNAN_BEGIN == SCALAR_HEAD
 }
 
 // Whether a word is a boxed vector.
 pub fn is_vec(v: u64) -> bool
     ensures { λ r. ⌜ r ≡ is-vec v ⌝ }
 {
-    v / 0x4000000000000 == 0x3FFF
+    v / QNAN_BEGIN == VEC_HEAD
 }
 
 // The three lowest bits of a word.
 pub fn raw_tag(v: u64) -> u64
     ensures { λ r. ⌜ r ≡ raw-tag v ⌝ }
 {
-    v % 8
+    v / TAG_BEGIN % TAG_WIDTH
 }
 
 // The tag of a boxed value.
@@ -107,7 +166,7 @@ pub(crate) fn is_u32_val(v: u64) -> bool
 pub fn to_u32(v: u64) -> u32
     ensures { λ r. ⌜ r ≡ to-u32 v ⌝ }
 {
-    (v / 0x40000 % 0x100000000) as u32
+    (v / PAYLOAD_BEGIN % PAYLOAD_WIDTH) as u32
 }
 
 // The offset and the size in a word.
@@ -115,8 +174,8 @@ pub fn fat_pointer(v: u64) -> FatPointer
     ensures { λ r. ⌜ r ≡ fat-pointer v ⌝ }
 {
     FatPointer {
-        offset: (v / 0x2000000 % 0x2000000) as u32,
-        size: (v / 0x200 % 0x10000) as u16,
+        offset: (v / OFFSET_BEGIN % OFFSET_WIDTH) as u32,
+        size: (v / SIZE_BEGIN % SIZE_WIDTH) as u16,
     }
 }
 
