@@ -5,16 +5,28 @@ use mathlib.Core.Path.{_≡_, refl}
 use native.Mathlib.Omega.{arith}
 use lib.Dec.{eqb}
 use borrow.Author.Tests.{eq-eqb, ne-eqb, eqb-true}
-use Rattle.values.specs.Values.{OFFSET-BEGIN, OFFSET-WIDTH, SIZE-BEGIN, SIZE-WIDTH, make-scalar-tagged, make-vec-tagged, to-u32-val, to-calldata-val, to-bool-val, head, is-qnan, is-scalar, is-vec, raw-tag, to-u32, fat-pointer, bool-not, get-value-type, vec-type, scalar-type}
+use Rattle.values.specs.Values.{SIGN-BEGIN, QNAN-BEGIN, QNAN-WIDTH, PAYLOAD-BEGIN, PAYLOAD-WIDTH, OFFSET-BEGIN, OFFSET-WIDTH, SIZE-BEGIN, SIZE-WIDTH, TAG-BEGIN, TAG-WIDTH, QNAN, make-scalar-tagged, make-vec-tagged, to-u32-val, to-calldata-val, to-bool-val, head, is-qnan, is-scalar, is-vec, raw-tag, to-u32, fat-pointer, bool-not, get-value-type, vec-type, scalar-type}
 use Rattle.values.specs.declared.ValueType.the-variants.{U32, String, CallData, Boolean, VecU32}
 
--- the head of a scalar
-scalar-head-back : (tag payload : ℕ) → head (make-scalar-tagged tag payload) ≡ 2 ^ 13 - 1
+-- the fields of a scalar stand side by side: each begins where those to its right end
+pub scalar-side-by-side : (PAYLOAD-BEGIN ≡ 2 ^ 15 * TAG-WIDTH * TAG-BEGIN) × (QNAN-BEGIN ≡ PAYLOAD-WIDTH * PAYLOAD-BEGIN)
+scalar-side-by-side = (refl, refl)
+
+-- so do those of a vector
+pub vec-side-by-side : (SIZE-BEGIN ≡ 2 ^ 6 * TAG-WIDTH * TAG-BEGIN) × ((OFFSET-BEGIN ≡ SIZE-WIDTH * SIZE-BEGIN) × (QNAN-BEGIN ≡ OFFSET-WIDTH * OFFSET-BEGIN))
+vec-side-by-side = (refl, (refl, refl))
+
+-- and the sign is the highest bit of the word
+pub sign-is-highest : (SIGN-BEGIN ≡ QNAN-WIDTH * QNAN-BEGIN) × (2 ^ 64 ≡ 2 * SIGN-BEGIN)
+sign-is-highest = (refl, refl)
+
+-- the head of a scalar comes back
+pub scalar-head-back : (tag payload : ℕ) → head (make-scalar-tagged tag payload) ≡ 0 * QNAN-WIDTH + QNAN
 unfolding make-scalar-tagged
 scalar-head-back tag payload = omega arith
 
--- the head of a vector
-vec-head-back : (offset size tag : ℕ) → head (make-vec-tagged offset size tag) ≡ 2 ^ 14 - 1
+-- the head of a vector comes back
+pub vec-head-back : (offset size tag : ℕ) → head (make-vec-tagged offset size tag) ≡ 1 * QNAN-WIDTH + QNAN
 unfolding make-vec-tagged
 vec-head-back offset size tag = omega arith
 
@@ -31,16 +43,16 @@ vec-is-vec offset size tag = eq-eqb _ _ (vec-head-back offset size tag)
 -- no value is both
 pub scalar-no-vec : (v : ℕ) → is-scalar v ≡ true → is-vec v ≡ false
 unfolding is-scalar is-vec
-scalar-no-vec v s = let h : head v ≡ 2 ^ 13 - 1 = eqb-true _ _ s in ne-eqb (head v) (2 ^ 14 - 1) (λ e. omega arith)
+scalar-no-vec v s = let h : head v ≡ 0 * QNAN-WIDTH + QNAN = eqb-true _ _ s in ne-eqb (head v) (1 * QNAN-WIDTH + QNAN) (λ e. omega arith)
 
 -- each is boxed
 pub scalar-boxed : (v : ℕ) → is-scalar v ≡ true → is-qnan v ≡ true
 unfolding is-scalar is-qnan
-scalar-boxed v s = let h : head v ≡ 2 ^ 13 - 1 = eqb-true _ _ s in eq-eqb (head v % 2 ^ 13) (2 ^ 13 - 1) (omega arith)
+scalar-boxed v s = let h : head v ≡ 0 * QNAN-WIDTH + QNAN = eqb-true _ _ s in eq-eqb (head v % QNAN-WIDTH) QNAN (omega arith)
 
 pub vec-boxed : (v : ℕ) → is-vec v ≡ true → is-qnan v ≡ true
 unfolding is-vec is-qnan
-vec-boxed v s = let h : head v ≡ 2 ^ 14 - 1 = eqb-true _ _ s in eq-eqb (head v % 2 ^ 13) (2 ^ 13 - 1) (omega arith)
+vec-boxed v s = let h : head v ≡ 1 * QNAN-WIDTH + QNAN = eqb-true _ _ s in eq-eqb (head v % QNAN-WIDTH) QNAN (omega arith)
 
 -- the payload of a scalar comes back
 pub payload-back : (tag payload : ℕ) → payload < 2 ^ 32 → to-u32 (make-scalar-tagged tag payload) ≡ payload
@@ -64,6 +76,16 @@ pointer-back offset size tag small short =
 pub vec-tag-back : (offset size tag : ℕ) → tag < 2 ^ 3 → raw-tag (make-vec-tagged offset size tag) ≡ tag
 unfolding make-vec-tagged raw-tag
 vec-tag-back offset size tag small = omega arith
+
+-- the unused bits of a scalar are zeros
+pub scalar-unused : (tag payload : ℕ) → make-scalar-tagged tag payload / (TAG-WIDTH * TAG-BEGIN) % 2 ^ 15 ≡ 0
+unfolding make-scalar-tagged
+scalar-unused tag payload = omega arith
+
+-- and those of a vector
+pub vec-unused : (offset size tag : ℕ) → make-vec-tagged offset size tag / (TAG-WIDTH * TAG-BEGIN) % 2 ^ 6 ≡ 0
+unfolding make-vec-tagged
+vec-unused offset size tag = omega arith
 
 -- a vector read as a number
 pub vec-as-number : (offset size tag : ℕ) → offset < 2 ^ 25 → size < 2 ^ 16 → to-u32 (make-vec-tagged offset size tag) ≡ 128 * offset + size / 512

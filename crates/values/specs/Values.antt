@@ -1,17 +1,20 @@
 -- Boxed values: a scalar or a vector in one word of 64 bits, made and read field by field as they are drawn.
 --
---     bit   63 62          50 49                            18 17              3 2   0
---          +--+--------------+--------------------------------+-----------------+-----+
---          | 0| QNAN, ones   | payload                        | unused, zeros   | tag |   scalar
---          +--+--------------+--------------------------------+-----------------+-----+
+--    bit   63   62         50 49                            18 17              3 2      0
+--         +----+-------------+--------------------------------+-----------------+--------+
+--         |sign| QNAN        | payload                        | unused          | tag    |
+--         | 0  | 13 ones     | 32 bits                        | 15 zeros        | 3 bits |   a scalar
+--         +----+-------------+--------------------------------+-----------------+--------+
 --
---     bit   63 62          50 49                    25 24            9 8       3 2   0
---          +--+--------------+------------------------+---------------+---------+-----+
---          | 1| QNAN, ones   | offset                 | size          | zeros   | tag |   vector
---          +--+--------------+------------------------+---------------+---------+-----+
+--    bit   63   62         50 49                     25 24             9 8       3 2      0
+--         +----+-------------+-------------------------+----------------+---------+--------+
+--         |sign| QNAN        | offset                  | size           | unused  | tag    |
+--         | 1  | 13 ones     | 25 bits                 | 16 bits        | 6 zeros | 3 bits |   a vector
+--         +----+-------------+-------------------------+----------------+---------+--------+
 --
--- A field begins at 2 to the power of its lowest bit, and is as wide as 2 to the power of how many bits it has. A box is the sum of its fields, each times
--- its begin; a field is the word divided by its begin, and of that the remainder by its width.
+-- A field begins at 2 to the power of its lowest bit, and is as wide as 2 to the power of how many bits it has. A box is the sum of its fields, each
+-- multiplied by where it begins. A field is read as a quotient and a remainder: the word divided by where the field begins, and of that what is left
+-- of division by its width.
 use Prim.Native.Nat.{ℕ, _+_, _-_, _*_, _/_, _%_, _^_}
 use mathlib.Core.Bool.{Bool, true, false, cond, not}
 use lib.Dec.{eqb, ltb}
@@ -25,6 +28,9 @@ use Rattle.values.specs.declared.PointerResult.{PointerResult}
 use Rattle.values.specs.declared.PointerResult.the-variants.{Pointer, NoPointer}
 use Rattle.values.specs.declared.ValueType.{ValueType}
 use Rattle.values.specs.declared.ValueType.the-variants.{U32, String, CallData, Boolean, VecU32, Null, NoType}
+
+abbrev pub SIGN-BEGIN : ℕ
+SIGN-BEGIN = 2 ^ 63
 
 abbrev pub QNAN-BEGIN : ℕ
 QNAN-BEGIN = 2 ^ 50
@@ -56,17 +62,9 @@ TAG-BEGIN = 2 ^ 0
 abbrev pub TAG-WIDTH : ℕ
 TAG-WIDTH = 2 ^ 3
 
--- all the QNAN bits, set
+-- the QNAN bits, all ones
 abbrev pub QNAN : ℕ
 QNAN = QNAN-WIDTH - 1
-
--- the sign and the QNAN bits of a scalar, side by side
-abbrev pub SCALAR-HEAD : ℕ
-SCALAR-HEAD = 0 * QNAN-WIDTH + QNAN
-
--- and of a vector
-abbrev pub VEC-HEAD : ℕ
-VEC-HEAD = 1 * QNAN-WIDTH + QNAN
 
 -- what the tag of a value can be
 abbrev pub TAG-NULL : ℕ
@@ -87,15 +85,22 @@ TAG-CALLDATA = 5
 abbrev pub TAG-U32 : ℕ
 TAG-U32 = 6
 
--- a scalar: its head, its payload, its tag
+-- a scalar: sign 0, QNAN, payload, tag
 unfoldable pub make-scalar-tagged : ℕ → ℕ → ℕ
 make-scalar-tagged tag payload =
-    SCALAR-HEAD * QNAN-BEGIN + payload % PAYLOAD-WIDTH * PAYLOAD-BEGIN + tag % TAG-WIDTH * TAG-BEGIN
+    0 * SIGN-BEGIN
+    + QNAN * QNAN-BEGIN
+    + payload % PAYLOAD-WIDTH * PAYLOAD-BEGIN
+    + tag % TAG-WIDTH * TAG-BEGIN
 
--- a vector: its head, its offset, its size, its tag
+-- a vector: sign 1, QNAN, offset, size, tag
 unfoldable pub make-vec-tagged : ℕ → ℕ → ℕ → ℕ
 make-vec-tagged offset size tag =
-    VEC-HEAD * QNAN-BEGIN + offset % OFFSET-WIDTH * OFFSET-BEGIN + size % SIZE-WIDTH * SIZE-BEGIN + tag % TAG-WIDTH * TAG-BEGIN
+    1 * SIGN-BEGIN
+    + QNAN * QNAN-BEGIN
+    + offset % OFFSET-WIDTH * OFFSET-BEGIN
+    + size % SIZE-WIDTH * SIZE-BEGIN
+    + tag % TAG-WIDTH * TAG-BEGIN
 
 -- a vector, whose offset must fit its field
 unfoldable pub to-vec-val : ℕ → ℕ → ℕ → ValueResult
@@ -118,19 +123,19 @@ to-bool-val false = make-scalar-tagged TAG-FALSE 0
 abbrev pub head : ℕ → ℕ
 head v = v / QNAN-BEGIN
 
--- boxed: all QNAN bits are set
+-- boxed: the QNAN bits are ones
 unfoldable pub is-qnan : ℕ → Bool
 is-qnan v = eqb (head v % QNAN-WIDTH) QNAN
 
--- boxed, with the sign clear
+-- a scalar: sign 0, and behind it QNAN
 unfoldable pub is-scalar : ℕ → Bool
-is-scalar v = eqb (head v) SCALAR-HEAD
+is-scalar v = eqb (head v) (0 * QNAN-WIDTH + QNAN)
 
--- boxed, with the sign set
+-- a vector: sign 1, and behind it QNAN
 unfoldable pub is-vec : ℕ → Bool
-is-vec v = eqb (head v) VEC-HEAD
+is-vec v = eqb (head v) (1 * QNAN-WIDTH + QNAN)
 
--- the three lowest bits
+-- the tag in any word
 unfoldable pub raw-tag : ℕ → ℕ
 raw-tag v = v / TAG-BEGIN % TAG-WIDTH
 

@@ -12,7 +12,7 @@ use crate::make_vec_tagged;
 use errors::Refusal;
 use pools::InstructionsRef;
 
-// The box of a vector, whose offset must be below 2^25.
+// The box of a vector, whose offset must fit its field.
 pub fn to_vec_val(offset: usize, size: u16, tag: u64) -> ValueResult
     ensures { λ r. ⌜ r ≡ to-vec-val offset size tag ⌝ }
 {

@@ -1,17 +1,20 @@
 // Boxed values: a scalar or a vector in one word of 64 bits, made and read field by field as they are drawn.
 //
-//     bit   63 62          50 49                            18 17              3 2   0
-//          +--+--------------+--------------------------------+-----------------+-----+
-//          | 0| QNAN, ones   | payload                        | unused, zeros   | tag |   scalar
-//          +--+--------------+--------------------------------+-----------------+-----+
+//    bit   63   62         50 49                            18 17              3 2      0
+//         +----+-------------+--------------------------------+-----------------+--------+
+//         |sign| QNAN        | payload                        | unused          | tag    |
+//         | 0  | 13 ones     | 32 bits                        | 15 zeros        | 3 bits |   a scalar
+//         +----+-------------+--------------------------------+-----------------+--------+
 //
-//     bit   63 62          50 49                    25 24            9 8       3 2   0
-//          +--+--------------+------------------------+---------------+---------+-----+
-//          | 1| QNAN, ones   | offset                 | size          | zeros   | tag |   vector
-//          +--+--------------+------------------------+---------------+---------+-----+
+//    bit   63   62         50 49                     25 24             9 8       3 2      0
+//         +----+-------------+-------------------------+----------------+---------+--------+
+//         |sign| QNAN        | offset                  | size           | unused  | tag    |
+//         | 1  | 13 ones     | 25 bits                 | 16 bits        | 6 zeros | 3 bits |   a vector
+//         +----+-------------+-------------------------+----------------+---------+--------+
 //
-// A field begins at 2 to the power of its lowest bit, and is as wide as 2 to the power of how many bits it has. A box is the sum of its fields, each times
-// its begin; a field is the word divided by its begin, and of that the remainder by its width.
+// A field begins at 2 to the power of its lowest bit, and is as wide as 2 to the power of how many bits it has. A box is the sum of its fields, each
+// multiplied by where it begins. A field is read as a quotient and a remainder: the word divided by where the field begins, and of that what is left
+// of division by its width.
 pub mod boxing;
 pub mod calculations;
 pub mod comparison;
@@ -20,6 +23,8 @@ pub mod kinds;
 ghost use mathlib.Core.Path.{_≡_};
 ghost use Rattle.values.specs.Values.{make-scalar-tagged, make-vec-tagged, is-qnan, is-scalar, is-vec, raw-tag, tag-of, is-u32-val, to-u32, fat-pointer, to-fat-pointer};
 use errors::Refusal;
+
+const SIGN_BEGIN: u64 = 0x8000000000000000; // 2^63
 
 const QNAN_BEGIN: u64 = 0x4000000000000; // 2^50
 
@@ -31,7 +36,7 @@ const PAYLOAD_WIDTH: u64 = 0x100000000; // 2^32
 
 const OFFSET_BEGIN: u64 = 0x2000000; // 2^25
 
-pub(crate) const OFFSET_WIDTH: u64 = 0x2000000; // 2^25
+const OFFSET_WIDTH: u64 = 0x2000000; // 2^25
 
 const SIZE_BEGIN: u64 = 0x200; // 2^9
 
@@ -41,13 +46,8 @@ const TAG_BEGIN: u64 = 0x1; // 2^0
 
 const TAG_WIDTH: u64 = 0x8; // 2^3
 
-// All the QNAN bits, set.
+// The QNAN bits, all ones.
 const QNAN: u64 = QNAN_WIDTH - 1;
-
-// The head of a box is its sign and its QNAN bits, side by side: of a scalar with sign 0, of a vector with sign 1.
-const SCALAR_HEAD: u64 = 0 * QNAN_WIDTH + QNAN;
-
-const VEC_HEAD: u64 = 1 * QNAN_WIDTH + QNAN;
 
 // What the tag of a value can be.
 pub const TAG_NULL: u64 = 1;
@@ -97,45 +97,49 @@ pub enum ValueType {
     NoType,
 }
 
-// A scalar: its head, its payload, its tag.
+// A scalar: sign 0, QNAN, payload, tag.
 pub(crate) fn make_scalar_tagged(tag: u64, payload: u32) -> u64
     ensures { λ r. ⌜ r ≡ make-scalar-tagged tag payload ⌝ }
 {
-    SCALAR_HEAD * QNAN_BEGIN + (payload as u64) * PAYLOAD_BEGIN + tag % TAG_WIDTH * TAG_BEGIN
+    0 * SIGN_BEGIN
+        + QNAN * QNAN_BEGIN
+        + (payload as u64) * PAYLOAD_BEGIN
+        + tag % TAG_WIDTH * TAG_BEGIN
 }
 
-// A vector: its head, its offset, its size, its tag.
+// A vector: sign 1, QNAN, offset, size, tag.
 pub(crate) fn make_vec_tagged(offset: u32, size: u16, tag: u64) -> u64
     ensures { λ r. ⌜ r ≡ make-vec-tagged offset size tag ⌝ }
 {
-    VEC_HEAD * QNAN_BEGIN
+    1 * SIGN_BEGIN
+        + QNAN * QNAN_BEGIN
         + (offset as u64) % OFFSET_WIDTH * OFFSET_BEGIN
         + (size as u64) * SIZE_BEGIN
         + tag % TAG_WIDTH * TAG_BEGIN
 }
 
-// Whether a word is a boxed value.
+// Whether a word is a boxed value: its QNAN bits are ones.
 pub(crate) fn is_qnan(v: u64) -> bool
     ensures { λ r. ⌜ r ≡ is-qnan v ⌝ }
 {
     v / QNAN_BEGIN % QNAN_WIDTH == QNAN
 }
 
-// Whether a word is a boxed scalar.
+// Whether a word is a boxed scalar: sign 0, and behind it QNAN.
 pub(crate) fn is_scalar(v: u64) -> bool
     ensures { λ r. ⌜ r ≡ is-scalar v ⌝ }
 {
-    v / QNAN_BEGIN == SCALAR_HEAD
+    v / QNAN_BEGIN == 0 * QNAN_WIDTH + QNAN
 }
 
-// Whether a word is a boxed vector.
+// Whether a word is a boxed vector: sign 1, and behind it QNAN.
 pub fn is_vec(v: u64) -> bool
     ensures { λ r. ⌜ r ≡ is-vec v ⌝ }
 {
-    v / QNAN_BEGIN == VEC_HEAD
+    v / QNAN_BEGIN == 1 * QNAN_WIDTH + QNAN
 }
 
-// The three lowest bits of a word.
+// The tag in any word.
 pub fn raw_tag(v: u64) -> u64
     ensures { λ r. ⌜ r ≡ raw-tag v ⌝ }
 {
@@ -162,7 +166,7 @@ pub(crate) fn is_u32_val(v: u64) -> bool
     false
 }
 
-// Any word read as a number.
+// Any word read as a number: its payload.
 pub fn to_u32(v: u64) -> u32
     ensures { λ r. ⌜ r ≡ to-u32 v ⌝ }
 {

@@ -20,6 +20,12 @@ mul-result-3 c = search needs
 add-result-2 : tie.Need-add-result-2
 add-result-2 c = search needs
 
+mul-result-4 : tie.Need-mul-result-4
+mul-result-4 c = search needs
+
+add-result-3 : tie.Need-add-result-3
+add-result-3 c = search needs
+
 returns : tie.Need-returns
 unfolding make-scalar-tagged
 returns c = omega arith
@@ -33,4 +39,6 @@ make-scalar-tagged-spec =
     add-result
     mul-result-3
     add-result-2
+    mul-result-4
+    add-result-3
     returns)

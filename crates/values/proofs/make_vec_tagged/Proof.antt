@@ -26,6 +26,12 @@ mul-result-4 c = search needs
 add-result-3 : tie.Need-add-result-3
 add-result-3 c = search needs
 
+mul-result-5 : tie.Need-mul-result-5
+mul-result-5 c = search needs
+
+add-result-4 : tie.Need-add-result-4
+add-result-4 c = search needs
+
 returns : tie.Need-returns
 unfolding make-vec-tagged
 returns c = omega arith
@@ -41,4 +47,6 @@ make-vec-tagged-spec =
     add-result-2
     mul-result-4
     add-result-3
+    mul-result-5
+    add-result-4
     returns)
