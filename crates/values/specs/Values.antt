@@ -12,9 +12,8 @@
 --         | 1  | 13 ones     | 25 bits                 | 16 bits        | 6 zeros | 3 bits |   a vector
 --         +----+-------------+-------------------------+----------------+---------+--------+
 --
--- A field begins at 2 to the power of its lowest bit, and is as wide as 2 to the power of how many bits it has. A box is the sum of its fields, each
--- multiplied by where it begins. A field is read as a quotient and a remainder: the word divided by where the field begins, and of that what is left
--- of division by its width.
+-- A field begins at 2^k if its lowest bit has number k, and is 2^w wide if it has w bits. A box is the sum of its fields, each multiplied by where it
+-- begins. A field is read by dividing the word by where the field begins, and taking of that the remainder by the field's width.
 use Prim.Native.Nat.{ℕ, _+_, _-_, _*_, _/_, _%_, _^_}
 use mathlib.Core.Bool.{Bool, true, false, cond, not}
 use lib.Dec.{eqb, ltb}
@@ -29,6 +28,7 @@ use Rattle.values.specs.declared.PointerResult.the-variants.{Pointer, No
 use Rattle.values.specs.declared.ValueType.{ValueType}
 use Rattle.values.specs.declared.ValueType.the-variants.{U32, String, CallData, Boolean, VecU32, Null, NoType}
 
+-- where each field begins, and how wide it is
 abbrev pub SIGN-BEGIN : ℕ
 SIGN-BEGIN = 2 ^ 63
 

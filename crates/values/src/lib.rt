@@ -12,9 +12,8 @@
 //         | 1  | 13 ones     | 25 bits                 | 16 bits        | 6 zeros | 3 bits |   a vector
 //         +----+-------------+-------------------------+----------------+---------+--------+
 //
-// A field begins at 2 to the power of its lowest bit, and is as wide as 2 to the power of how many bits it has. A box is the sum of its fields, each
-// multiplied by where it begins. A field is read as a quotient and a remainder: the word divided by where the field begins, and of that what is left
-// of division by its width.
+// A field begins at 2^k if its lowest bit has number k, and is 2^w wide if it has w bits. A box is the sum of its fields, each multiplied by where it
+// begins. A field is read by dividing the word by where the field begins, and taking of that the remainder by the field's width.
 pub mod boxing;
 pub mod calculations;
 pub mod comparison;
@@ -24,6 +23,7 @@ ghost use mathlib.Core.Path.{_≡_};
 ghost use Rattle.values.specs.Values.{make-scalar-tagged, make-vec-tagged, is-qnan, is-scalar, is-vec, raw-tag, tag-of, is-u32-val, to-u32, fat-pointer, to-fat-pointer};
 use errors::Refusal;
 
+// Where each field begins, and how wide it is.
 const SIGN_BEGIN: u64 = 0x8000000000000000; // 2^63
 
 const QNAN_BEGIN: u64 = 0x4000000000000; // 2^50
