@@ -1,4 +1,4 @@
--- What was boxed comes back: each field of a box is what went in, over its whole range, and a box is of one kind only.
+-- What was boxed comes back: fields stand side by side, each is what went in, over its whole range, and a box is of one kind only.
 use Prim.Native.Nat.{ℕ, _+_, _-_, _*_, _/_, _%_, _^_, _<_}
 use mathlib.Core.Bool.{Bool, true, false, not}
 use mathlib.Core.Path.{_≡_, refl}

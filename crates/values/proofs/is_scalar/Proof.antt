@@ -15,9 +15,4 @@ unfolding is-scalar
 returns c = search needs
 
 pub is-scalar-spec : {M : Type 1} → statement M
-is-scalar-spec =
-    tie.close
-    (tie.spec
-    mul-result
-    add-result
-    returns)
+is-scalar-spec = tie.close (tie.spec mul-result add-result returns)

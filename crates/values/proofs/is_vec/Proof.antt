@@ -15,9 +15,4 @@ unfolding is-vec
 returns c = search needs
 
 pub is-vec-spec : {M : Type 1} → statement M
-is-vec-spec =
-    tie.close
-    (tie.spec
-    mul-result
-    add-result
-    returns)
+is-vec-spec = tie.close (tie.spec mul-result add-result returns)
