@@ -1,5 +1,6 @@
 pub mod Values
 pub mod Behind
 pub mod Performing
-pub mod AnsweringLines
+pub mod Passes
+pub mod Whole
 pub mod Runs

@@ -11,7 +11,6 @@ use Rattle.listing.specs.declared.Head.the-variants.{Done, Paused, Refused, Sav
 use Rattle.host.specs.declared.hosting.RunSummary.{RunSummary}
 use Rattle.host.specs.declared.reasons.Reason.{Reason}
 use Rattle.host.specs.Reasons.{as-numbers}
-use Rattle.host.specs.declared.answering.ListingLengths.{ListingLengths}
 
 -- no refusal
 abbrev pub no-reason : Reason
@@ -53,13 +52,13 @@ abbrev pub told : ℕ → List ℕ → Told
 told answer numbers = record { answer = answer; numbers = numbers }
 
 -- the eight numbers, in their order
-abbrev pub numbers-of : RunSummary → ListingLengths → Reason → List ℕ
-numbers-of performed listed why =
-    outcome-of (performed .head) ∷ performed .finished ∷ why .number ∷ why .first ∷ why .second ∷ listed .written ∷ performed .saved ∷ listed .needed ∷ []
+abbrev pub numbers-of : RunSummary → Reason → List ℕ
+numbers-of performed why =
+    outcome-of (performed .head) ∷ performed .finished ∷ why .number ∷ why .first ∷ why .second ∷ performed .listing .written ∷ performed .saved ∷ performed .listing .needed ∷ []
 
-abbrev pub answers-with : List ℕ → RunSummary → ListingLengths → Reason → Told
-answers-with answer performed listed why =
-    told (packed (outcome-of (performed .head)) (why .number) (listing-number (listed .written))) (sets answer 0 (numbers-of performed listed why))
+abbrev pub answers-with : List ℕ → RunSummary → Reason → Told
+answers-with answer performed why =
+    told (packed (outcome-of (performed .head)) (why .number) (listing-number (performed .listing .written))) (sets answer 0 (numbers-of performed why))
 
-unfoldable pub answers : List ℕ → RunSummary → ListingLengths → Told
-answers answer performed listed = answers-with answer performed listed (reason-of (performed .head) (performed .save))
+unfoldable pub answers : List ℕ → RunSummary → Told
+answers answer performed = answers-with answer performed (reason-of (performed .head) (performed .save))

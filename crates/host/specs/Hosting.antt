@@ -1,12 +1,7 @@
--- A run for a host: a machine is created, started, saved where the run was not refused, and its tasks are listed.
+-- A run for a host: a machine is created, started, saved where the run was not refused, and listed.
 use Prim.Native.Nat.{ℕ}
 use mathlib.Core.List.{List}
 use Rattle.storage.specs.declared.Task.{Task}
-use Rattle.text.specs.declared.LineResult.{LineResult}
-use Rattle.text.specs.Lines.{Lined}
-use Rattle.listing.specs.Listing.{height-of}
-use Rattle.listing.specs.declared.Head.{Head}
-use Rattle.listing.specs.declared.Head.the-variants as head
 use Rattle.machine.specs.declared.Machine.{Machine}
 use Rattle.machine.specs.Machines.{with-ids}
 use Rattle.machine.specs.declared.Outcome.{Outcome}
@@ -19,7 +14,8 @@ use Rattle.machine.specs.declared.SaveReport.{SaveReport}
 use Rattle.machine.specs.Calls.{Reported, start}
 use Rattle.machine.specs.Creation.{machine-of, blank-table, Made, create}
 use Rattle.machine.specs.Reads.{SavedTo, host-save}
-use Rattle.host.specs.Lines.{task-lines}
+use Rattle.host.specs.Listings.{head-of, ListedIn, list-run}
+use Rattle.host.specs.declared.answering.ListingLengths.{ListingLengths}
 use Rattle.host.specs.declared.hosting.RunSummary.{RunSummary}
 
 -- ---- between the calls
@@ -37,27 +33,14 @@ machine-to-save (Refused refusal) machine = unsavable machine
 abbrev pub to-save : Report → Machine
 to-save report = machine-to-save (report .outcome) (report .machine)
 
--- how a run ended: a refused creation, or what the run reports
-unfoldable pub run-head : ℕ → Outcome → Head
-run-head finished Done = head.Done finished
-run-head finished Paused = head.Paused finished
-run-head finished (Refused refusal) = head.Refused refusal
-
-unfoldable pub head-of : CreateResult → Report → Head
-head-of (Created machine) report = run-head (report .finished) (report .outcome)
-head-of (NotCreated refusal) report = head.Refused refusal
-
 -- what came of it all
-unfoldable pub performed : CreateResult → Report → SaveReport → LineResult → RunSummary
-performed creation report saved lines = record {
+unfoldable pub performed : CreateResult → Report → SaveReport → ListingLengths → RunSummary
+performed creation report saved listing = record {
   head = head-of creation report;
   finished = report .finished;
   save = saved .result;
-  height = height-of (head-of creation report) (report .machine .height);
-  memory = report .machine .memory;
-  entries = report .machine .entries;
   saved = saved .machine .saved;
-  lines = lines;
+  listing = listing;
 }
 
 -- ---- one call after the other
@@ -71,36 +54,37 @@ pub record RunSummaryIn : Type 0 where
   pub pool : List ℕ
   pub ends : List ℕ
   pub save : List ℕ
-  pub lines : List ℕ
+  pub listing : List ℕ
 
 abbrev pub performed-in : RunSummary → List Task → List ℕ → List ℕ → List ℕ → List ℕ → List ℕ → List ℕ → RunSummaryIn
-performed-in answer table stack memory pool ends save lines =
-    record { answer = answer; table = table; stack = stack; memory = memory; pool = pool; ends = ends; save = save; lines = lines }
+performed-in answer table stack memory pool ends save listing =
+    record { answer = answer; table = table; stack = stack; memory = memory; pool = pool; ends = ends; save = save; listing = listing }
 
--- the lines of the tasks come last
-unfoldable pub with-lines : CreateResult → Report → SavedTo → Lined → RunSummaryIn
-with-lines creation report s l =
-    performed-in (performed creation report (s .report) (l .answer)) (s .table) (s .stack) (s .memory) (s .pool) (s .ends) (s .save) (l .out)
+-- the listing comes last
+unfoldable pub with-listing : CreateResult → Report → SaveReport → List ℕ → ListedIn → RunSummaryIn
+with-listing creation report saved save l =
+    performed-in (performed creation report saved (l .answer)) (l .table) (l .stack) (l .memory) (l .pool) (l .ends) save (l .listing)
 
--- before them the save
+-- before it the save
 unfoldable pub with-saved-image : CreateResult → Report → List ℕ → SavedTo → RunSummaryIn
-with-saved-image creation report lines s = with-lines creation report s (task-lines (s .table) lines)
+with-saved-image creation report listing s =
+    with-listing creation report (s .report) (s .save) (list-run creation report (s .table) (s .stack) (s .memory) (s .pool) (s .ends) listing)
 
 -- before it the run
 unfoldable pub with-run : CreateResult → List ℕ → Reported → RunSummaryIn
-with-run creation lines r =
-    with-saved-image creation (r .report) lines
+with-run creation listing r =
+    with-saved-image creation (r .report) listing
     (host-save (world (to-save (r .report)) (r .table) (r .stack) (r .memory) (r .pool) (r .ends) (r .save)))
 
 -- before it the creation
 unfoldable pub with-creation : ℕ → List ℕ → List ℕ → List ℕ → List ℕ → Made → RunSummaryIn
-with-creation fuel stack memory save lines m =
-    with-run (m .answer) lines
+with-creation fuel stack memory save listing m =
+    with-run (m .answer) listing
     (start fuel (world (machine-of (m .answer)) (m .table) stack memory (m .pool) (m .ends) save))
 
 unfoldable pub perform : ℕ → List Task → List ℕ → List ℕ → List ℕ → List ℕ → List ℕ → List ℕ → List ℕ → List ℕ → RunSummaryIn
-perform fuel table stack memory pool ends save image program lines =
-    with-creation fuel stack memory save lines (create table pool ends image program)
+perform fuel table stack memory pool ends save image program listing =
+    with-creation fuel stack memory save listing (create table pool ends image program)
 
 -- ---- over a table of its own
 
@@ -112,15 +96,15 @@ pub record Owned : Type 0 where
   pub pool : List ℕ
   pub ends : List ℕ
   pub save : List ℕ
-  pub lines : List ℕ
+  pub listing : List ℕ
 
 abbrev pub owned : RunSummary → List ℕ → List ℕ → List ℕ → List ℕ → List ℕ → List ℕ → Owned
-owned answer stack memory pool ends save lines =
-    record { answer = answer; stack = stack; memory = memory; pool = pool; ends = ends; save = save; lines = lines }
+owned answer stack memory pool ends save listing =
+    record { answer = answer; stack = stack; memory = memory; pool = pool; ends = ends; save = save; listing = listing }
 
 abbrev pub without-table : RunSummaryIn → Owned
-without-table p = owned (p .answer) (p .stack) (p .memory) (p .pool) (p .ends) (p .save) (p .lines)
+without-table p = owned (p .answer) (p .stack) (p .memory) (p .pool) (p .ends) (p .save) (p .listing)
 
 unfoldable pub own : ℕ → List ℕ → List ℕ → List ℕ → List ℕ → List ℕ → List ℕ → List ℕ → List ℕ → Owned
-own fuel stack memory pool ends save image program lines =
-    without-table (perform fuel blank-table stack memory pool ends save image program lines)
+own fuel stack memory pool ends save image program listing =
+    without-table (perform fuel blank-table stack memory pool ends save image program listing)

@@ -1,7 +1,7 @@
 pub mod Numbers
 pub mod Lines
-pub mod Hosting
 pub mod Listings
+pub mod Hosting
 pub mod AnsweringNumbers
 pub mod Answering
 pub mod Reasons

@@ -1,60 +1,49 @@
--- The listing of a run: its lines measured one after the other, and then put into a lent buffer whole, or not at all.
-use Prim.Native.Nat.{ℕ, _+_, _-_}
-use mathlib.Core.Bool.{Bool, true, false, cond}
-use mathlib.Core.List.{List, [], _∷_}
+-- The listing of a run, in a lent buffer whole, or not at all.
+use Prim.Native.Nat.{ℕ}
+use mathlib.Core.Bool.{true, cond}
+use mathlib.Core.List.{List}
 use lib.Dec.{leb, ltb}
 use lib.ListN.{length, take, drop}
 use lib.Seq.{sets}
 use Rattle.errors.specs.declared.Refusal.the-variants.{SaveBufferTooShort}
+use Rattle.storage.specs.declared.Task.{Task}
 use Rattle.text.specs.declared.LineResult.{LineResult}
 use Rattle.text.specs.declared.LineResult.the-variants.{Line, NoLine}
-use Rattle.text.specs.Lines.{Lined, lined, put-line}
+use Rattle.text.specs.Lines.{Lined, lined}
 use Rattle.listing.specs.declared.Head.{Head}
-use Rattle.listing.specs.declared.Counted.the-variants.{Values}
-use Rattle.listing.specs.Listing.{ValueRead, values-read, line-of-head, line-of-count, line-of-value}
-use Rattle.host.specs.declared.hosting.RunSummary.{RunSummary}
+use Rattle.listing.specs.declared.Head.the-variants as head
+use Rattle.listing.specs.Listing.{ValueRead, height-of, values-read, listing}
+use Rattle.machine.specs.declared.Outcome.{Outcome}
+use Rattle.machine.specs.declared.Outcome.the-variants.{Done, Paused, Refused}
+use Rattle.machine.specs.declared.CreateResult.{CreateResult}
+use Rattle.machine.specs.declared.CreateResult.the-variants.{Created, NotCreated}
+use Rattle.machine.specs.declared.Report.{Report}
+use Rattle.host.specs.Lines.{tell-run}
 use Rattle.host.specs.declared.answering.ListingLengths.{ListingLengths}
 
--- ---- a line
+-- ---- what is listed
 
--- where it goes: behind the lines so far where they are kept, else at the buffer's start
-abbrev pub line-start : Bool → ℕ → ℕ
-line-start keeps at = cond keeps at 0
+-- how a run ended: a refused creation, or what the run reports
+unfoldable pub run-head : ℕ → Outcome → Head
+run-head finished Done = head.Done finished
+run-head finished Paused = head.Paused finished
+run-head finished (Refused refusal) = head.Refused refusal
 
--- a text from a place of a buffer on, where the buffer holds it; else 24, and the buffer as it was
-unfoldable pub put-from : ℕ → List ℕ → List ℕ → Lined
-put-from start out text =
-    cond (leb (start + length text) (length out)) (lined (Line (length text)) (sets out start text)) (lined (NoLine SaveBufferTooShort) out)
+unfoldable pub head-of : CreateResult → Report → Head
+head-of (Created machine) report = run-head (report .finished) (report .outcome)
+head-of (NotCreated refusal) report = head.Refused refusal
 
--- the length of the lines so far and of one more, where a number of 64 bits holds it
-unfoldable pub counted : ℕ → LineResult → LineResult
-counted at (Line size) = cond (ltb (18446744073709551615 - size) at) (NoLine SaveBufferTooShort) (Line (at + size))
-counted at (NoLine refusal) = NoLine refusal
+-- its values, read over the memory in use
+abbrev pub values-of : CreateResult → Report → List ℕ → List ℕ → List ℕ → List ℕ → List ValueRead
+values-of creation report stack memory pool ends =
+    values-read (take (report .machine .memory) (drop 0 memory)) pool ends (report .machine .entries)
+    (take (height-of (head-of creation report) (report .machine .height)) stack)
 
-abbrev pub counting : ℕ → Lined → Lined
-counting at l = lined (counted at (l .answer)) (l .out)
+-- its listing
+abbrev pub text-of : CreateResult → Report → List Task → List ℕ → List ℕ → List ℕ → List ℕ → List ℕ
+text-of creation report table stack memory pool ends = listing (head-of creation report) (values-of creation report stack memory pool ends) table
 
--- one line more
-unfoldable pub next-line : Bool → LineResult → List ℕ → List ℕ → Lined
-next-line keeps (Line at) out text = counting at (put-from (line-start keeps at) out text)
-next-line keeps (NoLine refusal) out text = lined (NoLine refusal) out
-
-abbrev pub next : Bool → Lined → List ℕ → Lined
-next keeps l text = next-line keeps (l .answer) (l .out) text
-
--- ---- the values
-
--- a line each
-unfoldable pub put-values : Bool → Lined → List ValueRead → Lined
-put-values keeps l [] = l
-put-values keeps l (read ∷ more) = put-values keeps (next keeps l (line-of-value (read .answer) (read .part))) more
-
--- ---- all lines
-
--- how the run ended, how many values there are, the values, the lines of the tasks
-unfoldable pub tell : Bool → List ℕ → Head → List ValueRead → List ℕ → Lined
-tell keeps out head values tasks =
-    next keeps (put-values keeps (next keeps (put-line out (line-of-head head)) (line-of-count Values (length values))) values) tasks
+-- ---- whole, or not at all
 
 -- what came of a listing, and the buffer after it
 pub record Listing : Type 0 where
@@ -67,20 +56,63 @@ listing-of answer listing = record { answer = answer; listing = listing }
 abbrev pub with-lengths : ℕ → ℕ → ListingLengths
 with-lengths written needed = record { written = written; needed = needed }
 
--- measured so, the listing is written where the buffer holds it
-unfoldable pub measured : List ℕ → Lined → LineResult → Listing
-measured listing kept (Line needed) = cond (ltb (length listing) needed) (listing-of (with-lengths 0 needed) listing) (listing-of (with-lengths needed needed) (kept .out))
-measured listing kept (NoLine refusal) = listing-of (with-lengths 0 0) listing
+-- a length as it is told: 0 where a number of 64 bits does not hold it
+unfoldable pub told-length : ℕ → ℕ
+told-length size = cond (leb size 18446744073709551615) size 0
 
--- each line is measured in a buffer of the library's own, and then the lines are kept in the lent one
-unfoldable pub list : List ℕ → List ℕ → Head → List ValueRead → List ℕ → Listing
-list listing scratch head values tasks = measured listing (tell true listing head values tasks) (tell false scratch head values tasks .answer)
+-- a text from the buffer's start where the buffer holds it; else its length alone, and the buffer as it was
+unfoldable pub list-whole : List ℕ → List ℕ → Listing
+list-whole out text =
+    cond (leb (length text) (length out)) (listing-of (with-lengths (length text) (length text)) (sets out 0 text))
+    (listing-of (with-lengths 0 (told-length (length text))) out)
 
--- the values of a run over the memory in use, and the lines of its tasks, where they had room
-unfoldable pub with-tasks : List ℕ → List ℕ → List ℕ → List ℕ → List ℕ → List ℕ → List ℕ → RunSummary → LineResult → Listing
-with-tasks listing scratch stack memory pool ends lines performed (Line size) =
-    list listing scratch (performed .head) (values-read (take (performed .memory) (drop 0 memory)) pool ends (performed .entries) (take (performed .height) stack)) (take size (drop 0 lines))
-with-tasks listing scratch stack memory pool ends lines performed (NoLine refusal) = listing-of (with-lengths 0 0) listing
+-- what came of it, and everything lent, after it
+pub record ListedIn : Type 0 where
+  pub answer : ListingLengths
+  pub table : List Task
+  pub stack : List ℕ
+  pub memory : List ℕ
+  pub pool : List ℕ
+  pub ends : List ℕ
+  pub listing : List ℕ
 
-abbrev pub list-run : List ℕ → List ℕ → List ℕ → List ℕ → List ℕ → List ℕ → List ℕ → RunSummary → Listing
-list-run listing scratch stack memory pool ends lines performed = with-tasks listing scratch stack memory pool ends lines performed (performed .lines)
+abbrev pub listed-in : ListingLengths → List Task → List ℕ → List ℕ → List ℕ → List ℕ → List ℕ → ListedIn
+listed-in answer table stack memory pool ends listing =
+    record { answer = answer; table = table; stack = stack; memory = memory; pool = pool; ends = ends; listing = listing }
+
+-- the listing of a run; all but its buffer stays
+abbrev pub beside : List Task → List ℕ → List ℕ → List ℕ → List ℕ → Listing → ListedIn
+beside table stack memory pool ends l = listed-in (l .answer) table stack memory pool ends (l .listing)
+
+unfoldable pub list-run : CreateResult → Report → List Task → List ℕ → List ℕ → List ℕ → List ℕ → List ℕ → ListedIn
+list-run creation report table stack memory pool ends out =
+    beside table stack memory pool ends (list-whole out (text-of creation report table stack memory pool ends))
+
+-- ---- in two passes
+
+-- lines, and what the values are read from, which stays
+pub record ToldOver : Type 0 where
+  pub lines : Lined
+  pub stack : List ℕ
+  pub memory : List ℕ
+  pub pool : List ℕ
+  pub ends : List ℕ
+
+abbrev pub over : List ℕ → List ℕ → List ℕ → List ℕ → Lined → ToldOver
+over stack memory pool ends lines = record { lines = lines; stack = stack; memory = memory; pool = pool; ends = ends }
+
+abbrev pub told-over : LineResult → List ℕ → List ℕ → List ℕ → List ℕ → List ℕ → ToldOver
+told-over answer stack memory pool ends out = over stack memory pool ends (lined answer out)
+
+-- the lines before those of the tasks, put where the buffer holds so many bytes
+unfoldable pub write-run : LineResult → List ℕ → Head → List ValueRead → Lined
+write-run (Line needed) out head values = cond (ltb (length out) needed) (lined (NoLine SaveBufferTooShort) out) (tell-run true out head values)
+write-run (NoLine refusal) out head values = lined (NoLine refusal) out
+
+-- the length of lines; 0 where there are none
+unfoldable pub length-of : LineResult → ℕ
+length-of (Line size) = size
+length-of (NoLine refusal) = 0
+
+abbrev pub lengths-of : LineResult → LineResult → ListingLengths
+lengths-of needed written = with-lengths (length-of written) (length-of needed)

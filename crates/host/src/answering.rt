@@ -1,8 +1,8 @@
 // A run for a host with buffers of its own: its listing, whole or not at all, and its answer in eight numbers.
 ghost use mathlib.Core.Path.{_≡_};
-ghost use Rattle.host.specs.Answering.{new-stack, new-ends, new-pool, new-lines, new-scratch, ran, rafenuma-run};
+ghost use Rattle.host.specs.Answering.{new-stack, new-ends, new-pool, ran, rafenuma-run};
 
-// What came of a listing: its length where it was written, else 0; its whole length, or 0 where no buffer holds a line of it.
+// What came of a listing: its length where it was written, else 0; its whole length, or 0 where 64 bits do not hold it.
 pub struct ListingLengths {
     pub written: usize,
     pub needed: usize,
@@ -29,20 +29,6 @@ fn new_pool() -> [u8; 65536]
     [0u8; 65536]
 }
 
-// Room for the lines of the tasks: 256 of at most 142 bytes, behind their count.
-fn new_lines() -> [u8; 36864]
-    ensures { λ r. ⌜ r ≡ new-lines ⌝ }
-{
-    [0u8; 36864]
-}
-
-// Room for one line, which is measured there.
-fn new_scratch() -> [u8; 196608]
-    ensures { λ r. ⌜ r ≡ new-scratch ⌝ }
-{
-    [0u8; 196608]
-}
-
 // Runs a program on a fresh machine over the tasks of an image; writes the listing and the new image.
 pub fn run(
     memory: &mut [u8],
@@ -58,7 +44,6 @@ pub fn run(
     let mut stack = new_stack();
     let mut ends = new_ends();
     let mut pool = new_pool();
-    let mut lines = new_lines();
     let performed = crate::owner::own(
         &mut stack,
         memory,
@@ -67,19 +52,8 @@ pub fn run(
         new_image,
         image,
         program,
-        &mut lines,
+        listing,
         fuel,
     );
-    let mut scratch = new_scratch();
-    let listed = crate::listings::list_run(
-        listing,
-        &mut scratch,
-        &stack,
-        memory,
-        &pool,
-        &ends,
-        &lines,
-        performed,
-    );
-    crate::numbers::tell(answer, performed, listed)
+    crate::numbers::tell(answer, performed)
 }

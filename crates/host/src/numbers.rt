@@ -1,7 +1,6 @@
 // The eight numbers of a run.
 ghost use mathlib.Core.Path.{_≡_};
 ghost use Rattle.host.specs.AnsweringNumbers.{no-reason, save-reason, reason-of, outcome-of, listing-number, packed, answers, told};
-use crate::answering::ListingLengths;
 use crate::hosting::RunSummary;
 use crate::reasons::Reason;
 use crate::reasons::as_numbers;
@@ -71,8 +70,8 @@ fn packed(outcome: u32, number: u32, listing: u32) -> u64
 }
 
 // Writes the eight numbers of a run, and answers with its packed one.
-pub(crate) fn tell(answer: &mut [u64; 8], performed: RunSummary, listed: ListingLengths) -> u64
-    ensures { λ r. ⌜ told r (now (answer .exit)) ≡ answers (now (answer .entry)) performed listed ⌝ }
+pub(crate) fn tell(answer: &mut [u64; 8], performed: RunSummary) -> u64
+    ensures { λ r. ⌜ told r (now (answer .exit)) ≡ answers (now (answer .entry)) performed ⌝ }
 {
     let head = performed.head;
     let save = performed.save;
@@ -83,8 +82,8 @@ pub(crate) fn tell(answer: &mut [u64; 8], performed: RunSummary, listed: Listing
     answer[2] = why.number as u64;
     answer[3] = why.first;
     answer[4] = why.second;
-    answer[5] = listed.written as u64;
+    answer[5] = performed.listing.written as u64;
     answer[6] = performed.saved as u64;
-    answer[7] = listed.needed as u64;
-    packed(outcome, why.number, listing_number(listed.written))
+    answer[7] = performed.listing.needed as u64;
+    packed(outcome, why.number, listing_number(performed.listing.written))
 }

@@ -1,6 +1,8 @@
 // What a creation, a run and a save come to, between the calls of the machine.
 ghost use mathlib.Core.Path.{_≡_};
-ghost use Rattle.host.specs.Hosting.{unsavable, to-save, head-of, performed};
+ghost use Rattle.host.specs.Hosting.{unsavable, to-save, performed};
+ghost use Rattle.host.specs.Listings.{head-of};
+use crate::answering::ListingLengths;
 use crate::hosting::RunSummary;
 use listing::Head;
 use machine::CreateResult;
@@ -9,7 +11,6 @@ use machine::Outcome;
 use machine::Report;
 use machine::SaveReport;
 use storage::TaskId;
-use text::LineResult;
 
 // A machine that no save takes: its next id is above 256.
 fn unsavable(machine: Machine) -> Machine
@@ -34,7 +35,7 @@ pub(crate) fn to_save(report: Report) -> Machine
 }
 
 // How a run ended.
-fn head_of(creation: CreateResult, report: Report) -> Head
+pub(crate) fn head_of(creation: CreateResult, report: Report) -> Head
     ensures { λ r. ⌜ r ≡ head-of creation report ⌝ }
 {
     let outcome = report.outcome;
@@ -53,20 +54,16 @@ pub(crate) fn performed(
     creation: CreateResult,
     report: Report,
     saved: SaveReport,
-    lines: LineResult,
+    listing: ListingLengths,
 ) -> RunSummary
-    ensures { λ r. ⌜ r ≡ performed creation report saved lines ⌝ }
+    ensures { λ r. ⌜ r ≡ performed creation report saved listing ⌝ }
 {
-    let head = head_of(creation, report);
     let save = saved.result;
     RunSummary {
-        head,
+        head: head_of(creation, report),
         finished: report.finished,
         save,
-        height: listing::lines::height_of(head, report.machine.height),
-        memory: report.machine.memory,
-        entries: report.machine.entries,
         saved: saved.machine.saved,
-        lines,
+        listing,
     }
 }
