@@ -1,5 +1,5 @@
 -- All lines measured, and then put where the buffer holds them, are the listing whole, or not at all.
-use Prim.Native.Nat.{ℕ, _+_, _≤_, _<_}
+use Prim.Native.Nat.{ℕ, _+_, _^_, _≤_, _<_}
 use mathlib.Core.Bool.{Bool, true, false}
 use mathlib.Core.List.{List, [], _∷_, _++_, map, append-nil, append-assoc}
 use mathlib.Core.Path.{_≡_, refl, sym, ap, _∙_}
@@ -26,6 +26,10 @@ use Rattle.host.specs.declared.answering.ListingLengths.{ListingLengths}
 use Rattle.host.specs.Lines.{sized, behind, next-text, next, tell-lines, line-of-read, tell-run, tell-tasks}
 use Rattle.host.specs.Listings.{head-of, values-of, text-of, Listing, listing-of, with-lengths, told-length, list-whole, ListedIn, listed-in, beside, list-run, ToldOver, told-over, over, write-run, length-of, lengths-of}
 use Rattle.host.proofs.Behind.{most, behind-fits, sized-fits, sized-over}
+
+-- a length of 64 bits
+pub small : {size : ℕ} → size < 2 ^ 64 → size ≤ most
+small fits = omega arith
 
 -- ---- lines one after the other
 

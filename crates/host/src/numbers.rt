@@ -85,5 +85,9 @@ pub(crate) fn tell(answer: &mut [u64; 8], performed: RunSummary) -> u64
     answer[5] = performed.listing.written as u64;
     answer[6] = performed.saved as u64;
     answer[7] = performed.listing.needed as u64;
-    packed(outcome, why.number, listing_number(performed.listing.written))
+    packed(
+        outcome,
+        why.number,
+        listing_number(performed.listing.written),
+    )
 }

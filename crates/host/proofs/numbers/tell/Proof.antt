@@ -1,8 +1,14 @@
 -- `host::numbers::tell` meets its contract.
-use borrow.Author.Needs.{needs}
 use Rattle.host.specs.AnsweringNumbers.{answers}
+use borrow.Author.Needs.{needs}
 use Rattle.host.proofs.numbers.tell.Statement.{statement}
 use Rattle.host.proofs.numbers.tell.Tie as tie
+use Rattle.host.proofs.numbers.tell.Reads as reads
+use Rattle.host.proofs.numbers.tell.Lts as lts
+use Rattle.host.proofs.numbers.listing_number.Reads as listing-number-reads
+use Rattle.host.proofs.numbers.outcome_of.Reads as outcome-of-reads
+use Rattle.host.proofs.numbers.packed.Reads as packed-reads
+use Rattle.host.proofs.numbers.reason_of.Reads as reason-of-reads
 
 outcome-of-requires : tie.Need-outcome-of-requires
 outcome-of-requires c κs = search needs

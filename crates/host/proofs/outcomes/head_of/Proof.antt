@@ -1,6 +1,6 @@
 -- `host::outcomes::head_of` meets its contract.
 use borrow.Author.Needs.{needs}
-use Rattle.host.specs.Hosting.{head-of, run-head}
+use Rattle.host.specs.Listings.{head-of, run-head}
 use Rattle.host.proofs.outcomes.head_of.Statement.{statement}
 use Rattle.host.proofs.outcomes.head_of.Tie as tie
 

@@ -43,10 +43,7 @@ use Rattle.lent.proofs.Emptied.{emptied}
 use Rattle.lent.proofs.Landed.{landed-by}
 use Rattle.lent.proofs.Shut.{Shut}
 use Rattle.storage.specs.declared.Task.{Task}
-use Rattle.storage.specs.Tasks.{after}
 use Rattle.storage.proofs.Records.{R, table-ty}
-use Rattle.text.specs.Lines.{lined}
-use Rattle.text.proofs.LineResult as line
 use Rattle.machine.proofs.Machine as machine
 use Rattle.machine.specs.World.{world}
 use Rattle.mechanism.proofs.Values.{machine-shut, machine-vals}
@@ -60,11 +57,12 @@ use Rattle.machine.specs.Calls.{reported, start as start-of}
 use Rattle.machine.specs.Creation.{machine-of, made, create as create-of}
 use Rattle.machine.specs.Reads.{saved-to, host-save}
 use Rattle.host.specs.declared.hosting.RunSummary.{RunSummary}
-use Rattle.host.specs.Lines.{task-lines}
+use Rattle.host.specs.Listings.{listed-in, list-run}
 use Rattle.host.specs.Hosting.{to-save, performed-in, perform}
 use Rattle.host.specs.Hosting.{performed as performed-of}
+use Rattle.host.proofs.answering.ListingLengths as lengths
 use Rattle.host.proofs.hosting.RunSummary as performed
-use Rattle.host.proofs.Values.{line-shut, line-vals, performed-shut, performed-vals}
+use Rattle.host.proofs.Values.{lengths-shut, lengths-vals, performed-shut, performed-vals}
 use Rattle.host.proofs.Performing.{performs}
 use Rattle.vm.proofs.creating.create.Symbol.{name as #creates}
 use Rattle.vm.proofs.creating.create as creates
@@ -86,10 +84,10 @@ use Rattle.vm.proofs.saving.save.Symbol.{name as #saves}
 use Rattle.vm.proofs.saving.save as saves
 use Rattle.vm.proofs.saving.save.Symbol as saves-def
 use Rattle.vm.proofs.saving.save.Met as saves-thm
-use Rattle.host.proofs.lines.put_tasks.Symbol.{name as #tells}
-use Rattle.host.proofs.lines.put_tasks as tells
-use Rattle.host.proofs.lines.put_tasks.Symbol as tells-def
-use Rattle.host.proofs.lines.put_tasks.Met as tells-thm
+use Rattle.host.proofs.listings.list_run.Symbol.{name as #lists}
+use Rattle.host.proofs.listings.list_run as lists
+use Rattle.host.proofs.listings.list_run.Symbol as lists-def
+use Rattle.host.proofs.listings.list_run.Met as lists-thm
 use Rattle.host.proofs.outcomes.performed.Symbol.{name as #sums}
 use Rattle.host.proofs.outcomes.performed as sums
 use Rattle.host.proofs.outcomes.performed.Symbol as sums-def
@@ -104,7 +102,7 @@ open Shut verb-shut using (ty as verb-ty, makes as verb-makes)
 open Shut report-shut using (val as report-val, ty as report-ty, tells as report-tells, makes as report-makes, typed as report-typed)
 open Shut save-report-shut using (val as save-report-val, ty as save-report-ty, tells as save-report-tells, makes as save-report-makes, typed as save-report-typed)
 open Shut created-shut using (val as created-val, ty as created-ty, tells as created-tells, makes as created-makes, typed as created-typed)
-open Shut line-shut using (val as line-val, ty as line-ty, tells as line-tells, makes as line-makes, typed as line-typed)
+open Shut lengths-shut using (val as lengths-val, ty as lengths-ty, tells as lengths-tells, makes as lengths-makes, typed as lengths-typed)
 open Shut performed-shut using (val as performed-val, ty as performed-ty, tells as performed-tells, makes as performed-makes, typed as performed-typed)
 
 abbrev stayed : Stays (f.ended .signature .params) (f.ended .kept)
@@ -127,8 +125,8 @@ module _ {M : Type 1} (𝓤 : URA M) (H : Heap 𝓤) (A : Atoms 𝓤) (at-mem : 
   abbrev saves-con : Contract 𝓤
   saves-con = tripleOf 𝓤 H A saves.signature (saves.spec 𝓤 H A at-mem run)
 
-  abbrev tells-con : Contract 𝓤
-  tells-con = tripleOf 𝓤 H A tells.signature (tells.spec 𝓤 H A at-mem run)
+  abbrev lists-con : Contract 𝓤
+  lists-con = tripleOf 𝓤 H A lists.signature (lists.spec 𝓤 H A at-mem run)
 
   abbrev sums-con : Contract 𝓤
   sums-con = tripleOf 𝓤 H A sums.signature (sums.spec 𝓤 H A at-mem run)
@@ -181,8 +179,8 @@ module _ {M : Type 1} (𝓤 : URA M) (H : Heap 𝓤) (A : Atoms 𝓤) (W : Given
   abbrev For-starts : Marks All
   For-starts = (true, (true, (true, (true, (true, (true, (false, (false, (false, tt)))))))))
 
-  abbrev For-tells : Marks All
-  For-tells = (true, (false, (false, (false, (false, (false, (false, (false, (true, tt)))))))))
+  abbrev For-lists : Marks All
+  For-lists = (true, (true, (true, (true, (true, (false, (false, (false, (true, tt)))))))))
 
   abbrev Has : List Task → List ℕ → List ℕ → List ℕ → List ℕ → List ℕ → List ℕ → List (Item 𝓤) → List (Item 𝓤)
   Has v₀ v₁ v₂ v₃ v₄ v₅ v₈ Γ = ‵ (have All (v₀, (v₁, (v₂, (v₃, (v₄, (v₅, (x₆, (x₇, (v₈, tt)))))))))) ∷ ‵ (tokens All) ∷ Γ
@@ -196,7 +194,7 @@ module _ {M : Type 1} (𝓤 : URA M) (H : Heap 𝓤) (A : Atoms 𝓤) (W : Given
         fsplit ! $ move ! (1 ∷ []) $ fsplit ! $ move ! (1 ∷ []) $ fsplit ! $ move ! (1 ∷ []) $ fsplit ! $ move ! (1 ∷ []) $ fsplit ! $ move ! (1 ∷ []) $ fsplit ! $ move ! (1 ∷ []) $ fsplit ! $ move ! (1 ∷ []) $ fsplit ! $ move ! (1 ∷ []) $ fsplit ! $ move ! (1 ∷ []) $ drop ! $ nothing ! $ owned ! u64 (Is u64) (uint-makes 𝓤 H A W w64) fuel _ (refl, fuel-is) $ fjoin ! $ move ! (1 ∷ 0 ∷ []) $ fjoin ! $ move ! (1 ∷ 0 ∷ []) $ fjoin ! $ move ! (1 ∷ 0 ∷ []) $ fjoin ! $ move ! (1 ∷ 0 ∷ []) $ fjoin ! $ move ! (1 ∷ 0 ∷ []) $ fjoin ! $ move ! (1 ∷ 0 ∷ []) $ fjoin ! $ move ! (1 ∷ 0 ∷ []) $ fjoin ! $ move ! (1 ∷ 0 ∷ []) $ fjoin ! $ move ! (1 ∷ 0 ∷ []) $ fjoin ! $
         owned ! performed.the-row (Is performed.the-row) (performed-makes 𝓤 H A) r _ is $ move ! (1 ∷ 0 ∷ []) $ done !
 
-    module _ (𝓣 : Tables 𝓤 H) (known-creates : Triple 𝓤 (𝓣 .C #creates) (creates-con 𝓤 H A at-mem run)) (known-begins : Triple 𝓤 (𝓣 .C #begins) (begins-con 𝓤 H A at-mem run)) (known-starts : Triple 𝓤 (𝓣 .C #starts) (starts-con 𝓤 H A at-mem run)) (known-chooses : Triple 𝓤 (𝓣 .C #chooses) (chooses-con 𝓤 H A at-mem run)) (known-saves : Triple 𝓤 (𝓣 .C #saves) (saves-con 𝓤 H A at-mem run)) (known-tells : Triple 𝓤 (𝓣 .C #tells) (tells-con 𝓤 H A at-mem run)) (known-sums : Triple 𝓤 (𝓣 .C #sums) (sums-con 𝓤 H A at-mem run)) (l₀ l₁ l₂ l₃ l₄ l₅ l₆ l₇ l₈ l₉ l₁₀ l₁₁ l₁₂ l₁₃ l₁₄ l₁₅ l₁₆ l₁₇ l₁₈ l₁₉ l₂₀ l₂₁ l₂₂ l₂₃ l₂₄ l₂₅ l₂₆ l₂₇ l₂₈ l₂₉ l₃₀ l₃₁ l₃₂ l₃₃ l₃₄ l₃₅ l₃₆ l₃₇ l₃₈ l₃₉ l₄₀ l₄₁ l₄₂ l₄₃ l₄₄ l₄₅ l₄₆ : ℕ) where
+    module _ (𝓣 : Tables 𝓤 H) (known-creates : Triple 𝓤 (𝓣 .C #creates) (creates-con 𝓤 H A at-mem run)) (known-begins : Triple 𝓤 (𝓣 .C #begins) (begins-con 𝓤 H A at-mem run)) (known-starts : Triple 𝓤 (𝓣 .C #starts) (starts-con 𝓤 H A at-mem run)) (known-chooses : Triple 𝓤 (𝓣 .C #chooses) (chooses-con 𝓤 H A at-mem run)) (known-saves : Triple 𝓤 (𝓣 .C #saves) (saves-con 𝓤 H A at-mem run)) (known-lists : Triple 𝓤 (𝓣 .C #lists) (lists-con 𝓤 H A at-mem run)) (known-sums : Triple 𝓤 (𝓣 .C #sums) (sums-con 𝓤 H A at-mem run)) (l₀ l₁ l₂ l₃ l₄ l₅ l₆ l₇ l₈ l₉ l₁₀ l₁₁ l₁₂ l₁₃ l₁₄ l₁₅ l₁₆ l₁₇ l₁₈ l₁₉ l₂₀ l₂₁ l₂₂ l₂₃ l₂₄ l₂₅ l₂₆ l₂₇ l₂₈ l₂₉ l₃₀ l₃₁ l₃₂ l₃₃ l₃₄ l₃₅ l₃₆ l₃₇ l₃₈ l₃₉ l₄₀ l₄₁ l₄₂ l₄₃ l₄₄ l₄₅ l₄₆ l₄₇ l₄₈ l₄₉ l₅₀ l₅₁ l₅₂ : ℕ) where
       abbrev C : Calls 𝓤 H
       C = 𝓣 .C
 
@@ -204,7 +202,7 @@ module _ {M : Type 1} (𝓤 : URA M) (H : Heap 𝓤) (A : Atoms 𝓤) (W : Given
       Λ = 𝓣 .Λ
 
       abbrev En : Env 𝓤 H
-      En = (performed-ty, l₀) ∷ (sliceTy (tyRef (named 0) mut table-ty), l₁) ∷ (tyRef (named 1) mut (tyArray (tyInt w64) 1000), l₂) ∷ (sliceTy (tyRef (named 2) mut (tyInt w8)), l₃) ∷ (sliceTy (tyRef (named 3) mut (tyInt w8)), l₄) ∷ (tyRef (named 4) mut (tyArray (tyInt w32) 1024), l₅) ∷ (sliceTy (tyRef (named 5) mut (tyInt w8)), l₆) ∷ (sliceTy (tyRef (named 6) imm (tyInt w8)), l₇) ∷ (sliceTy (tyRef (named 7) imm (tyInt w8)), l₈) ∷ (sliceTy (tyRef (named 8) mut (tyInt w8)), l₉) ∷ (tyInt w64, l₁₀) ∷ (created-ty, l₁₁) ∷ (machine-ty, l₁₂) ∷ (report-ty, l₁₃) ∷ (machine-ty, l₁₄) ∷ (save-report-ty, l₁₅) ∷ (line-ty, l₁₆) ∷ (tyRef erased mut table-ty, l₁₇) ∷ (sliceTy (tyRef erased mut table-ty), l₁₈) ∷ (tyRef erased mut (tyInt w8), l₁₉) ∷ (sliceTy (tyRef erased mut (tyInt w8)), l₂₀) ∷ (tyRef erased mut (tyArray (tyInt w32) 1024), l₂₁) ∷ (tyRef erased mut table-ty, l₂₂) ∷ (sliceTy (tyRef erased mut table-ty), l₂₃) ∷ (tyRef erased mut (tyArray (tyInt w64) 1000), l₂₄) ∷ (tyRef erased mut (tyInt w8), l₂₅) ∷ (sliceTy (tyRef erased mut (tyInt w8)), l₂₆) ∷ (tyRef erased mut (tyInt w8), l₂₇) ∷ (sliceTy (tyRef erased mut (tyInt w8)), l₂₈) ∷ (tyRef erased mut (tyArray (tyInt w32) 1024), l₂₉) ∷ (tyRef erased mut (tyInt w8), l₃₀) ∷ (sliceTy (tyRef erased mut (tyInt w8)), l₃₁) ∷ (verb-ty, l₃₂) ∷ (tyRef erased mut table-ty, l₃₃) ∷ (sliceTy (tyRef erased mut table-ty), l₃₄) ∷ (tyRef erased mut (tyArray (tyInt w64) 1000), l₃₅) ∷ (tyRef erased mut (tyInt w8), l₃₆) ∷ (sliceTy (tyRef erased mut (tyInt w8)), l₃₇) ∷ (tyRef erased mut (tyInt w8), l₃₈) ∷ (sliceTy (tyRef erased mut (tyInt w8)), l₃₉) ∷ (tyRef erased mut (tyArray (tyInt w32) 1024), l₄₀) ∷ (tyRef erased mut (tyInt w8), l₄₁) ∷ (sliceTy (tyRef erased mut (tyInt w8)), l₄₂) ∷ (tyRef erased mut table-ty, l₄₃) ∷ (sliceTy (tyRef erased mut table-ty), l₄₄) ∷ (tyRef erased mut (tyInt w8), l₄₅) ∷ (sliceTy (tyRef erased mut (tyInt w8)), l₄₆) ∷ []
+      En = (performed-ty, l₀) ∷ (sliceTy (tyRef (named 0) mut table-ty), l₁) ∷ (tyRef (named 1) mut (tyArray (tyInt w64) 1000), l₂) ∷ (sliceTy (tyRef (named 2) mut (tyInt w8)), l₃) ∷ (sliceTy (tyRef (named 3) mut (tyInt w8)), l₄) ∷ (tyRef (named 4) mut (tyArray (tyInt w32) 1024), l₅) ∷ (sliceTy (tyRef (named 5) mut (tyInt w8)), l₆) ∷ (sliceTy (tyRef (named 6) imm (tyInt w8)), l₇) ∷ (sliceTy (tyRef (named 7) imm (tyInt w8)), l₈) ∷ (sliceTy (tyRef (named 8) mut (tyInt w8)), l₉) ∷ (tyInt w64, l₁₀) ∷ (created-ty, l₁₁) ∷ (machine-ty, l₁₂) ∷ (report-ty, l₁₃) ∷ (machine-ty, l₁₄) ∷ (save-report-ty, l₁₅) ∷ (lengths-ty, l₁₆) ∷ (tyRef erased mut table-ty, l₁₇) ∷ (sliceTy (tyRef erased mut table-ty), l₁₈) ∷ (tyRef erased mut (tyInt w8), l₁₉) ∷ (sliceTy (tyRef erased mut (tyInt w8)), l₂₀) ∷ (tyRef erased mut (tyArray (tyInt w32) 1024), l₂₁) ∷ (tyRef erased mut table-ty, l₂₂) ∷ (sliceTy (tyRef erased mut table-ty), l₂₃) ∷ (tyRef erased mut (tyArray (tyInt w64) 1000), l₂₄) ∷ (tyRef erased mut (tyInt w8), l₂₅) ∷ (sliceTy (tyRef erased mut (tyInt w8)), l₂₆) ∷ (tyRef erased mut (tyInt w8), l₂₇) ∷ (sliceTy (tyRef erased mut (tyInt w8)), l₂₈) ∷ (tyRef erased mut (tyArray (tyInt w32) 1024), l₂₉) ∷ (tyRef erased mut (tyInt w8), l₃₀) ∷ (sliceTy (tyRef erased mut (tyInt w8)), l₃₁) ∷ (verb-ty, l₃₂) ∷ (tyRef erased mut table-ty, l₃₃) ∷ (sliceTy (tyRef erased mut table-ty), l₃₄) ∷ (tyRef erased mut (tyArray (tyInt w64) 1000), l₃₅) ∷ (tyRef erased mut (tyInt w8), l₃₆) ∷ (sliceTy (tyRef erased mut (tyInt w8)), l₃₇) ∷ (tyRef erased mut (tyInt w8), l₃₈) ∷ (sliceTy (tyRef erased mut (tyInt w8)), l₃₉) ∷ (tyRef erased mut (tyArray (tyInt w32) 1024), l₄₀) ∷ (tyRef erased mut (tyInt w8), l₄₁) ∷ (sliceTy (tyRef erased mut (tyInt w8)), l₄₂) ∷ (tyRef erased mut table-ty, l₄₃) ∷ (sliceTy (tyRef erased mut table-ty), l₄₄) ∷ (tyRef erased mut (tyArray (tyInt w64) 1000), l₄₅) ∷ (tyRef erased mut (tyInt w8), l₄₆) ∷ (sliceTy (tyRef erased mut (tyInt w8)), l₄₇) ∷ (tyRef erased mut (tyInt w8), l₄₈) ∷ (sliceTy (tyRef erased mut (tyInt w8)), l₄₉) ∷ (tyRef erased mut (tyArray (tyInt w32) 1024), l₅₀) ∷ (tyRef erased mut (tyInt w8), l₅₁) ∷ (sliceTy (tyRef erased mut (tyInt w8)), l₅₂) ∷ []
 
       -- the locals, given up
       abbrev Bare : List (Item 𝓤)
@@ -214,99 +212,105 @@ module _ {M : Type 1} (𝓤 : URA M) (H : Heap 𝓤) (A : Atoms 𝓤) (W : Given
       ends r v₀ v₁ v₂ v₃ v₄ v₅ v₈ is m₀ m₂ m₃ m₅ m₈ e =
           freed ! $ by ! (exits r v₀ v₁ v₂ v₃ v₄ v₅ v₈ is m₀ m₂ m₃ m₅ m₈ e)
 
-      steps : Sq W (Has x₀ x₁ x₂ x₃ x₄ x₅ x₈ (‵ (froom (sliceTy (tyRef erased mut (tyInt w8))) l₄₆ 0) ∷ ‵ (fdies (sliceTy (tyRef erased mut (tyInt w8))) l₄₆) ∷ ‵ (froom (tyRef erased mut (tyInt w8)) l₄₅ 0) ∷ ‵ (fdies (tyRef erased mut (tyInt w8)) l₄₅) ∷ ‵ (froom (sliceTy (tyRef erased mut table-ty)) l₄₄ 0) ∷ ‵ (fdies (sliceTy (tyRef erased mut table-ty)) l₄₄) ∷ ‵ (froom (tyRef erased mut table-ty) l₄₃ 0) ∷ ‵ (fdies (tyRef erased mut table-ty) l₄₃) ∷ ‵ (froom (sliceTy (tyRef erased mut (tyInt w8))) l₄₂ 0) ∷ ‵ (fdies (sliceTy (tyRef erased mut (tyInt w8))) l₄₂) ∷ ‵ (froom (tyRef erased mut (tyInt w8)) l₄₁ 0) ∷ ‵ (fdies (tyRef erased mut (tyInt w8)) l₄₁) ∷ ‵ (froom (tyRef erased mut (tyArray (tyInt w32) 1024)) l₄₀ 0) ∷ ‵ (fdies (tyRef erased mut (tyArray (tyInt w32) 1024)) l₄₀) ∷ ‵ (froom (sliceTy (tyRef erased mut (tyInt w8))) l₃₉ 0) ∷ ‵ (fdies (sliceTy (tyRef erased mut (tyInt w8))) l₃₉) ∷ ‵ (froom (tyRef erased mut (tyInt w8)) l₃₈ 0) ∷ ‵ (fdies (tyRef erased mut (tyInt w8)) l₃₈) ∷ ‵ (froom (sliceTy (tyRef erased mut (tyInt w8))) l₃₇ 0) ∷ ‵ (fdies (sliceTy (tyRef erased mut (tyInt w8))) l₃₇) ∷ ‵ (froom (tyRef erased mut (tyInt w8)) l₃₆ 0) ∷ ‵ (fdies (tyRef erased mut (tyInt w8)) l₃₆) ∷ ‵ (froom (tyRef erased mut (tyArray (tyInt w64) 1000)) l₃₅ 0) ∷ ‵ (fdies (tyRef erased mut (tyArray (tyInt w64) 1000)) l₃₅) ∷ ‵ (froom (sliceTy (tyRef erased mut table-ty)) l₃₄ 0) ∷ ‵ (fdies (sliceTy (tyRef erased mut table-ty)) l₃₄) ∷ ‵ (froom (tyRef erased mut table-ty) l₃₃ 0) ∷ ‵ (fdies (tyRef erased mut table-ty) l₃₃) ∷ ‵ (froom verb-ty l₃₂ 0) ∷ ‵ (fdies verb-ty l₃₂) ∷ ‵ (froom (sliceTy (tyRef erased mut (tyInt w8))) l₃₁ 0) ∷ ‵ (fdies (sliceTy (tyRef erased mut (tyInt w8))) l₃₁) ∷ ‵ (froom (tyRef erased mut (tyInt w8)) l₃₀ 0) ∷ ‵ (fdies (tyRef erased mut (tyInt w8)) l₃₀) ∷ ‵ (froom (tyRef erased mut (tyArray (tyInt w32) 1024)) l₂₉ 0) ∷ ‵ (fdies (tyRef erased mut (tyArray (tyInt w32) 1024)) l₂₉) ∷ ‵ (froom (sliceTy (tyRef erased mut (tyInt w8))) l₂₈ 0) ∷ ‵ (fdies (sliceTy (tyRef erased mut (tyInt w8))) l₂₈) ∷ ‵ (froom (tyRef erased mut (tyInt w8)) l₂₇ 0) ∷ ‵ (fdies (tyRef erased mut (tyInt w8)) l₂₇) ∷ ‵ (froom (sliceTy (tyRef erased mut (tyInt w8))) l₂₆ 0) ∷ ‵ (fdies (sliceTy (tyRef erased mut (tyInt w8))) l₂₆) ∷ ‵ (froom (tyRef erased mut (tyInt w8)) l₂₅ 0) ∷ ‵ (fdies (tyRef erased mut (tyInt w8)) l₂₅) ∷ ‵ (froom (tyRef erased mut (tyArray (tyInt w64) 1000)) l₂₄ 0) ∷ ‵ (fdies (tyRef erased mut (tyArray (tyInt w64) 1000)) l₂₄) ∷ ‵ (froom (sliceTy (tyRef erased mut table-ty)) l₂₃ 0) ∷ ‵ (fdies (sliceTy (tyRef erased mut table-ty)) l₂₃) ∷ ‵ (froom (tyRef erased mut table-ty) l₂₂ 0) ∷ ‵ (fdies (tyRef erased mut table-ty) l₂₂) ∷ ‵ (froom (tyRef erased mut (tyArray (tyInt w32) 1024)) l₂₁ 0) ∷ ‵ (fdies (tyRef erased mut (tyArray (tyInt w32) 1024)) l₂₁) ∷ ‵ (froom (sliceTy (tyRef erased mut (tyInt w8))) l₂₀ 0) ∷ ‵ (fdies (sliceTy (tyRef erased mut (tyInt w8))) l₂₀) ∷ ‵ (froom (tyRef erased mut (tyInt w8)) l₁₉ 0) ∷ ‵ (fdies (tyRef erased mut (tyInt w8)) l₁₉) ∷ ‵ (froom (sliceTy (tyRef erased mut table-ty)) l₁₈ 0) ∷ ‵ (fdies (sliceTy (tyRef erased mut table-ty)) l₁₈) ∷ ‵ (froom (tyRef erased mut table-ty) l₁₇ 0) ∷ ‵ (fdies (tyRef erased mut table-ty) l₁₇) ∷ ‵ (froom line-ty l₁₆ 0) ∷ ‵ (fdies line-ty l₁₆) ∷ ‵ (froom save-report-ty l₁₅ 0) ∷ ‵ (fdies save-report-ty l₁₅) ∷ ‵ (froom machine-ty l₁₄ 0) ∷ ‵ (fdies machine-ty l₁₄) ∷ ‵ (froom report-ty l₁₃ 0) ∷ ‵ (fdies report-ty l₁₃) ∷ ‵ (froom machine-ty l₁₂ 0) ∷ ‵ (fdies machine-ty l₁₂) ∷ ‵ (froom created-ty l₁₁ 0) ∷ ‵ (fdies created-ty l₁₁) ∷ ‵ (fat fullShare (tyInt w64) l₁₀ 0 (vint w64 fuel)) ∷ ‵ (fdies (tyInt w64) l₁₀) ∷ ‵ (fat fullShare (sliceTy (tyRef (named 8) mut (tyInt w8))) l₉ 0 (sliceVal (b₈, o₈) n₈)) ∷ ‵ (fdies (sliceTy (tyRef (named 8) mut (tyInt w8))) l₉) ∷ ‵ (fat fullShare (sliceTy (tyRef (named 7) imm (tyInt w8))) l₈ 0 (sliceVal (b₇, o₇) n₇)) ∷ ‵ (fdies (sliceTy (tyRef (named 7) imm (tyInt w8))) l₈) ∷ ‵ (fat fullShare (sliceTy (tyRef (named 6) imm (tyInt w8))) l₇ 0 (sliceVal (b₆, o₆) n₆)) ∷ ‵ (fdies (sliceTy (tyRef (named 6) imm (tyInt w8))) l₇) ∷ ‵ (fat fullShare (sliceTy (tyRef (named 5) mut (tyInt w8))) l₆ 0 (sliceVal (b₅, o₅) n₅)) ∷ ‵ (fdies (sliceTy (tyRef (named 5) mut (tyInt w8))) l₆) ∷ ‵ (fat fullShare (tyRef (named 4) mut (tyArray (tyInt w32) 1024)) l₅ 0 (vptr b₄ o₄)) ∷ ‵ (fdies (tyRef (named 4) mut (tyArray (tyInt w32) 1024)) l₅) ∷ ‵ (fat fullShare (sliceTy (tyRef (named 3) mut (tyInt w8))) l₄ 0 (sliceVal (b₃, o₃) n₃)) ∷ ‵ (fdies (sliceTy (tyRef (named 3) mut (tyInt w8))) l₄) ∷ ‵ (fat fullShare (sliceTy (tyRef (named 2) mut (tyInt w8))) l₃ 0 (sliceVal (b₂, o₂) n₂)) ∷ ‵ (fdies (sliceTy (tyRef (named 2) mut (tyInt w8))) l₃) ∷ ‵ (fat fullShare (tyRef (named 1) mut (tyArray (tyInt w64) 1000)) l₂ 0 (vptr b₁ o₁)) ∷ ‵ (fdies (tyRef (named 1) mut (tyArray (tyInt w64) 1000)) l₂) ∷ ‵ (fat fullShare (sliceTy (tyRef (named 0) mut table-ty)) l₁ 0 (sliceVal (b₀, o₀) n₀)) ∷ ‵ (fdies (sliceTy (tyRef (named 0) mut table-ty)) l₁) ∷ ‵ (froom performed-ty l₀ 0) ∷ ‵ (fdies performed-ty l₀) ∷ [])) (runs C Λ En mir.t-1 (atRet En Post))
+      steps : Sq W (Has x₀ x₁ x₂ x₃ x₄ x₅ x₈ (‵ (froom (sliceTy (tyRef erased mut (tyInt w8))) l₅₂ 0) ∷ ‵ (fdies (sliceTy (tyRef erased mut (tyInt w8))) l₅₂) ∷ ‵ (froom (tyRef erased mut (tyInt w8)) l₅₁ 0) ∷ ‵ (fdies (tyRef erased mut (tyInt w8)) l₅₁) ∷ ‵ (froom (tyRef erased mut (tyArray (tyInt w32) 1024)) l₅₀ 0) ∷ ‵ (fdies (tyRef erased mut (tyArray (tyInt w32) 1024)) l₅₀) ∷ ‵ (froom (sliceTy (tyRef erased mut (tyInt w8))) l₄₉ 0) ∷ ‵ (fdies (sliceTy (tyRef erased mut (tyInt w8))) l₄₉) ∷ ‵ (froom (tyRef erased mut (tyInt w8)) l₄₈ 0) ∷ ‵ (fdies (tyRef erased mut (tyInt w8)) l₄₈) ∷ ‵ (froom (sliceTy (tyRef erased mut (tyInt w8))) l₄₇ 0) ∷ ‵ (fdies (sliceTy (tyRef erased mut (tyInt w8))) l₄₇) ∷ ‵ (froom (tyRef erased mut (tyInt w8)) l₄₆ 0) ∷ ‵ (fdies (tyRef erased mut (tyInt w8)) l₄₆) ∷ ‵ (froom (tyRef erased mut (tyArray (tyInt w64) 1000)) l₄₅ 0) ∷ ‵ (fdies (tyRef erased mut (tyArray (tyInt w64) 1000)) l₄₅) ∷ ‵ (froom (sliceTy (tyRef erased mut table-ty)) l₄₄ 0) ∷ ‵ (fdies (sliceTy (tyRef erased mut table-ty)) l₄₄) ∷ ‵ (froom (tyRef erased mut table-ty) l₄₃ 0) ∷ ‵ (fdies (tyRef erased mut table-ty) l₄₃) ∷ ‵ (froom (sliceTy (tyRef erased mut (tyInt w8))) l₄₂ 0) ∷ ‵ (fdies (sliceTy (tyRef erased mut (tyInt w8))) l₄₂) ∷ ‵ (froom (tyRef erased mut (tyInt w8)) l₄₁ 0) ∷ ‵ (fdies (tyRef erased mut (tyInt w8)) l₄₁) ∷ ‵ (froom (tyRef erased mut (tyArray (tyInt w32) 1024)) l₄₀ 0) ∷ ‵ (fdies (tyRef erased mut (tyArray (tyInt w32) 1024)) l₄₀) ∷ ‵ (froom (sliceTy (tyRef erased mut (tyInt w8))) l₃₉ 0) ∷ ‵ (fdies (sliceTy (tyRef erased mut (tyInt w8))) l₃₉) ∷ ‵ (froom (tyRef erased mut (tyInt w8)) l₃₈ 0) ∷ ‵ (fdies (tyRef erased mut (tyInt w8)) l₃₈) ∷ ‵ (froom (sliceTy (tyRef erased mut (tyInt w8))) l₃₇ 0) ∷ ‵ (fdies (sliceTy (tyRef erased mut (tyInt w8))) l₃₇) ∷ ‵ (froom (tyRef erased mut (tyInt w8)) l₃₆ 0) ∷ ‵ (fdies (tyRef erased mut (tyInt w8)) l₃₆) ∷ ‵ (froom (tyRef erased mut (tyArray (tyInt w64) 1000)) l₃₅ 0) ∷ ‵ (fdies (tyRef erased mut (tyArray (tyInt w64) 1000)) l₃₅) ∷ ‵ (froom (sliceTy (tyRef erased mut table-ty)) l₃₄ 0) ∷ ‵ (fdies (sliceTy (tyRef erased mut table-ty)) l₃₄) ∷ ‵ (froom (tyRef erased mut table-ty) l₃₃ 0) ∷ ‵ (fdies (tyRef erased mut table-ty) l₃₃) ∷ ‵ (froom verb-ty l₃₂ 0) ∷ ‵ (fdies verb-ty l₃₂) ∷ ‵ (froom (sliceTy (tyRef erased mut (tyInt w8))) l₃₁ 0) ∷ ‵ (fdies (sliceTy (tyRef erased mut (tyInt w8))) l₃₁) ∷ ‵ (froom (tyRef erased mut (tyInt w8)) l₃₀ 0) ∷ ‵ (fdies (tyRef erased mut (tyInt w8)) l₃₀) ∷ ‵ (froom (tyRef erased mut (tyArray (tyInt w32) 1024)) l₂₉ 0) ∷ ‵ (fdies (tyRef erased mut (tyArray (tyInt w32) 1024)) l₂₉) ∷ ‵ (froom (sliceTy (tyRef erased mut (tyInt w8))) l₂₈ 0) ∷ ‵ (fdies (sliceTy (tyRef erased mut (tyInt w8))) l₂₈) ∷ ‵ (froom (tyRef erased mut (tyInt w8)) l₂₇ 0) ∷ ‵ (fdies (tyRef erased mut (tyInt w8)) l₂₇) ∷ ‵ (froom (sliceTy (tyRef erased mut (tyInt w8))) l₂₆ 0) ∷ ‵ (fdies (sliceTy (tyRef erased mut (tyInt w8))) l₂₆) ∷ ‵ (froom (tyRef erased mut (tyInt w8)) l₂₅ 0) ∷ ‵ (fdies (tyRef erased mut (tyInt w8)) l₂₅) ∷ ‵ (froom (tyRef erased mut (tyArray (tyInt w64) 1000)) l₂₄ 0) ∷ ‵ (fdies (tyRef erased mut (tyArray (tyInt w64) 1000)) l₂₄) ∷ ‵ (froom (sliceTy (tyRef erased mut table-ty)) l₂₃ 0) ∷ ‵ (fdies (sliceTy (tyRef erased mut table-ty)) l₂₃) ∷ ‵ (froom (tyRef erased mut table-ty) l₂₂ 0) ∷ ‵ (fdies (tyRef erased mut table-ty) l₂₂) ∷ ‵ (froom (tyRef erased mut (tyArray (tyInt w32) 1024)) l₂₁ 0) ∷ ‵ (fdies (tyRef erased mut (tyArray (tyInt w32) 1024)) l₂₁) ∷ ‵ (froom (sliceTy (tyRef erased mut (tyInt w8))) l₂₀ 0) ∷ ‵ (fdies (sliceTy (tyRef erased mut (tyInt w8))) l₂₀) ∷ ‵ (froom (tyRef erased mut (tyInt w8)) l₁₉ 0) ∷ ‵ (fdies (tyRef erased mut (tyInt w8)) l₁₉) ∷ ‵ (froom (sliceTy (tyRef erased mut table-ty)) l₁₈ 0) ∷ ‵ (fdies (sliceTy (tyRef erased mut table-ty)) l₁₈) ∷ ‵ (froom (tyRef erased mut table-ty) l₁₇ 0) ∷ ‵ (fdies (tyRef erased mut table-ty) l₁₇) ∷ ‵ (froom lengths-ty l₁₆ 0) ∷ ‵ (fdies lengths-ty l₁₆) ∷ ‵ (froom save-report-ty l₁₅ 0) ∷ ‵ (fdies save-report-ty l₁₅) ∷ ‵ (froom machine-ty l₁₄ 0) ∷ ‵ (fdies machine-ty l₁₄) ∷ ‵ (froom report-ty l₁₃ 0) ∷ ‵ (fdies report-ty l₁₃) ∷ ‵ (froom machine-ty l₁₂ 0) ∷ ‵ (fdies machine-ty l₁₂) ∷ ‵ (froom created-ty l₁₁ 0) ∷ ‵ (fdies created-ty l₁₁) ∷ ‵ (fat fullShare (tyInt w64) l₁₀ 0 (vint w64 fuel)) ∷ ‵ (fdies (tyInt w64) l₁₀) ∷ ‵ (fat fullShare (sliceTy (tyRef (named 8) mut (tyInt w8))) l₉ 0 (sliceVal (b₈, o₈) n₈)) ∷ ‵ (fdies (sliceTy (tyRef (named 8) mut (tyInt w8))) l₉) ∷ ‵ (fat fullShare (sliceTy (tyRef (named 7) imm (tyInt w8))) l₈ 0 (sliceVal (b₇, o₇) n₇)) ∷ ‵ (fdies (sliceTy (tyRef (named 7) imm (tyInt w8))) l₈) ∷ ‵ (fat fullShare (sliceTy (tyRef (named 6) imm (tyInt w8))) l₇ 0 (sliceVal (b₆, o₆) n₆)) ∷ ‵ (fdies (sliceTy (tyRef (named 6) imm (tyInt w8))) l₇) ∷ ‵ (fat fullShare (sliceTy (tyRef (named 5) mut (tyInt w8))) l₆ 0 (sliceVal (b₅, o₅) n₅)) ∷ ‵ (fdies (sliceTy (tyRef (named 5) mut (tyInt w8))) l₆) ∷ ‵ (fat fullShare (tyRef (named 4) mut (tyArray (tyInt w32) 1024)) l₅ 0 (vptr b₄ o₄)) ∷ ‵ (fdies (tyRef (named 4) mut (tyArray (tyInt w32) 1024)) l₅) ∷ ‵ (fat fullShare (sliceTy (tyRef (named 3) mut (tyInt w8))) l₄ 0 (sliceVal (b₃, o₃) n₃)) ∷ ‵ (fdies (sliceTy (tyRef (named 3) mut (tyInt w8))) l₄) ∷ ‵ (fat fullShare (sliceTy (tyRef (named 2) mut (tyInt w8))) l₃ 0 (sliceVal (b₂, o₂) n₂)) ∷ ‵ (fdies (sliceTy (tyRef (named 2) mut (tyInt w8))) l₃) ∷ ‵ (fat fullShare (tyRef (named 1) mut (tyArray (tyInt w64) 1000)) l₂ 0 (vptr b₁ o₁)) ∷ ‵ (fdies (tyRef (named 1) mut (tyArray (tyInt w64) 1000)) l₂) ∷ ‵ (fat fullShare (sliceTy (tyRef (named 0) mut table-ty)) l₁ 0 (sliceVal (b₀, o₀) n₀)) ∷ ‵ (fdies (sliceTy (tyRef (named 0) mut table-ty)) l₁) ∷ ‵ (froom performed-ty l₀ 0) ∷ ‵ (fdies performed-ty l₀) ∷ [])) (runs C Λ En mir.t-1 (atRet En Post))
       steps =
-          assigns ! (addr ! (from ! (fld ! refl (hop ! (look-in ! 92 (sub ! 0 refl (whole !))) (stop !))))) (from ! (stop !)) (init ! 60 refl (tt, tt)) $
-          assigns ! (agg ! (and-then ! (load ! (from ! (stop !)) (look ! 60 refl)) (and-then ! (load ! (from ! (fld ! refl (stop !))) (look-in ! 92 (sub ! 1 refl (whole !)))) (no-more !)))) (from ! (stop !)) (init ! 58 refl (tt, (tt, (record { fits = g₀ .0 }, tt)))) $
-          assigns ! (addr ! (from ! (fld ! refl (hop ! (look-in ! 86 (sub ! 0 refl (whole !))) (stop !))))) (from ! (stop !)) (init ! 56 refl (tt, tt)) $
-          assigns ! (agg ! (and-then ! (load ! (from ! (stop !)) (look ! 56 refl)) (and-then ! (load ! (from ! (fld ! refl (stop !))) (look-in ! 86 (sub ! 1 refl (whole !)))) (no-more !)))) (from ! (stop !)) (init ! 54 refl (tt, (tt, (record { fits = g₃ .0 }, tt)))) $
-          assigns ! (addr ! (from ! (hop ! (look ! 84 refl) (stop !)))) (from ! (stop !)) (init ! 52 refl (tt, tt)) $
+          assigns ! (addr ! (from ! (fld ! refl (hop ! (look-in ! 104 (sub ! 0 refl (whole !))) (stop !))))) (from ! (stop !)) (init ! 72 refl (tt, tt)) $
+          assigns ! (agg ! (and-then ! (load ! (from ! (stop !)) (look ! 72 refl)) (and-then ! (load ! (from ! (fld ! refl (stop !))) (look-in ! 104 (sub ! 1 refl (whole !)))) (no-more !)))) (from ! (stop !)) (init ! 70 refl (tt, (tt, (record { fits = g₀ .0 }, tt)))) $
+          assigns ! (addr ! (from ! (fld ! refl (hop ! (look-in ! 98 (sub ! 0 refl (whole !))) (stop !))))) (from ! (stop !)) (init ! 68 refl (tt, tt)) $
+          assigns ! (agg ! (and-then ! (load ! (from ! (stop !)) (look ! 68 refl)) (and-then ! (load ! (from ! (fld ! refl (stop !))) (look-in ! 98 (sub ! 1 refl (whole !)))) (no-more !)))) (from ! (stop !)) (init ! 66 refl (tt, (tt, (record { fits = g₃ .0 }, tt)))) $
+          assigns ! (addr ! (from ! (hop ! (look ! 96 refl) (stop !)))) (from ! (stop !)) (init ! 64 refl (tt, tt)) $
           lent-some 5 All For-creates (tt, (tt, (tt, (tt, (tt, tt))))) ([]) created.the-row 𝓤 (creates.clauses 𝓤 H A at-mem run) (x₀, (x₁, (x₂, (x₃, (x₄, (x₅, (x₆, (x₇, (x₈, tt))))))))) tt tt ! (fmOf 𝓤 H (W .laws) 𝓣) known-creates
           (g₀, (g₃, (tt, (tt, (tt, tt))))) (refl, (refl, (tt, (refl, (refl, tt))))) tt (λ αs δs. tt) (λ αs δs. id⊢ 𝓤 (emp 𝓤))
-          (λ αs δs. (and-then ! (load ! (from ! (stop !)) (look ! 60 refl)) (and-then ! (load ! (from ! (stop !)) (look ! 56 refl)) (and-then ! (load ! (from ! (stop !)) (look ! 54 refl)) (and-then ! (load ! (from ! (stop !)) (look ! 82 refl)) (and-then ! (load ! (from ! (stop !)) (look ! 80 refl)) (no-more !)))))))
+          (λ αs δs. (and-then ! (load ! (from ! (stop !)) (look ! 72 refl)) (and-then ! (load ! (from ! (stop !)) (look ! 68 refl)) (and-then ! (load ! (from ! (stop !)) (look ! 66 refl)) (and-then ! (load ! (from ! (stop !)) (look ! 94 refl)) (and-then ! (load ! (from ! (stop !)) (look ! 92 refl)) (no-more !)))))))
           (λ αs δs w₁ r₁ z₁ f₁. heard ! (made r₁ (z₁ .0) (z₁ .1 .0) (z₁ .1 .1 .0) ≡ create-of x₀ x₃ x₄ x₆ x₇) (λ e₁. landed-by ! created.the-row created-vals created-tells r₁ w₁ (λ is₁.
-          land ! (from ! (stop !)) (init ! 72 refl (created-typed 𝓤 H A W r₁ is₁)) $
+          land ! (from ! (stop !)) (init ! 84 refl (created-typed 𝓤 H A W r₁ is₁)) $
           nothing ! $ nothing ! $
           lent 0 [] tt (created.the-row ∷ []) machine.the-row 𝓤 (begins.clauses 𝓤 H A at-mem run) tt (r₁, tt) (created-val r₁ ∷ [], tt) ! (fmOf 𝓤 H (W .laws) 𝓣) known-begins
           tt tt (created-makes 𝓤 H A r₁ _ is₁, tt) (λ αs δs. tt) (λ αs δs. id⊢ 𝓤 (emp 𝓤))
-          (λ αs δs. (and-then ! (load ! (from ! (stop !)) (look ! 74 refl)) (no-more !)))
+          (λ αs δs. (and-then ! (load ! (from ! (stop !)) (look ! 86 refl)) (no-more !)))
           (λ αs δs w₂ r₂ z₂ f₂. heard ! (r₂ ≡ machine-of r₁) (λ e₂. landed-by ! machine.the-row machine-vals machine-tells r₂ w₂ (λ is₂.
-          drop ! $ drop ! $ land ! (from ! (stop !)) (init ! 70 refl (machine-typed 𝓤 H A W r₂ is₂)) $
-          assigns ! (addr ! (from ! (fld ! refl (hop ! (look-in ! 92 (sub ! 0 refl (whole !))) (stop !))))) (from ! (stop !)) (init ! 50 refl (tt, tt)) $
-          assigns ! (agg ! (and-then ! (load ! (from ! (stop !)) (look ! 50 refl)) (and-then ! (load ! (from ! (fld ! refl (stop !))) (look-in ! 92 (sub ! 1 refl (whole !)))) (no-more !)))) (from ! (stop !)) (init ! 48 refl (tt, (tt, (record { fits = g₀ .0 }, tt)))) $
-          assigns ! (addr ! (from ! (hop ! (look ! 90 refl) (stop !)))) (from ! (stop !)) (init ! 46 refl (tt, tt)) $
-          assigns ! (addr ! (from ! (fld ! refl (hop ! (look-in ! 88 (sub ! 0 refl (whole !))) (stop !))))) (from ! (stop !)) (init ! 44 refl (tt, tt)) $
-          assigns ! (agg ! (and-then ! (load ! (from ! (stop !)) (look ! 44 refl)) (and-then ! (load ! (from ! (fld ! refl (stop !))) (look-in ! 88 (sub ! 1 refl (whole !)))) (no-more !)))) (from ! (stop !)) (init ! 42 refl (tt, (tt, (record { fits = g₂ .0 }, tt)))) $
-          assigns ! (addr ! (from ! (fld ! refl (hop ! (look-in ! 86 (sub ! 0 refl (whole !))) (stop !))))) (from ! (stop !)) (init ! 40 refl (tt, tt)) $
-          assigns ! (agg ! (and-then ! (load ! (from ! (stop !)) (look ! 40 refl)) (and-then ! (load ! (from ! (fld ! refl (stop !))) (look-in ! 86 (sub ! 1 refl (whole !)))) (no-more !)))) (from ! (stop !)) (init ! 38 refl (tt, (tt, (record { fits = g₃ .0 }, tt)))) $
-          assigns ! (addr ! (from ! (hop ! (look ! 84 refl) (stop !)))) (from ! (stop !)) (init ! 36 refl (tt, tt)) $
-          assigns ! (addr ! (from ! (fld ! refl (hop ! (look-in ! 82 (sub ! 0 refl (whole !))) (stop !))))) (from ! (stop !)) (init ! 34 refl (tt, tt)) $
-          assigns ! (agg ! (and-then ! (load ! (from ! (stop !)) (look ! 34 refl)) (and-then ! (load ! (from ! (fld ! refl (stop !))) (look-in ! 82 (sub ! 1 refl (whole !)))) (no-more !)))) (from ! (stop !)) (init ! 32 refl (tt, (tt, (record { fits = g₅ .0 }, tt)))) $
-          assigns ! (agg ! (and-then ! (lit ! tt) (no-more !))) (from ! (stop !)) (init ! 30 refl (start-typed 𝓤 H A W)) $
+          drop ! $ drop ! $ land ! (from ! (stop !)) (init ! 82 refl (machine-typed 𝓤 H A W r₂ is₂)) $
+          assigns ! (addr ! (from ! (fld ! refl (hop ! (look-in ! 104 (sub ! 0 refl (whole !))) (stop !))))) (from ! (stop !)) (init ! 62 refl (tt, tt)) $
+          assigns ! (agg ! (and-then ! (load ! (from ! (stop !)) (look ! 62 refl)) (and-then ! (load ! (from ! (fld ! refl (stop !))) (look-in ! 104 (sub ! 1 refl (whole !)))) (no-more !)))) (from ! (stop !)) (init ! 60 refl (tt, (tt, (record { fits = g₀ .0 }, tt)))) $
+          assigns ! (addr ! (from ! (hop ! (look ! 102 refl) (stop !)))) (from ! (stop !)) (init ! 58 refl (tt, tt)) $
+          assigns ! (addr ! (from ! (fld ! refl (hop ! (look-in ! 100 (sub ! 0 refl (whole !))) (stop !))))) (from ! (stop !)) (init ! 56 refl (tt, tt)) $
+          assigns ! (agg ! (and-then ! (load ! (from ! (stop !)) (look ! 56 refl)) (and-then ! (load ! (from ! (fld ! refl (stop !))) (look-in ! 100 (sub ! 1 refl (whole !)))) (no-more !)))) (from ! (stop !)) (init ! 54 refl (tt, (tt, (record { fits = g₂ .0 }, tt)))) $
+          assigns ! (addr ! (from ! (fld ! refl (hop ! (look-in ! 98 (sub ! 0 refl (whole !))) (stop !))))) (from ! (stop !)) (init ! 52 refl (tt, tt)) $
+          assigns ! (agg ! (and-then ! (load ! (from ! (stop !)) (look ! 52 refl)) (and-then ! (load ! (from ! (fld ! refl (stop !))) (look-in ! 98 (sub ! 1 refl (whole !)))) (no-more !)))) (from ! (stop !)) (init ! 50 refl (tt, (tt, (record { fits = g₃ .0 }, tt)))) $
+          assigns ! (addr ! (from ! (hop ! (look ! 96 refl) (stop !)))) (from ! (stop !)) (init ! 48 refl (tt, tt)) $
+          assigns ! (addr ! (from ! (fld ! refl (hop ! (look-in ! 94 (sub ! 0 refl (whole !))) (stop !))))) (from ! (stop !)) (init ! 46 refl (tt, tt)) $
+          assigns ! (agg ! (and-then ! (load ! (from ! (stop !)) (look ! 46 refl)) (and-then ! (load ! (from ! (fld ! refl (stop !))) (look-in ! 94 (sub ! 1 refl (whole !)))) (no-more !)))) (from ! (stop !)) (init ! 44 refl (tt, (tt, (record { fits = g₅ .0 }, tt)))) $
+          assigns ! (agg ! (and-then ! (lit ! tt) (no-more !))) (from ! (stop !)) (init ! 42 refl (start-typed 𝓤 H A W)) $
           lent-some 6 All For-starts (tt, (tt, (tt, (tt, (tt, (tt, tt)))))) (machine.the-row ∷ verb.the-row ∷ u64 ∷ []) report.the-row 𝓤 (starts.clauses 𝓤 H A at-mem run) ((z₁ .0), (x₁, (x₂, ((z₁ .1 .0), ((z₁ .1 .1 .0), (x₅, (x₆, (x₇, (x₈, tt))))))))) (r₂, (Start, (fuel, tt))) (machine-val r₂ ∷ [], (start-val ∷ [], (vint w64 fuel ∷ [], tt))) ! (fmOf 𝓤 H (W .laws) 𝓣) known-starts
           (g₀, (tt, (g₂, (g₃, (tt, (g₅, tt)))))) (f₁ .0, (tt, (refl, (f₁ .1 .0, (tt, (refl, tt)))))) (machine-makes 𝓤 H A r₂ _ is₂, (verb-makes 𝓤 H A Start _ start-is, (uint-makes 𝓤 H A W w64 fuel _ (refl, fuel-is), tt))) (λ αs δs. tt) (λ αs δs. id⊢ 𝓤 (emp 𝓤))
-          (λ αs δs. (and-then ! (load ! (from ! (stop !)) (look ! 50 refl)) (and-then ! (load ! (from ! (stop !)) (look ! 48 refl)) (and-then ! (load ! (from ! (stop !)) (look ! 44 refl)) (and-then ! (load ! (from ! (stop !)) (look ! 40 refl)) (and-then ! (load ! (from ! (stop !)) (look ! 38 refl)) (and-then ! (load ! (from ! (stop !)) (look ! 34 refl)) (and-then ! (load ! (from ! (stop !)) (look ! 72 refl)) (and-then ! (load ! (from ! (stop !)) (look ! 32 refl)) (and-then ! (load ! (from ! (stop !)) (look ! 76 refl)) (no-more !)))))))))))
+          (λ αs δs. (and-then ! (load ! (from ! (stop !)) (look ! 62 refl)) (and-then ! (load ! (from ! (stop !)) (look ! 60 refl)) (and-then ! (load ! (from ! (stop !)) (look ! 56 refl)) (and-then ! (load ! (from ! (stop !)) (look ! 52 refl)) (and-then ! (load ! (from ! (stop !)) (look ! 50 refl)) (and-then ! (load ! (from ! (stop !)) (look ! 46 refl)) (and-then ! (load ! (from ! (stop !)) (look ! 84 refl)) (and-then ! (load ! (from ! (stop !)) (look ! 44 refl)) (and-then ! (load ! (from ! (stop !)) (look ! 88 refl)) (no-more !)))))))))))
           (λ αs δs w₃ r₃ z₃ f₃. heard ! (reported r₃ (z₃ .0) (z₃ .1 .0) (z₃ .1 .1 .0) (z₃ .1 .1 .1 .0) (z₃ .1 .1 .1 .1 .0) (z₃ .1 .1 .1 .1 .1 .0) ≡ start-of fuel (world r₂ (z₁ .0) x₁ x₂ (z₁ .1 .0) (z₁ .1 .1 .0) x₅)) (λ e₃. landed-by ! report.the-row report-vals report-tells r₃ w₃ (λ is₃.
-          land ! (from ! (stop !)) (init ! 68 refl (report-typed 𝓤 H A W r₃ is₃)) $
+          land ! (from ! (stop !)) (init ! 80 refl (report-typed 𝓤 H A W r₃ is₃)) $
           nothing ! $ nothing ! $
           lent 0 [] tt (report.the-row ∷ []) machine.the-row 𝓤 (chooses.clauses 𝓤 H A at-mem run) tt (r₃, tt) (report-val r₃ ∷ [], tt) ! (fmOf 𝓤 H (W .laws) 𝓣) known-chooses
           tt tt (report-makes 𝓤 H A r₃ _ is₃, tt) (λ αs δs. tt) (λ αs δs. id⊢ 𝓤 (emp 𝓤))
-          (λ αs δs. (and-then ! (load ! (from ! (stop !)) (look ! 70 refl)) (no-more !)))
+          (λ αs δs. (and-then ! (load ! (from ! (stop !)) (look ! 82 refl)) (no-more !)))
           (λ αs δs w₄ r₄ z₄ f₄. heard ! (r₄ ≡ to-save r₃) (λ e₄. landed-by ! machine.the-row machine-vals machine-tells r₄ w₄ (λ is₄.
-          drop ! $ drop ! $ land ! (from ! (stop !)) (init ! 66 refl (machine-typed 𝓤 H A W r₄ is₄)) $
-          assigns ! (addr ! (from ! (fld ! refl (hop ! (look-in ! 92 (sub ! 0 refl (whole !))) (stop !))))) (from ! (stop !)) (init ! 28 refl (tt, tt)) $
-          assigns ! (agg ! (and-then ! (load ! (from ! (stop !)) (look ! 28 refl)) (and-then ! (load ! (from ! (fld ! refl (stop !))) (look-in ! 92 (sub ! 1 refl (whole !)))) (no-more !)))) (from ! (stop !)) (init ! 26 refl (tt, (tt, (record { fits = g₀ .0 }, tt)))) $
-          assigns ! (addr ! (from ! (hop ! (look ! 90 refl) (stop !)))) (from ! (stop !)) (init ! 24 refl (tt, tt)) $
-          assigns ! (addr ! (from ! (fld ! refl (hop ! (look-in ! 88 (sub ! 0 refl (whole !))) (stop !))))) (from ! (stop !)) (init ! 22 refl (tt, tt)) $
-          assigns ! (agg ! (and-then ! (load ! (from ! (stop !)) (look ! 22 refl)) (and-then ! (load ! (from ! (fld ! refl (stop !))) (look-in ! 88 (sub ! 1 refl (whole !)))) (no-more !)))) (from ! (stop !)) (init ! 20 refl (tt, (tt, (record { fits = g₂ .0 }, tt)))) $
-          assigns ! (addr ! (from ! (fld ! refl (hop ! (look-in ! 86 (sub ! 0 refl (whole !))) (stop !))))) (from ! (stop !)) (init ! 18 refl (tt, tt)) $
-          assigns ! (agg ! (and-then ! (load ! (from ! (stop !)) (look ! 18 refl)) (and-then ! (load ! (from ! (fld ! refl (stop !))) (look-in ! 86 (sub ! 1 refl (whole !)))) (no-more !)))) (from ! (stop !)) (init ! 16 refl (tt, (tt, (record { fits = g₃ .0 }, tt)))) $
-          assigns ! (addr ! (from ! (hop ! (look ! 84 refl) (stop !)))) (from ! (stop !)) (init ! 14 refl (tt, tt)) $
-          assigns ! (addr ! (from ! (fld ! refl (hop ! (look-in ! 82 (sub ! 0 refl (whole !))) (stop !))))) (from ! (stop !)) (init ! 12 refl (tt, tt)) $
-          assigns ! (agg ! (and-then ! (load ! (from ! (stop !)) (look ! 12 refl)) (and-then ! (load ! (from ! (fld ! refl (stop !))) (look-in ! 82 (sub ! 1 refl (whole !)))) (no-more !)))) (from ! (stop !)) (init ! 10 refl (tt, (tt, (record { fits = g₅ .0 }, tt)))) $
+          drop ! $ drop ! $ land ! (from ! (stop !)) (init ! 78 refl (machine-typed 𝓤 H A W r₄ is₄)) $
+          assigns ! (addr ! (from ! (fld ! refl (hop ! (look-in ! 104 (sub ! 0 refl (whole !))) (stop !))))) (from ! (stop !)) (init ! 40 refl (tt, tt)) $
+          assigns ! (agg ! (and-then ! (load ! (from ! (stop !)) (look ! 40 refl)) (and-then ! (load ! (from ! (fld ! refl (stop !))) (look-in ! 104 (sub ! 1 refl (whole !)))) (no-more !)))) (from ! (stop !)) (init ! 38 refl (tt, (tt, (record { fits = g₀ .0 }, tt)))) $
+          assigns ! (addr ! (from ! (hop ! (look ! 102 refl) (stop !)))) (from ! (stop !)) (init ! 36 refl (tt, tt)) $
+          assigns ! (addr ! (from ! (fld ! refl (hop ! (look-in ! 100 (sub ! 0 refl (whole !))) (stop !))))) (from ! (stop !)) (init ! 34 refl (tt, tt)) $
+          assigns ! (agg ! (and-then ! (load ! (from ! (stop !)) (look ! 34 refl)) (and-then ! (load ! (from ! (fld ! refl (stop !))) (look-in ! 100 (sub ! 1 refl (whole !)))) (no-more !)))) (from ! (stop !)) (init ! 32 refl (tt, (tt, (record { fits = g₂ .0 }, tt)))) $
+          assigns ! (addr ! (from ! (fld ! refl (hop ! (look-in ! 98 (sub ! 0 refl (whole !))) (stop !))))) (from ! (stop !)) (init ! 30 refl (tt, tt)) $
+          assigns ! (agg ! (and-then ! (load ! (from ! (stop !)) (look ! 30 refl)) (and-then ! (load ! (from ! (fld ! refl (stop !))) (look-in ! 98 (sub ! 1 refl (whole !)))) (no-more !)))) (from ! (stop !)) (init ! 28 refl (tt, (tt, (record { fits = g₃ .0 }, tt)))) $
+          assigns ! (addr ! (from ! (hop ! (look ! 96 refl) (stop !)))) (from ! (stop !)) (init ! 26 refl (tt, tt)) $
+          assigns ! (addr ! (from ! (fld ! refl (hop ! (look-in ! 94 (sub ! 0 refl (whole !))) (stop !))))) (from ! (stop !)) (init ! 24 refl (tt, tt)) $
+          assigns ! (agg ! (and-then ! (load ! (from ! (stop !)) (look ! 24 refl)) (and-then ! (load ! (from ! (fld ! refl (stop !))) (look-in ! 94 (sub ! 1 refl (whole !)))) (no-more !)))) (from ! (stop !)) (init ! 22 refl (tt, (tt, (record { fits = g₅ .0 }, tt)))) $
           lent-some 6 All For-starts (tt, (tt, (tt, (tt, (tt, (tt, tt)))))) (machine.the-row ∷ []) save-report.the-row 𝓤 (saves.clauses 𝓤 H A at-mem run) ((z₃ .0), ((z₃ .1 .0), ((z₃ .1 .1 .0), ((z₃ .1 .1 .1 .0), ((z₃ .1 .1 .1 .1 .0), ((z₃ .1 .1 .1 .1 .1 .0), (x₆, (x₇, (x₈, tt))))))))) (r₄, tt) (machine-val r₄ ∷ [], tt) ! (fmOf 𝓤 H (W .laws) 𝓣) known-saves
           (g₀, (tt, (g₂, (g₃, (tt, (g₅, tt)))))) (f₃ .0, (tt, (f₃ .1 .1 .0, (f₃ .1 .1 .1 .0, (tt, (f₃ .1 .1 .1 .1 .1 .0, tt)))))) (machine-makes 𝓤 H A r₄ _ is₄, tt) (λ αs δs. tt) (λ αs δs. id⊢ 𝓤 (emp 𝓤))
-          (λ αs δs. (and-then ! (load ! (from ! (stop !)) (look ! 28 refl)) (and-then ! (load ! (from ! (stop !)) (look ! 26 refl)) (and-then ! (load ! (from ! (stop !)) (look ! 22 refl)) (and-then ! (load ! (from ! (stop !)) (look ! 18 refl)) (and-then ! (load ! (from ! (stop !)) (look ! 16 refl)) (and-then ! (load ! (from ! (stop !)) (look ! 12 refl)) (and-then ! (load ! (from ! (stop !)) (look ! 68 refl)) (no-more !)))))))))
+          (λ αs δs. (and-then ! (load ! (from ! (stop !)) (look ! 40 refl)) (and-then ! (load ! (from ! (stop !)) (look ! 38 refl)) (and-then ! (load ! (from ! (stop !)) (look ! 34 refl)) (and-then ! (load ! (from ! (stop !)) (look ! 30 refl)) (and-then ! (load ! (from ! (stop !)) (look ! 28 refl)) (and-then ! (load ! (from ! (stop !)) (look ! 24 refl)) (and-then ! (load ! (from ! (stop !)) (look ! 80 refl)) (no-more !)))))))))
           (λ αs δs w₅ r₅ z₅ f₅. heard ! (saved-to r₅ (z₅ .0) (z₅ .1 .0) (z₅ .1 .1 .0) (z₅ .1 .1 .1 .0) (z₅ .1 .1 .1 .1 .0) (z₅ .1 .1 .1 .1 .1 .0) ≡ host-save (world r₄ (z₃ .0) (z₃ .1 .0) (z₃ .1 .1 .0) (z₃ .1 .1 .1 .0) (z₃ .1 .1 .1 .1 .0) (z₃ .1 .1 .1 .1 .1 .0))) (λ e₅. landed-by ! save-report.the-row save-report-vals save-report-tells r₅ w₅ (λ is₅.
-          land ! (from ! (stop !)) (init ! 64 refl (save-report-typed 𝓤 H A W r₅ is₅)) $
-          assigns ! (addr ! (from ! (fld ! refl (hop ! (look-in ! 92 (sub ! 0 refl (whole !))) (stop !))))) (from ! (stop !)) (init ! 8 refl (tt, tt)) $
-          assigns ! (agg ! (and-then ! (load ! (from ! (stop !)) (look ! 8 refl)) (and-then ! (load ! (from ! (fld ! refl (stop !))) (look-in ! 92 (sub ! 1 refl (whole !)))) (no-more !)))) (from ! (stop !)) (init ! 6 refl (tt, (tt, (record { fits = g₀ .0 }, tt)))) $
-          assigns ! (addr ! (from ! (fld ! refl (hop ! (look-in ! 76 (sub ! 0 refl (whole !))) (stop !))))) (from ! (stop !)) (init ! 4 refl (tt, tt)) $
-          assigns ! (agg ! (and-then ! (load ! (from ! (stop !)) (look ! 4 refl)) (and-then ! (load ! (from ! (fld ! refl (stop !))) (look-in ! 76 (sub ! 1 refl (whole !)))) (no-more !)))) (from ! (stop !)) (init ! 2 refl (tt, (tt, (record { fits = g₈ .0 }, tt)))) $
-          lent-some 2 All For-tells (tt, (tt, tt)) ([]) line.the-row 𝓤 (tells.clauses 𝓤 H A at-mem run) ((z₅ .0), ((z₅ .1 .0), ((z₅ .1 .1 .0), ((z₅ .1 .1 .1 .0), ((z₅ .1 .1 .1 .1 .0), ((z₅ .1 .1 .1 .1 .1 .0), (x₆, (x₇, (x₈, tt))))))))) tt tt ! (fmOf 𝓤 H (W .laws) 𝓣) known-tells
-          (g₀, (g₈, tt)) (f₅ .0, (refl, tt)) tt (λ αs δs. tt) (λ αs δs. id⊢ 𝓤 (emp 𝓤))
-          (λ αs δs. (and-then ! (load ! (from ! (stop !)) (look ! 8 refl)) (and-then ! (load ! (from ! (stop !)) (look ! 4 refl)) (no-more !))))
-          (λ αs δs w₆ r₆ z₆ f₆. heard ! (after (lined r₆ (z₆ .1 .0)) (z₆ .0) ≡ after (task-lines (z₅ .0) x₈) (z₅ .0)) (λ e₆. landed-by ! line.the-row line-vals line-tells r₆ w₆ (λ is₆.
-          land ! (from ! (stop !)) (init ! 62 refl (line-typed 𝓤 H A W r₆ is₆)) $
+          land ! (from ! (stop !)) (init ! 76 refl (save-report-typed 𝓤 H A W r₅ is₅)) $
+          assigns ! (addr ! (from ! (fld ! refl (hop ! (look-in ! 104 (sub ! 0 refl (whole !))) (stop !))))) (from ! (stop !)) (init ! 20 refl (tt, tt)) $
+          assigns ! (agg ! (and-then ! (load ! (from ! (stop !)) (look ! 20 refl)) (and-then ! (load ! (from ! (fld ! refl (stop !))) (look-in ! 104 (sub ! 1 refl (whole !)))) (no-more !)))) (from ! (stop !)) (init ! 18 refl (tt, (tt, (record { fits = g₀ .0 }, tt)))) $
+          assigns ! (addr ! (from ! (hop ! (look ! 102 refl) (stop !)))) (from ! (stop !)) (init ! 16 refl (tt, tt)) $
+          assigns ! (addr ! (from ! (fld ! refl (hop ! (look-in ! 100 (sub ! 0 refl (whole !))) (stop !))))) (from ! (stop !)) (init ! 14 refl (tt, tt)) $
+          assigns ! (agg ! (and-then ! (load ! (from ! (stop !)) (look ! 14 refl)) (and-then ! (load ! (from ! (fld ! refl (stop !))) (look-in ! 100 (sub ! 1 refl (whole !)))) (no-more !)))) (from ! (stop !)) (init ! 12 refl (tt, (tt, (record { fits = g₂ .0 }, tt)))) $
+          assigns ! (addr ! (from ! (fld ! refl (hop ! (look-in ! 98 (sub ! 0 refl (whole !))) (stop !))))) (from ! (stop !)) (init ! 10 refl (tt, tt)) $
+          assigns ! (agg ! (and-then ! (load ! (from ! (stop !)) (look ! 10 refl)) (and-then ! (load ! (from ! (fld ! refl (stop !))) (look-in ! 98 (sub ! 1 refl (whole !)))) (no-more !)))) (from ! (stop !)) (init ! 8 refl (tt, (tt, (record { fits = g₃ .0 }, tt)))) $
+          assigns ! (addr ! (from ! (hop ! (look ! 96 refl) (stop !)))) (from ! (stop !)) (init ! 6 refl (tt, tt)) $
+          assigns ! (addr ! (from ! (fld ! refl (hop ! (look-in ! 88 (sub ! 0 refl (whole !))) (stop !))))) (from ! (stop !)) (init ! 4 refl (tt, tt)) $
+          assigns ! (agg ! (and-then ! (load ! (from ! (stop !)) (look ! 4 refl)) (and-then ! (load ! (from ! (fld ! refl (stop !))) (look-in ! 88 (sub ! 1 refl (whole !)))) (no-more !)))) (from ! (stop !)) (init ! 2 refl (tt, (tt, (record { fits = g₈ .0 }, tt)))) $
+          lent-some 6 All For-lists (tt, (tt, (tt, (tt, (tt, (tt, tt)))))) (created.the-row ∷ report.the-row ∷ []) lengths.the-row 𝓤 (lists.clauses 𝓤 H A at-mem run) ((z₅ .0), ((z₅ .1 .0), ((z₅ .1 .1 .0), ((z₅ .1 .1 .1 .0), ((z₅ .1 .1 .1 .1 .0), ((z₅ .1 .1 .1 .1 .1 .0), (x₆, (x₇, (x₈, tt))))))))) (r₁, (r₃, tt)) (created-val r₁ ∷ [], (report-val r₃ ∷ [], tt)) ! (fmOf 𝓤 H (W .laws) 𝓣) known-lists
+          (g₀, (tt, (g₂, (g₃, (tt, (g₈, tt)))))) (f₅ .0, (tt, (f₅ .1 .1 .0, (f₅ .1 .1 .1 .0, (tt, (refl, tt)))))) (created-makes 𝓤 H A r₁ _ is₁, (report-makes 𝓤 H A r₃ _ is₃, tt)) (λ αs δs. tt) (λ αs δs. id⊢ 𝓤 (emp 𝓤))
+          (λ αs δs. (and-then ! (load ! (from ! (stop !)) (look ! 20 refl)) (and-then ! (load ! (from ! (stop !)) (look ! 18 refl)) (and-then ! (load ! (from ! (stop !)) (look ! 14 refl)) (and-then ! (load ! (from ! (stop !)) (look ! 10 refl)) (and-then ! (load ! (from ! (stop !)) (look ! 8 refl)) (and-then ! (load ! (from ! (stop !)) (look ! 4 refl)) (and-then ! (load ! (from ! (stop !)) (look ! 86 refl)) (and-then ! (load ! (from ! (stop !)) (look ! 82 refl)) (no-more !))))))))))
+          (λ αs δs w₆ r₆ z₆ f₆. heard ! (listed-in r₆ (z₆ .0) (z₆ .1 .0) (z₆ .1 .1 .0) (z₆ .1 .1 .1 .0) (z₆ .1 .1 .1 .1 .0) (z₆ .1 .1 .1 .1 .1 .0) ≡ list-run r₁ r₃ (z₅ .0) (z₅ .1 .0) (z₅ .1 .1 .0) (z₅ .1 .1 .1 .0) (z₅ .1 .1 .1 .1 .0) x₈) (λ e₆. landed-by ! lengths.the-row lengths-vals lengths-tells r₆ w₆ (λ is₆.
+          land ! (from ! (stop !)) (init ! 74 refl (lengths-typed 𝓤 H A W r₆ is₆)) $
           nothing ! $ nothing ! $
-          lent 0 [] tt (created.the-row ∷ report.the-row ∷ save-report.the-row ∷ line.the-row ∷ []) performed.the-row 𝓤 (sums.clauses 𝓤 H A at-mem run) tt (r₁, (r₃, (r₅, (r₆, tt)))) (created-val r₁ ∷ [], (report-val r₃ ∷ [], (save-report-val r₅ ∷ [], (line-val r₆ ∷ [], tt)))) ! (fmOf 𝓤 H (W .laws) 𝓣) known-sums
-          tt tt (created-makes 𝓤 H A r₁ _ is₁, (report-makes 𝓤 H A r₃ _ is₃, (save-report-makes 𝓤 H A r₅ _ is₅, (line-makes 𝓤 H A r₆ _ is₆, tt)))) (λ αs δs. tt) (λ αs δs. id⊢ 𝓤 (emp 𝓤))
-          (λ αs δs. (and-then ! (load ! (from ! (stop !)) (look ! 74 refl)) (and-then ! (load ! (from ! (stop !)) (look ! 70 refl)) (and-then ! (load ! (from ! (stop !)) (look ! 66 refl)) (and-then ! (load ! (from ! (stop !)) (look ! 64 refl)) (no-more !))))))
+          lent 0 [] tt (created.the-row ∷ report.the-row ∷ save-report.the-row ∷ lengths.the-row ∷ []) performed.the-row 𝓤 (sums.clauses 𝓤 H A at-mem run) tt (r₁, (r₃, (r₅, (r₆, tt)))) (created-val r₁ ∷ [], (report-val r₃ ∷ [], (save-report-val r₅ ∷ [], (lengths-val r₆ ∷ [], tt)))) ! (fmOf 𝓤 H (W .laws) 𝓣) known-sums
+          tt tt (created-makes 𝓤 H A r₁ _ is₁, (report-makes 𝓤 H A r₃ _ is₃, (save-report-makes 𝓤 H A r₅ _ is₅, (lengths-makes 𝓤 H A r₆ _ is₆, tt)))) (λ αs δs. tt) (λ αs δs. id⊢ 𝓤 (emp 𝓤))
+          (λ αs δs. (and-then ! (load ! (from ! (stop !)) (look ! 86 refl)) (and-then ! (load ! (from ! (stop !)) (look ! 82 refl)) (and-then ! (load ! (from ! (stop !)) (look ! 78 refl)) (and-then ! (load ! (from ! (stop !)) (look ! 76 refl)) (no-more !))))))
           (λ αs δs w₇ r₇ z₇ f₇. heard ! (r₇ ≡ performed-of r₁ r₃ r₅ r₆) (λ e₇. landed-by ! performed.the-row performed-vals performed-tells r₇ w₇ (λ is₇.
-          drop ! $ drop ! $ land ! (from ! (stop !)) (init ! 94 refl (performed-typed 𝓤 H A W r₇ is₇)) $
-          returns ! (look ! 94 refl) $ emptied ! refl $
-          ends r₇ (z₆ .0) (z₅ .1 .0) (z₅ .1 .1 .0) (z₅ .1 .1 .1 .0) (z₅ .1 .1 .1 .1 .0) (z₅ .1 .1 .1 .1 .1 .0) (z₆ .1 .0) is₇ (f₆ .0) (f₅ .1 .1 .0) (f₅ .1 .1 .1 .0) (f₅ .1 .1 .1 .1 .1 .0) (f₆ .1 .0) (performs fuel x₀ x₁ x₂ x₃ x₄ x₅ x₆ x₇ x₈ e₁ e₂ e₃ e₄ e₅ e₆ e₇))))))))))))))))))))))
+          drop ! $ drop ! $ land ! (from ! (stop !)) (init ! 106 refl (performed-typed 𝓤 H A W r₇ is₇)) $
+          returns ! (look ! 106 refl) $ emptied ! refl $
+          ends r₇ (z₆ .0) (z₆ .1 .0) (z₆ .1 .1 .0) (z₆ .1 .1 .1 .0) (z₆ .1 .1 .1 .1 .0) (z₅ .1 .1 .1 .1 .1 .0) (z₆ .1 .1 .1 .1 .1 .0) is₇ (f₆ .0) (f₆ .1 .1 .0) (f₆ .1 .1 .1 .0) (f₅ .1 .1 .1 .1 .1 .0) (f₆ .1 .1 .1 .1 .1 .0) (performs fuel x₀ x₁ x₂ x₃ x₄ x₅ x₆ x₇ x₈ e₁ e₂ e₃ e₄ e₅ e₆ e₇))))))))))))))))))))))
 
-    walk : (𝓣 : Tables 𝓤 H) (known-creates : Triple 𝓤 (𝓣 .C #creates) (creates-con 𝓤 H A at-mem run)) (known-begins : Triple 𝓤 (𝓣 .C #begins) (begins-con 𝓤 H A at-mem run)) (known-starts : Triple 𝓤 (𝓣 .C #starts) (starts-con 𝓤 H A at-mem run)) (known-chooses : Triple 𝓤 (𝓣 .C #chooses) (chooses-con 𝓤 H A at-mem run)) (known-saves : Triple 𝓤 (𝓣 .C #saves) (saves-con 𝓤 H A at-mem run)) (known-tells : Triple 𝓤 (𝓣 .C #tells) (tells-con 𝓤 H A at-mem run)) (known-sums : Triple 𝓤 (𝓣 .C #sums) (sums-con 𝓤 H A at-mem run)) → ent 𝓤 (onEntry 𝓤 H A f.signature κs₀ qs₀ x at) (WpFn 𝓤 H (𝓣 .C) (𝓣 .Λ) code.function (sliceVal (b₀, o₀) n₀ ∷ vptr b₁ o₁ ∷ sliceVal (b₂, o₂) n₂ ∷ sliceVal (b₃, o₃) n₃ ∷ vptr b₄ o₄ ∷ sliceVal (b₅, o₅) n₅ ∷ sliceVal (b₆, o₆) n₆ ∷ sliceVal (b₇, o₇) n₇ ∷ sliceVal (b₈, o₈) n₈ ∷ vint w64 fuel ∷ []) Post)
-    unfolding machine-shut report-shut created-shut save-report-shut line-shut performed-shut verb-shut
-    walk 𝓣 known-creates known-begins known-starts known-chooses known-saves known-tells known-sums =
+    walk : (𝓣 : Tables 𝓤 H) (known-creates : Triple 𝓤 (𝓣 .C #creates) (creates-con 𝓤 H A at-mem run)) (known-begins : Triple 𝓤 (𝓣 .C #begins) (begins-con 𝓤 H A at-mem run)) (known-starts : Triple 𝓤 (𝓣 .C #starts) (starts-con 𝓤 H A at-mem run)) (known-chooses : Triple 𝓤 (𝓣 .C #chooses) (chooses-con 𝓤 H A at-mem run)) (known-saves : Triple 𝓤 (𝓣 .C #saves) (saves-con 𝓤 H A at-mem run)) (known-lists : Triple 𝓤 (𝓣 .C #lists) (lists-con 𝓤 H A at-mem run)) (known-sums : Triple 𝓤 (𝓣 .C #sums) (sums-con 𝓤 H A at-mem run)) → ent 𝓤 (onEntry 𝓤 H A f.signature κs₀ qs₀ x at) (WpFn 𝓤 H (𝓣 .C) (𝓣 .Λ) code.function (sliceVal (b₀, o₀) n₀ ∷ vptr b₁ o₁ ∷ sliceVal (b₂, o₂) n₂ ∷ sliceVal (b₃, o₃) n₃ ∷ vptr b₄ o₄ ∷ sliceVal (b₅, o₅) n₅ ∷ sliceVal (b₆, o₆) n₆ ∷ sliceVal (b₇, o₇) n₇ ∷ sliceVal (b₈, o₈) n₈ ∷ vint w64 fuel ∷ []) Post)
+    unfolding machine-shut report-shut created-shut save-report-shut lengths-shut performed-shut verb-shut
+    walk 𝓣 known-creates known-begins known-starts known-chooses known-saves known-lists known-sums =
         qed W ((‵ (flft κ₀ q₀) ⊛ ‵ (flft κ₁ q₁) ⊛ ‵ (flft κ₂ q₂) ⊛ ‵ (flft κ₃ q₃) ⊛ ‵ (flft κ₄ q₄) ⊛ ‵ (flft κ₅ q₅) ⊛ ‵ (flft κ₆ q₆) ⊛ ‵ (flft κ₇ q₇) ⊛ ‵ (flft κ₈ q₈) ⊛ ‵ ftrue) ∷ ‵ (owns (typesAt (f.signature .params) κs₀) x at) ∷ []) ∵
         move ! (1 ∷ []) $ fsplit ! $ move ! (1 ∷ []) $ fsplit ! $ move ! (1 ∷ []) $ fsplit ! $ move ! (1 ∷ []) $ fsplit ! $ move ! (1 ∷ []) $ fsplit ! $ move ! (1 ∷ []) $ fsplit ! $ move ! (1 ∷ []) $ fsplit ! $ move ! (1 ∷ []) $ fsplit ! $ move ! (1 ∷ []) $ fsplit ! $ move ! (1 ∷ []) $ drop ! $ nothing ! $ move ! (1 ∷ 0 ∷ []) $ fjoin ! $ move ! (1 ∷ 0 ∷ []) $ fjoin ! $ move ! (1 ∷ 0 ∷ []) $ fjoin ! $ move ! (1 ∷ 0 ∷ []) $ fjoin ! $ move ! (1 ∷ 0 ∷ []) $ fjoin ! $ move ! (1 ∷ 0 ∷ []) $ fjoin ! $ move ! (1 ∷ 0 ∷ []) $ fjoin ! $ move ! (1 ∷ 0 ∷ []) $ fjoin ! $ move ! (1 ∷ 0 ∷ []) $ fjoin ! $
         move ! (1 ∷ []) $ split ! $ move ! (1 ∷ []) $ split ! $ move ! (1 ∷ []) $ split ! $ move ! (1 ∷ []) $ split ! $ move ! (1 ∷ []) $ split ! $ move ! (1 ∷ []) $ split ! $ move ! (1 ∷ []) $ split ! $ move ! (1 ∷ []) $ split ! $ move ! (1 ∷ []) $ split ! $ move ! (1 ∷ []) $ drop ! $ nothing ! $ move ! (1 ∷ 0 ∷ []) $ fjoin ! $ move ! (1 ∷ 0 ∷ []) $ fjoin ! $ move ! (1 ∷ 0 ∷ []) $ fjoin ! $ move ! (1 ∷ 0 ∷ []) $ fjoin ! $ move ! (1 ∷ 0 ∷ []) $ fjoin ! $ move ! (1 ∷ 0 ∷ []) $ fjoin ! $ move ! (1 ∷ 0 ∷ []) $ fjoin ! $ move ! (1 ∷ 0 ∷ []) $ fjoin ! $ move ! (1 ∷ 0 ∷ []) $ fjoin ! $ move ! (1 ∷ 0 ∷ []) $
         enter ! (𝓣 .C) (𝓣 .Λ) code.function (sliceVal (b₀, o₀) n₀ ∷ vptr b₁ o₁ ∷ sliceVal (b₂, o₂) n₂ ∷ sliceVal (b₃, o₃) n₃ ∷ vptr b₄ o₄ ∷ sliceVal (b₅, o₅) n₅ ∷ sliceVal (b₆, o₆) n₆ ∷ sliceVal (b₇, o₇) n₇ ∷ sliceVal (b₈, o₈) n₈ ∷ vint w64 fuel ∷ []) _ $
-        alloc1 ! (λ l₀. alloc1 ! (λ l₁. alloc1 ! (λ l₂. alloc1 ! (λ l₃. alloc1 ! (λ l₄. alloc1 ! (λ l₅. alloc1 ! (λ l₆. alloc1 ! (λ l₇. alloc1 ! (λ l₈. alloc1 ! (λ l₉. alloc1 ! (λ l₁₀. alloc1 ! (λ l₁₁. alloc1 ! (λ l₁₂. alloc1 ! (λ l₁₃. alloc1 ! (λ l₁₄. alloc1 ! (λ l₁₅. alloc1 ! (λ l₁₆. alloc1 ! (λ l₁₇. alloc1 ! (λ l₁₈. alloc1 ! (λ l₁₉. alloc1 ! (λ l₂₀. alloc1 ! (λ l₂₁. alloc1 ! (λ l₂₂. alloc1 ! (λ l₂₃. alloc1 ! (λ l₂₄. alloc1 ! (λ l₂₅. alloc1 ! (λ l₂₆. alloc1 ! (λ l₂₇. alloc1 ! (λ l₂₈. alloc1 ! (λ l₂₉. alloc1 ! (λ l₃₀. alloc1 ! (λ l₃₁. alloc1 ! (λ l₃₂. alloc1 ! (λ l₃₃. alloc1 ! (λ l₃₄. alloc1 ! (λ l₃₅. alloc1 ! (λ l₃₆. alloc1 ! (λ l₃₇. alloc1 ! (λ l₃₈. alloc1 ! (λ l₃₉. alloc1 ! (λ l₄₀. alloc1 ! (λ l₄₁. alloc1 ! (λ l₄₂. alloc1 ! (λ l₄₃. alloc1 ! (λ l₄₄. alloc1 ! (λ l₄₅. alloc1 ! (λ l₄₆. alloc0 ! $ params1 ! $
-        pass1 ! (init ! 90 refl (tt, (tt, (record { fits = g₀ .0 }, tt)))) $ pass1 ! (init ! 88 refl (tt, tt)) $ pass1 ! (init ! 86 refl (tt, (tt, (record { fits = g₂ .0 }, tt)))) $ pass1 ! (init ! 84 refl (tt, (tt, (record { fits = g₃ .0 }, tt)))) $ pass1 ! (init ! 82 refl (tt, tt)) $ pass1 ! (init ! 80 refl (tt, (tt, (record { fits = g₅ .0 }, tt)))) $ pass1 ! (init ! 78 refl (tt, (tt, (record { fits = g₆ .0 }, tt)))) $ pass1 ! (init ! 76 refl (tt, (tt, (record { fits = g₇ .0 }, tt)))) $ pass1 ! (init ! 74 refl (tt, (tt, (record { fits = g₈ .0 }, tt)))) $ pass1 ! (init ! 72 refl (tt, record { fits = fuel-is })) $ pass0 ! $
-        move ! (94 ∷ 95 ∷ []) $
-        steps 𝓣 known-creates known-begins known-starts known-chooses known-saves known-tells known-sums l₀ l₁ l₂ l₃ l₄ l₅ l₆ l₇ l₈ l₉ l₁₀ l₁₁ l₁₂ l₁₃ l₁₄ l₁₅ l₁₆ l₁₇ l₁₈ l₁₉ l₂₀ l₂₁ l₂₂ l₂₃ l₂₄ l₂₅ l₂₆ l₂₇ l₂₈ l₂₉ l₃₀ l₃₁ l₃₂ l₃₃ l₃₄ l₃₅ l₃₆ l₃₇ l₃₈ l₃₉ l₄₀ l₄₁ l₄₂ l₄₃ l₄₄ l₄₅ l₄₆)))))))))))))))))))))))))))))))))))))))))))))))
+        alloc1 ! (λ l₀. alloc1 ! (λ l₁. alloc1 ! (λ l₂. alloc1 ! (λ l₃. alloc1 ! (λ l₄. alloc1 ! (λ l₅. alloc1 ! (λ l₆. alloc1 ! (λ l₇. alloc1 ! (λ l₈. alloc1 ! (λ l₉. alloc1 ! (λ l₁₀. alloc1 ! (λ l₁₁. alloc1 ! (λ l₁₂. alloc1 ! (λ l₁₃. alloc1 ! (λ l₁₄. alloc1 ! (λ l₁₅. alloc1 ! (λ l₁₆. alloc1 ! (λ l₁₇. alloc1 ! (λ l₁₈. alloc1 ! (λ l₁₉. alloc1 ! (λ l₂₀. alloc1 ! (λ l₂₁. alloc1 ! (λ l₂₂. alloc1 ! (λ l₂₃. alloc1 ! (λ l₂₄. alloc1 ! (λ l₂₅. alloc1 ! (λ l₂₆. alloc1 ! (λ l₂₇. alloc1 ! (λ l₂₈. alloc1 ! (λ l₂₉. alloc1 ! (λ l₃₀. alloc1 ! (λ l₃₁. alloc1 ! (λ l₃₂. alloc1 ! (λ l₃₃. alloc1 ! (λ l₃₄. alloc1 ! (λ l₃₅. alloc1 ! (λ l₃₆. alloc1 ! (λ l₃₇. alloc1 ! (λ l₃₈. alloc1 ! (λ l₃₉. alloc1 ! (λ l₄₀. alloc1 ! (λ l₄₁. alloc1 ! (λ l₄₂. alloc1 ! (λ l₄₃. alloc1 ! (λ l₄₄. alloc1 ! (λ l₄₅. alloc1 ! (λ l₄₆. alloc1 ! (λ l₄₇. alloc1 ! (λ l₄₈. alloc1 ! (λ l₄₉. alloc1 ! (λ l₅₀. alloc1 ! (λ l₅₁. alloc1 ! (λ l₅₂. alloc0 ! $ params1 ! $
+        pass1 ! (init ! 102 refl (tt, (tt, (record { fits = g₀ .0 }, tt)))) $ pass1 ! (init ! 100 refl (tt, tt)) $ pass1 ! (init ! 98 refl (tt, (tt, (record { fits = g₂ .0 }, tt)))) $ pass1 ! (init ! 96 refl (tt, (tt, (record { fits = g₃ .0 }, tt)))) $ pass1 ! (init ! 94 refl (tt, tt)) $ pass1 ! (init ! 92 refl (tt, (tt, (record { fits = g₅ .0 }, tt)))) $ pass1 ! (init ! 90 refl (tt, (tt, (record { fits = g₆ .0 }, tt)))) $ pass1 ! (init ! 88 refl (tt, (tt, (record { fits = g₇ .0 }, tt)))) $ pass1 ! (init ! 86 refl (tt, (tt, (record { fits = g₈ .0 }, tt)))) $ pass1 ! (init ! 84 refl (tt, record { fits = fuel-is })) $ pass0 ! $
+        move ! (106 ∷ 107 ∷ []) $
+        steps 𝓣 known-creates known-begins known-starts known-chooses known-saves known-lists known-sums l₀ l₁ l₂ l₃ l₄ l₅ l₆ l₇ l₈ l₉ l₁₀ l₁₁ l₁₂ l₁₃ l₁₄ l₁₅ l₁₆ l₁₇ l₁₈ l₁₉ l₂₀ l₂₁ l₂₂ l₂₃ l₂₄ l₂₅ l₂₆ l₂₇ l₂₈ l₂₉ l₃₀ l₃₁ l₃₂ l₃₃ l₃₄ l₃₅ l₃₆ l₃₇ l₃₈ l₃₉ l₄₀ l₄₁ l₄₂ l₄₃ l₄₄ l₄₅ l₄₆ l₄₇ l₄₈ l₄₉ l₅₀ l₅₁ l₅₂)))))))))))))))))))))))))))))))))))))))))))))))))))))
 
-module _ {M : Type 1} (𝓤 : URA M) (H : Heap 𝓤) (A : Atoms 𝓤) (W : Given 𝓤 H A) (at-mem : Memory → SProp 𝓤) (run : Routine → Fun 𝓤) (𝓣 : Tables 𝓤 H) (known-creates : Triple 𝓤 (𝓣 .C #creates) (creates-con 𝓤 H A at-mem run)) (known-begins : Triple 𝓤 (𝓣 .C #begins) (begins-con 𝓤 H A at-mem run)) (known-starts : Triple 𝓤 (𝓣 .C #starts) (starts-con 𝓤 H A at-mem run)) (known-chooses : Triple 𝓤 (𝓣 .C #chooses) (chooses-con 𝓤 H A at-mem run)) (known-saves : Triple 𝓤 (𝓣 .C #saves) (saves-con 𝓤 H A at-mem run)) (known-tells : Triple 𝓤 (𝓣 .C #tells) (tells-con 𝓤 H A at-mem run)) (known-sums : Triple 𝓤 (𝓣 .C #sums) (sums-con 𝓤 H A at-mem run)) where
+module _ {M : Type 1} (𝓤 : URA M) (H : Heap 𝓤) (A : Atoms 𝓤) (W : Given 𝓤 H A) (at-mem : Memory → SProp 𝓤) (run : Routine → Fun 𝓤) (𝓣 : Tables 𝓤 H) (known-creates : Triple 𝓤 (𝓣 .C #creates) (creates-con 𝓤 H A at-mem run)) (known-begins : Triple 𝓤 (𝓣 .C #begins) (begins-con 𝓤 H A at-mem run)) (known-starts : Triple 𝓤 (𝓣 .C #starts) (starts-con 𝓤 H A at-mem run)) (known-chooses : Triple 𝓤 (𝓣 .C #chooses) (chooses-con 𝓤 H A at-mem run)) (known-saves : Triple 𝓤 (𝓣 .C #saves) (saves-con 𝓤 H A at-mem run)) (known-lists : Triple 𝓤 (𝓣 .C #lists) (lists-con 𝓤 H A at-mem run)) (known-sums : Triple 𝓤 (𝓣 .C #sums) (sums-con 𝓤 H A at-mem run)) where
   walks : Walks 𝓤 H A f.ended stayed (WpFn 𝓤 H (𝓣 .C) (𝓣 .Λ) code.function) (f.clauses 𝓤 H A at-mem run)
   walks =
       walked 𝓤 H A f.ended stayed (f.clauses 𝓤 H A at-mem run) (WpFn 𝓤 H (𝓣 .C) (𝓣 .Λ) code.function) (λ κs. (slice-vals, (ptr-vals, (slice-vals, (slice-vals, (ptr-vals, (slice-vals, (slice-vals, (slice-vals, (slice-vals, (uint-vals w64, tt)))))))))))
       (λ κs. (mut-slice-tells (named 0) (κs .0) R, (mut-tells (named 1) (κs .1 .0) (Array u64 1000), (mut-slice-tells (named 2) (κs .1 .1 .0) u8, (mut-slice-tells (named 3) (κs .1 .1 .1 .0) u8, (mut-tells (named 4) (κs .1 .1 .1 .1 .0) (Array u32 1024), (mut-slice-tells (named 5) (κs .1 .1 .1 .1 .1 .0) u8, (shr-slice-tells (named 6) (κs .1 .1 .1 .1 .1 .1 .0) u8, (shr-slice-tells (named 7) (κs .1 .1 .1 .1 .1 .1 .1 .0) u8, (mut-slice-tells (named 8) (κs .1 .1 .1 .1 .1 .1 .1 .1 .0) u8, (uint-tells w64, tt)))))))))))
       (λ κs qs bounds a g are. via 𝓤 _ (fst∗ 𝓤 _ (emp 𝓤))
       (walk 𝓤 H A W at-mem run (κs .0) (κs .1 .0) (κs .1 .1 .0) (κs .1 .1 .1 .0) (κs .1 .1 .1 .1 .0) (κs .1 .1 .1 .1 .1 .0) (κs .1 .1 .1 .1 .1 .1 .0) (κs .1 .1 .1 .1 .1 .1 .1 .0) (κs .1 .1 .1 .1 .1 .1 .1 .1 .0) (qs .0) (qs .1 .0) (qs .1 .1 .0) (qs .1 .1 .1 .0) (qs .1 .1 .1 .1 .0) (qs .1 .1 .1 .1 .1 .0) (qs .1 .1 .1 .1 .1 .1 .0) (qs .1 .1 .1 .1 .1 .1 .1 .0) (qs .1 .1 .1 .1 .1 .1 .1 .1 .0) (a .0 .ptr .0) (a .0 .ptr .1) (a .1 .0 .ptr .0) (a .1 .0 .ptr .1) (a .1 .1 .0 .ptr .0) (a .1 .1 .0 .ptr .1) (a .1 .1 .1 .0 .ptr .0) (a .1 .1 .1 .0 .ptr .1) (a .1 .1 .1 .1 .0 .ptr .0) (a .1 .1 .1 .1 .0 .ptr .1) (a .1 .1 .1 .1 .1 .0 .ptr .0) (a .1 .1 .1 .1 .1 .0 .ptr .1) (a .1 .1 .1 .1 .1 .1 .0 .ptr .0) (a .1 .1 .1 .1 .1 .1 .0 .ptr .1) (a .1 .1 .1 .1 .1 .1 .1 .0 .ptr .0) (a .1 .1 .1 .1 .1 .1 .1 .0 .ptr .1) (a .1 .1 .1 .1 .1 .1 .1 .1 .0 .ptr .0) (a .1 .1 .1 .1 .1 .1 .1 .1 .0 .ptr .1) (a .0 .name) (a .1 .0 .name) (a .1 .1 .0 .name) (a .1 .1 .1 .0 .name) (a .1 .1 .1 .1 .0 .name) (a .1 .1 .1 .1 .1 .0 .name) (a .1 .1 .1 .1 .1 .1 .0 .name) (a .1 .1 .1 .1 .1 .1 .1 .0 .name) (a .1 .1 .1 .1 .1 .1 .1 .1 .0 .name) (a .0 .now) (a .1 .0 .now) (a .1 .1 .0 .now) (a .1 .1 .1 .0 .now) (a .1 .1 .1 .1 .0 .now) (a .1 .1 .1 .1 .1 .0 .now) (a .1 .1 .1 .1 .1 .1 .0 .now) (a .1 .1 .1 .1 .1 .1 .1 .0 .now) (a .1 .1 .1 .1 .1 .1 .1 .1 .0 .now) (a .1 .1 .1 .1 .1 .1 .1 .1 .1 .0)
-      (are .0 .0 .1) (are .1 .1 .0 .0 .1) (are .1 .1 .1 .0 .0 .1) (are .1 .1 .1 .1 .1 .0 .0 .1) (are .1 .1 .1 .1 .1 .1 .0 .0 .1) (are .1 .1 .1 .1 .1 .1 .1 .0 .0 .1) (are .1 .1 .1 .1 .1 .1 .1 .1 .0 .0 .1) (are .1 .1 .1 .1 .1 .1 .1 .1 .1 .0 .1) 𝓣 known-creates known-begins known-starts known-chooses known-saves known-tells known-sums))
+      (are .0 .0 .1) (are .1 .1 .0 .0 .1) (are .1 .1 .1 .0 .0 .1) (are .1 .1 .1 .1 .1 .0 .0 .1) (are .1 .1 .1 .1 .1 .1 .0 .0 .1) (are .1 .1 .1 .1 .1 .1 .1 .0 .0 .1) (are .1 .1 .1 .1 .1 .1 .1 .1 .0 .0 .1) (are .1 .1 .1 .1 .1 .1 .1 .1 .1 .0 .1) 𝓣 known-creates known-begins known-starts known-chooses known-saves known-lists known-sums))
 
   meets : Meets 𝓤 H A f.signature (WpFn 𝓤 H (𝓣 .C) (𝓣 .Λ) code.function) (f.spec 𝓤 H A at-mem run)
   meets =
@@ -324,5 +328,5 @@ perform-spec 𝓤 H 𝓜 𝓖 𝓡 =
     (cited 𝓤 H (starts-con 𝓤 H (𝓖 .A) (𝓜 .mem) (𝓡 .run)) 𝓜 𝓡 code.env #starts starts-def.routine code.calls-runner·calling·call (starts-thm.met 𝓤 H 𝓜 𝓖 𝓡))
     (cited 𝓤 H (chooses-con 𝓤 H (𝓖 .A) (𝓜 .mem) (𝓡 .run)) 𝓜 𝓡 code.env #chooses chooses-def.routine code.calls-host·outcomes·to-save (chooses-thm.met 𝓤 H 𝓜 𝓖 𝓡))
     (cited 𝓤 H (saves-con 𝓤 H (𝓖 .A) (𝓜 .mem) (𝓡 .run)) 𝓜 𝓡 code.env #saves saves-def.routine code.calls-vm·saving·save (saves-thm.met 𝓤 H 𝓜 𝓖 𝓡))
-    (cited 𝓤 H (tells-con 𝓤 H (𝓖 .A) (𝓜 .mem) (𝓡 .run)) 𝓜 𝓡 code.env #tells tells-def.routine code.calls-host·lines·put-tasks (tells-thm.met 𝓤 H 𝓜 𝓖 𝓡))
+    (cited 𝓤 H (lists-con 𝓤 H (𝓖 .A) (𝓜 .mem) (𝓡 .run)) 𝓜 𝓡 code.env #lists lists-def.routine code.calls-host·listings·list-run (lists-thm.met 𝓤 H 𝓜 𝓖 𝓡))
     (cited 𝓤 H (sums-con 𝓤 H (𝓖 .A) (𝓜 .mem) (𝓡 .run)) 𝓜 𝓡 code.env #sums sums-def.routine code.calls-host·outcomes·performed (sums-thm.met 𝓤 H 𝓜 𝓖 𝓡)))
