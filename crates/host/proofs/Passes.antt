@@ -1,6 +1,6 @@
 -- Lines one behind the other, in a loop over values or over tasks.
 use Prim.Native.Nat.{ℕ, _+_, _≤_, _<_}
-use mathlib.Core.Bool.{Bool}
+use mathlib.Core.Bool.{Bool, true, cond}
 use mathlib.Core.List.{List, [], _∷_, map}
 use mathlib.Core.Path.{_≡_, refl, sym, ap, _∙_}
 use native.Mathlib.Numerals.{add-one}
@@ -15,7 +15,7 @@ use Rattle.listing.specs.declared.Head.{Head}
 use Rattle.listing.specs.declared.Counted.the-variants.{Values, Tasks}
 use Rattle.listing.specs.Listing.{ValueRead, read-of, values-read, line-of-head, line-of-count, line-of-task}
 use Rattle.listing.proofs.LineByLine.{values-length}
-use Rattle.host.specs.Lines.{next, tell-lines, line-of-read, tell-values, tell-run, tell-tasks}
+use Rattle.host.specs.Lines.{next, next-task, tell-lines, line-of-read, tell-values, tell-run, tell-slots, tell-tasks}
 use Rattle.host.proofs.Behind.{first-line, next-length}
 
 -- ---- one text and the rest
@@ -27,24 +27,6 @@ lines-cons writes l text more = refl
 lines-none : (writes : Bool) (l : Lined) → tell-lines writes l [] ≡ l
 unfolding tell-lines
 lines-none writes l = refl
-
--- ---- in a loop over things that have a line each
-
-module _ {A : Type 0} (line : A → List ℕ) (default : A) (writes : Bool) where
-  -- a turn
-  turn : (all : List A) (i : ℕ) (l : Lined) {m whole : Lined} → i < length all → m ≡ next writes l (line (getD all i default))
-      → tell-lines writes l (map line (drop i all)) ≡ whole → tell-lines writes m (map line (drop (i + 1) all)) ≡ whole
-  turn all i l more told so-far =
-      let here : drop i all ≡ getD all i default ∷ drop (i + 1) all = drop-cons all i default more ∙ ap (λ (k : ℕ). getD all i default ∷ drop k all) (sym (add-one i)) in
-      ap (λ (x : Lined). tell-lines writes x (map line (drop (i + 1) all))) told
-      ∙ sym (lines-cons writes l (line (getD all i default)) (map line (drop (i + 1) all)))
-      ∙ sym (ap (λ (r : List A). tell-lines writes l (map line r)) here)
-      ∙ so-far
-
-  -- past the last
-  last : (all : List A) (i : ℕ) {l whole : Lined} → length all ≤ i → tell-lines writes l (map line (drop i all)) ≡ whole → l ≡ whole
-  last all i {l} ended so-far =
-      sym (lines-none writes l) ∙ sym (ap (λ (r : List A). tell-lines writes l (map line r)) (drop-of-length-le all ended)) ∙ so-far
 
 -- ---- the values
 
@@ -74,13 +56,20 @@ module _ (memory pool ends : List ℕ) (entries : ℕ) where
         → Telling whole size told out position → Telling whole size answer after-it (position + 1)
     telling-turned {told = told} {out = out} {position = position} more tells telling =
         record {
-          so-far = turn line-of-word 0 writes words position (lined told out) more tells (telling .so-far);
+          so-far =
+              ap (λ (x : Lined). tell-lines writes x (map line-of-word (drop (position + 1) words))) tells
+              ∙ sym (lines-cons writes (lined told out) (line-of-word (getD words position 0)) (map line-of-word (drop (position + 1) words)))
+              ∙ sym (ap (λ (r : List ℕ). tell-lines writes (lined told out) (map line-of-word r)) (drop-cons words position 0 more ∙ ap (λ (k : ℕ). getD words position 0 ∷ drop k words) (sym (add-one position))))
+              ∙ telling .so-far;
           kept = ap (λ (l : Lined). length (l .out)) tells ∙ next-length writes told out (line-of-word (getD words position 0)) ∙ telling .kept;
         }
 
     pub telling-ended : {whole : Lined} {size : ℕ} {told : LineResult} {out : List ℕ} {position : ℕ} → length words ≤ position
         → Telling whole size told out position → lined told out ≡ whole
-    telling-ended {position = position} past telling = last line-of-word 0 writes words position past (telling .so-far)
+    telling-ended {told = told} {out = out} past telling =
+        sym (lines-none writes (lined told out))
+        ∙ sym (ap (λ (r : List ℕ). tell-lines writes (lined told out) (map line-of-word r)) (drop-of-length-le words past))
+        ∙ telling .so-far
 
   -- the first line, the count and the values
   pub tells-run : (writes : Bool) (words out : List ℕ) (head : Head) {a b c : LineResult} {one two three : List ℕ}
@@ -107,25 +96,36 @@ read e = (ap (λ (x : After Task (List Task)). x .answer) e, ap (λ (x : After T
 pub stays : {A : Type 0} {a b : A} {zs ys : List Task} → after a zs ≡ after b ys → zs ≡ ys
 stays {A} e = ap (λ (x : After A (List Task)). x .lent) e
 
--- the lines of the slots from one on
-unfoldable pub slots-from : Bool → Lined → List Task → ℕ → Lined
-slots-from writes l table slot = tell-lines writes l (map line-of-task (drop slot table))
+-- a living slot has its line
+pub living-slot : (writes : Bool) (l : Lined) (task : Task) → task .living ≡ true → next writes l (line-of-task task) ≡ next-task writes l task
+unfolding next-task
+living-slot writes l task is = ap (λ (living : Bool). cond living (next writes l (line-of-task task)) l) (sym is)
+
+slots-cons : (writes : Bool) (l : Lined) (task : Task) (more : List Task) → tell-slots writes l (task ∷ more) ≡ tell-slots writes (next-task writes l task) more
+unfolding tell-slots
+slots-cons writes l task more = refl
+
+slots-none : (writes : Bool) (l : Lined) → tell-slots writes l [] ≡ l
+unfolding tell-slots
+slots-none writes l = refl
 
 -- before the first slot: how many there are
 pub no-slot : (writes : Bool) (table : List Task) (so-far : Lined) {count : ℕ} {table′ : List Task} {l : Lined} → after count table′ ≡ after (living-of table) table
-    → l ≡ next writes so-far (line-of-count Tasks count) → slots-from writes l table 0 ≡ tell-tasks writes so-far table
-unfolding slots-from tell-tasks tell-lines
+    → l ≡ next writes so-far (line-of-count Tasks count) → tell-slots writes l (drop 0 table) ≡ tell-tasks writes so-far table
+unfolding tell-tasks
 no-slot writes table so-far counts tells =
-    ap (λ (x : Lined). tell-lines writes x (map line-of-task table)) (tells ∙ ap (λ (a : After ℕ (List Task)). next writes so-far (line-of-count Tasks (a .answer))) counts)
+    ap (λ (x : Lined). tell-slots writes x table) (tells ∙ ap (λ (a : After ℕ (List Task)). next writes so-far (line-of-count Tasks (a .answer))) counts)
 
 -- a turn
 pub one-slot : (writes : Bool) (table : List Task) (slot : ℕ) (l : Lined) {m whole : Lined} {task : Task} → slot < length table → task ≡ getD table slot blank
-    → m ≡ next writes l (line-of-task task) → slots-from writes l table slot ≡ whole → slots-from writes m table (slot + 1) ≡ whole
-unfolding slots-from
+    → m ≡ next-task writes l task → tell-slots writes l (drop slot table) ≡ whole → tell-slots writes m (drop (slot + 1) table) ≡ whole
 one-slot writes table slot l more is tells so-far =
-    turn line-of-task blank writes table slot l more (tells ∙ ap (λ (t : Task). next writes l (line-of-task t)) is) so-far
+    let here : drop slot table ≡ getD table slot blank ∷ drop (slot + 1) table = drop-cons table slot blank more ∙ ap (λ (k : ℕ). getD table slot blank ∷ drop k table) (sym (add-one slot)) in
+    ap (λ (x : Lined). tell-slots writes x (drop (slot + 1) table)) (tells ∙ ap (next-task writes l) is)
+    ∙ sym (slots-cons writes l (getD table slot blank) (drop (slot + 1) table))
+    ∙ sym (ap (tell-slots writes l) here)
+    ∙ so-far
 
 -- past the last slot
-pub all-slots : (writes : Bool) (table : List Task) (slot : ℕ) {l whole : Lined} → length table ≤ slot → slots-from writes l table slot ≡ whole → l ≡ whole
-unfolding slots-from
-all-slots writes table slot past so-far = last line-of-task blank writes table slot past so-far
+pub all-slots : (writes : Bool) (table : List Task) (slot : ℕ) {l whole : Lined} → length table ≤ slot → tell-slots writes l (drop slot table) ≡ whole → l ≡ whole
+all-slots writes table slot {l} past so-far = sym (slots-none writes l) ∙ sym (ap (tell-slots writes l) (drop-of-length-le table past)) ∙ so-far

@@ -1,6 +1,6 @@
 -- All lines measured, and then put where the buffer holds them, are the listing whole, or not at all.
 use Prim.Native.Nat.{ℕ, _+_, _^_, _≤_, _<_}
-use mathlib.Core.Bool.{Bool, true, false}
+use mathlib.Core.Bool.{Bool, true, false, cond}
 use mathlib.Core.List.{List, [], _∷_, _++_, map, append-nil, append-assoc}
 use mathlib.Core.Path.{_≡_, refl, sym, ap, _∙_}
 use native.Mathlib.Omega.{arith}
@@ -23,7 +23,7 @@ use Rattle.listing.specs.Listing.{ValueRead, line-of-head, line-of-count, line-
 use Rattle.machine.specs.declared.CreateResult.{CreateResult}
 use Rattle.machine.specs.declared.Report.{Report}
 use Rattle.host.specs.declared.answering.ListingLengths.{ListingLengths}
-use Rattle.host.specs.Lines.{sized, behind, next-text, next, tell-lines, line-of-read, tell-run, tell-tasks}
+use Rattle.host.specs.Lines.{sized, behind, next-text, next, next-task, tell-lines, line-of-read, tell-run, tell-slots, tell-tasks}
 use Rattle.host.specs.Listings.{head-of, values-of, text-of, Listing, listing-of, with-lengths, told-length, list-whole, ListedIn, listed-in, beside, list-run, ToldOver, told-over, over, write-run, length-of, lengths-of}
 use Rattle.host.proofs.Behind.{most, behind-fits, sized-fits, sized-over}
 
@@ -96,10 +96,35 @@ unfolding lines-of-values
 values-joined [] = refl
 values-joined (read ∷ more) = ap (λ (l : List ℕ). line-of-read read ++ l) (values-joined more)
 
-tasks-joined : (table : List Task) → joined (map line-of-task table) ≡ lines-of-tasks table
+-- the lines of the living slots
+abbrev living-lines : List Task → List (List ℕ)
+living-lines [] = []
+living-lines (task ∷ more) = cond (task .living) (line-of-task task ∷ living-lines more) (living-lines more)
+
+-- a slot that is not living has no line
+not-living : (task : Task) → task .living ≡ false → line-of-task task ≡ []
+unfolding line-of-task
+not-living task is = rw is
+
+tasks-joined : (table : List Task) → joined (living-lines table) ≡ lines-of-tasks table
 unfolding lines-of-tasks
 tasks-joined [] = refl
-tasks-joined (task ∷ more) = ap (λ (l : List ℕ). line-of-task task ++ l) (tasks-joined more)
+tasks-joined (task ∷ more) = by (task .living) (line-of-task task) (not-living task) (tasks-joined more)
+  where
+    by : (living : Bool) (line : List ℕ) → (living ≡ false → line ≡ []) → joined (living-lines more) ≡ lines-of-tasks more
+        → joined (cond living (line ∷ living-lines more) (living-lines more)) ≡ line ++ lines-of-tasks more
+    by true line none rest = ap (λ (l : List ℕ). line ++ l) rest
+    by false line none rest = rest ∙ sym (ap (λ (l : List ℕ). l ++ lines-of-tasks more) (none refl))
+
+slots-told : (writes : Bool) (l : Lined) (table : List Task) → tell-slots writes l table ≡ tell-lines writes l (living-lines table)
+unfolding tell-slots tell-lines next-task
+slots-told writes l [] = refl
+slots-told writes l (task ∷ more) = by (task .living) (λ (x : Lined). slots-told writes x more)
+  where
+    by : (living : Bool) → ((x : Lined) → tell-slots writes x more ≡ tell-lines writes x (living-lines more))
+        → tell-slots writes (cond living (next writes l (line-of-task task)) l) more ≡ tell-lines writes l (cond living (line-of-task task ∷ living-lines more) (living-lines more))
+    by true rest = rest (next writes l (line-of-task task))
+    by false rest = rest l
 
 module _ (head : Head) (values : List ValueRead) (table : List Task) where
   -- before those of the tasks, and those
@@ -107,7 +132,7 @@ module _ (head : Head) (values : List ValueRead) (table : List Task) where
   before = line-of-head head ∷ line-of-count Values (length values) ∷ map line-of-read values
 
   abbrev tasks : List (List ℕ)
-  tasks = line-of-count Tasks (living-of table) ∷ map line-of-task table
+  tasks = line-of-count Tasks (living-of table) ∷ living-lines table
 
   abbrev text : List ℕ
   text = listing head values table
@@ -122,9 +147,13 @@ module _ (head : Head) (values : List ValueRead) (table : List Task) where
       ∙ ap (λ (l : List ℕ). line-of-head head ++ (line-of-count Values (length values) ++ (lines-of-values values ++ (line-of-count Tasks (living-of table) ++ l)))) (tasks-joined table)
 
   -- in one pass
+  tasks-told : (writes : Bool) (l : Lined) → tell-tasks writes l table ≡ tell-lines writes l tasks
+  unfolding tell-tasks tell-lines
+  tasks-told writes l = slots-told writes (next writes l (line-of-count Tasks (living-of table))) table
+
   pass : (writes : Bool) (out : List ℕ) → tell-tasks writes (tell-run writes out head values) table ≡ tell-lines writes (lined (Line 0) out) (before ++ tasks)
-  unfolding tell-run tell-tasks
-  pass writes out = lines-append writes (lined (Line 0) out) before tasks
+  unfolding tell-run
+  pass writes out = tasks-told writes (tell-run writes out head values) ∙ lines-append writes (lined (Line 0) out) before tasks
 
   -- measured
   pub measures : (out : List ℕ) → tell-tasks false (tell-run false out head values) table ≡ lined (sized (length text)) out
@@ -154,8 +183,7 @@ module _ (head : Head) (values : List ValueRead) (table : List Task) where
   both-passes needed out = listing-of (lengths-of needed (second needed out .answer)) (second needed out .out)
 
   no-room : (refusal : Refusal) (out : List ℕ) → tell-tasks true (lined (NoLine refusal) out) table ≡ lined (NoLine refusal) out
-  unfolding tell-tasks
-  no-room refusal out = stuck true refusal out tasks
+  no-room refusal out = tasks-told true (lined (NoLine refusal) out) ∙ stuck true refusal out tasks
 
   -- what is told of a length
   tells : length text ≤ most → told-length (length text) ≡ length text

@@ -62,6 +62,15 @@ tell-values writes l values = tell-lines writes l (map line-of-read values)
 unfoldable pub tell-run : Bool → List ℕ → Head → List ValueRead → Lined
 tell-run writes out head values = tell-lines writes (lined (Line 0) out) (line-of-head head ∷ line-of-count Values (length values) ∷ map line-of-read values)
 
--- how many tasks there are, and each of them by slot
+-- a task; a slot that is not living leaves the lines so far
+unfoldable pub next-task : Bool → Lined → Task → Lined
+next-task writes l task = cond (task .living) (next writes l (line-of-task task)) l
+
+-- each by slot
+unfoldable pub tell-slots : Bool → Lined → List Task → Lined
+tell-slots writes l [] = l
+tell-slots writes l (task ∷ more) = tell-slots writes (next-task writes l task) more
+
+-- how many tasks there are, and each of them
 unfoldable pub tell-tasks : Bool → Lined → List Task → Lined
-tell-tasks writes l table = tell-lines writes l (line-of-count Tasks (living-of table) ∷ map line-of-task table)
+tell-tasks writes l table = tell-slots writes (next writes l (line-of-count Tasks (living-of table))) table

@@ -4,7 +4,7 @@ ghost use Rattle.storage.specs.Tasks.{after};
 ghost use Rattle.text.specs.Lines.{lined};
 ghost use Rattle.listing.specs.declared.Counted.the-variants.{Tasks};
 ghost use Rattle.listing.specs.Listing.{read-of, values-read, line-of-count, line-of-value, line-of-task};
-ghost use Rattle.host.specs.Lines.{line-start, counted, next, tell-values, tell-tasks};
+ghost use Rattle.host.specs.Lines.{line-start, counted, next, next-task, tell-values, tell-tasks};
 use errors::Refusal;
 use listing::Counted;
 use storage::Task;
@@ -97,8 +97,8 @@ fn tell_value<'a>(
     }
 }
 
-// A task, behind the lines so far; nothing for a slot that is not living.
-fn tell_task(out: &mut [u8], so_far: LineResult, writes: bool, task: Task) -> LineResult
+// A living task, behind the lines so far.
+fn tell_living(out: &mut [u8], so_far: LineResult, writes: bool, task: Task) -> LineResult
     ensures { λ r. ⌜ lined r (now (out .exit)) ≡ next writes (lined «so_far» (now (out .entry))) (line-of-task task) ⌝ }
 {
     match so_far {
@@ -114,6 +114,16 @@ fn tell_task(out: &mut [u8], so_far: LineResult, writes: bool, task: Task) -> Li
             )
         }
     }
+}
+
+// A task, behind the lines so far; a slot that is not living leaves them.
+fn tell_task(out: &mut [u8], so_far: LineResult, writes: bool, task: Task) -> LineResult
+    ensures { λ r. ⌜ lined r (now (out .exit)) ≡ next-task writes (lined «so_far» (now (out .entry))) task ⌝ }
+{
+    if task.living {
+        return tell_living(out, so_far, writes, task);
+    }
+    so_far
 }
 
 // The values, bottom first, behind the lines so far.
