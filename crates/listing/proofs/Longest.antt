@@ -22,7 +22,7 @@ use Rattle.memory.specs.declared.unbox.Return.the-variants.{U32, Boolean, Strin
 use Rattle.listing.specs.Listing.{line-of-bool, line-of-numbers, line-of-value}
 
 -- a number of 32 bits has at most 10 digits
-ten-digits : (n : ℕ) → n < 4294967296 → length (decimal n) ≤ 10
+pub ten-digits : (n : ℕ) → n < 4294967296 → length (decimal n) ≤ 10
 ten-digits n small = few-digits 9 n (ltb n 10) refl (omega arith)
 
 -- a number and its space take at most 11 bytes for 4

@@ -22,12 +22,12 @@ use Rattle.listing.specs.declared.Head.the-variants.{Done, Paused, Refus
 use Rattle.listing.specs.declared.Counted.{Counted}
 use Rattle.listing.specs.declared.Counted.the-variants.{Values, Tasks}
 use Rattle.listing.specs.Listing.{line-of-refusal, line-of-head, line-of-count, title-of, title-form, line-of-task, lines-of-tasks}
-use Rattle.listing.proofs.Longest.{short-refusal, one-number}
+use Rattle.listing.proofs.Longest.{ten-digits, short-refusal, one-number}
 
 -- ---- the first line and the counts
 
--- one of 8 bits, and the count of 256 slots, have at most 3
-three-digits : (n : ℕ) → n ≤ 256 → length (decimal n) ≤ 3
+-- one of 8 bits has at most 3
+three-digits : (n : ℕ) → n < 256 → length (decimal n) ≤ 3
 three-digits n small = few-digits 2 n (ltb n 10) refl (omega arith)
 
 -- a number of 64 bits and its space take at most 21 bytes
@@ -66,7 +66,7 @@ count-short Tasks n small = omega (arith, one-number n, twenty-digits n small)
 
 -- the numbers in a task's line, and how long its title is
 pub record Small (task : Task) : Type 0 where
-  pub id : task .id .0 < 256
+  pub id : task .id .0 < 4294967296
   pub state : task .state .state < 256
   pub title : task .«title_len» ≤ 128
 
@@ -84,8 +84,8 @@ living-line : (task : Task) → Small task
 unfolding line filled filled-in numbers-left ascii
 living-line task told =
     let numbers = task .id .0 ∷ task .state .state ∷ [] in
-    let id : length (decimal (task .id .0)) ≤ 3 = three-digits (task .id .0) (omega (arith, told .id)) in
-    let state : length (decimal (task .state .state)) ≤ 3 = three-digits (task .state .state) (omega (arith, told .state)) in
+    let id : length (decimal (task .id .0)) ≤ 10 = ten-digits (task .id .0) (told .id) in
+    let state : length (decimal (task .state .state)) ≤ 3 = three-digits (task .state .state) (told .state) in
     let title : length (title-of task) ≤ 128 = omega (arith, told .title, length-take (task .«title_len») (task .title)) in
     simp length-append (omega (arith, title-short (title-of task) numbers))
 

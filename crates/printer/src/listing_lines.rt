@@ -14,9 +14,9 @@ use machine::CreateResult;
 use storage::Task;
 use text::LineResult;
 
-// Room for any value's line: a text of 65,535 bytes, 16,383 numbers, or 65,536 bytes in hex.
-fn value_room() -> [u8; 196608] {
-    [0u8; 196608]
+// Room for any value's line: a text of 65,535 bytes, each escaped, 16,383 numbers, or 65,536 bytes in hex.
+fn value_room() -> [u8; 196611] {
+    [0u8; 196611]
 }
 
 // Ends of no entries.

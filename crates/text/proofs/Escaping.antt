@@ -5,6 +5,7 @@ use mathlib.Core.List.{List, [], _∷_}
 use mathlib.Core.Path.{_≡_, refl, ap}
 use native.Mathlib.Omega.{arith}
 use lib.ListN.{length, getD, length-append}
+use borrow.Author.Tests.{le-ltb, ne-eqb}
 use Rattle.text.specs.Escapes.{is-escaped, escape, shown, escaped}
 
 -- none of the bytes is escaped
@@ -16,6 +17,13 @@ unfolding escaped shown
 as-they-are high [] plain = refl
 as-they-are high (byte ∷ more) plain =
     rw (plain 0 (omega arith)) (ap (λ (l : List ℕ). byte ∷ l) (as-they-are high more (λ k inside. plain (suc k) (omega arith))))
+
+-- a byte from 32 to 126 that is no backslash is not escaped
+pub plain-byte : (byte : ℕ) → 32 ≤ byte → byte ≤ 126 → (byte ≡ 92 → ⊥) → is-escaped false byte ≡ false
+unfolding is-escaped
+plain-byte byte low high other =
+    let not-last : byte ≡ 127 → ⊥ = λ is. omega arith in
+    rw (le-ltb byte 32 low, ne-eqb byte 127 not-last, ne-eqb byte 92 other)
 
 -- a byte takes at most three characters
 shown-short : (high : Bool) (byte : ℕ) → length (shown high byte) ≤ 3

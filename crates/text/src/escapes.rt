@@ -1,6 +1,6 @@
 // Bytes that are escaped: which ones, and how one is put into a buffer.
 ghost use mathlib.Core.Path.{_≡_};
-ghost use mathlib.Core.Bool.{false};
+ghost use mathlib.Core.Bool.{true, false};
 ghost use Prim.Native.Nat.{ℕ, _+_, _≤_, _<_};
 ghost use lib.ListN.{length, getD};
 ghost use lib.Seq.{sets};
@@ -61,6 +61,47 @@ pub(crate) fn put_escape(out: &mut [u8], at: usize, byte: u8) -> usize
     at + 3
 }
 
+// 1 for a backslash, else 0.
+fn backslash(byte: u8) -> u8
+    ensures { λ r. ⌜ (r ≡ 0 → byte ≡ 92 → ⊥) ⌝ }
+{
+    if byte == b'\\' {
+        return 1;
+    }
+    0
+}
+
+// Where it is true, no byte is escaped: each is from 32 to 126 and no backslash. The common text is such a one, and this sees it fast.
+fn is_plain_ascii(bytes: &[u8]) -> bool
+    ensures { λ r. ⌜ (r ≡ true → (k : ℕ) → k < length (now (bytes .entry)) → is-escaped false (getD (now (bytes .entry)) k 0) ≡ false) ⌝ }
+{
+    let mut lowest: u8 = 255;
+    let mut highest: u8 = 0;
+    let mut slash: u8 = 0;
+    let mut i = 0;
+    while i < bytes.len() {
+        let byte = bytes[i];
+        let here = backslash(byte);
+        if byte < lowest {
+            lowest = byte;
+        }
+        if highest < byte {
+            highest = byte;
+        }
+        if slash < here {
+            slash = here;
+        }
+        i += 1;
+    }
+    if lowest < 32 {
+        return false;
+    }
+    if 126 < highest {
+        return false;
+    }
+    slash == 0
+}
+
 // 1 for a byte of UTF-8 that is escaped, else 0.
 fn mark(byte: u8) -> u8
     ensures { λ r. ⌜ (r ≡ 0 → is-escaped false byte ≡ false) ⌝ }
@@ -77,8 +118,8 @@ fn mark(byte: u8) -> u8
     0
 }
 
-// Where it is 0, no byte of UTF-8 is escaped. The common text has none, and this sees it fast.
-pub(crate) fn highest_mark(bytes: &[u8]) -> u8
+// Where it is 0, no byte of UTF-8 is escaped.
+fn highest_mark(bytes: &[u8]) -> u8
     ensures { λ r. ⌜ (r ≡ 0 → (k : ℕ) → k < length (now (bytes .entry)) → is-escaped false (getD (now (bytes .entry)) k 0) ≡ false) ⌝ }
 {
     let mut highest: u8 = 0;
@@ -91,4 +132,14 @@ pub(crate) fn highest_mark(bytes: &[u8]) -> u8
         i += 1;
     }
     highest
+}
+
+// Where it is true, no byte of UTF-8 is escaped.
+pub(crate) fn is_plain(bytes: &[u8]) -> bool
+    ensures { λ r. ⌜ (r ≡ true → (k : ℕ) → k < length (now (bytes .entry)) → is-escaped false (getD (now (bytes .entry)) k 0) ≡ false) ⌝ }
+{
+    if is_plain_ascii(bytes) {
+        return true;
+    }
+    highest_mark(bytes) == 0
 }

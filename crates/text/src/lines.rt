@@ -10,7 +10,7 @@ use crate::Cut;
 use crate::Form;
 use crate::LineResult;
 use crate::Room;
-use crate::escapes::highest_mark;
+use crate::escapes::is_plain;
 use crate::hex::put_hex;
 use crate::pieces::measure_pieces;
 use crate::pieces::put_pieces;
@@ -82,7 +82,7 @@ fn plainest(form: Form, bytes: &[u8]) -> Form
 {
     match form {
         Form::Escaped => {
-            if highest_mark(bytes) == 0 {
+            if is_plain(bytes) {
                 return Form::Plain;
             }
             form

@@ -8,18 +8,18 @@ use Rattle.text.proofs.lines.plainest.Statement.{statement}
 use Rattle.text.proofs.lines.plainest.Tie as tie
 use Rattle.text.proofs.lines.plainest.Reads as reads
 use Rattle.text.proofs.lines.plainest.Lts as lts
-use Rattle.text.proofs.escapes.highest_mark.Reads as highest-mark-reads
+use Rattle.text.proofs.escapes.is_plain.Reads as is-plain-reads
 
 enum-told : tie.Need-enum-told
 enum-told c = search needs
 
-highest-mark-requires : tie.Need-highest-mark-requires
-highest-mark-requires c κs = search needs
+is-plain-requires : tie.Need-is-plain-requires
+is-plain-requires c κs = search needs
 
 returns : tie.Need-returns
 unfolding formed
 returns c =
-    λ numbers. rw (c .before .before .enum-told .given .1) (sym (as-they-are false _ (c .before .highest-mark .ensures (c .if1 .taken))))
+    λ numbers. rw (c .before .before .enum-told .given .1) (sym (as-they-are false _ (c .before .is-plain .ensures (c .if1 .taken))))
 
 enum-told-2 : tie.Need-enum-told-2
 enum-told-2 c = search needs
@@ -59,7 +59,7 @@ plainest-spec =
     tie.close
     (tie.spec
     enum-told
-    highest-mark-requires
+    is-plain-requires
     returns
     enum-told-2
     enum-told-3
