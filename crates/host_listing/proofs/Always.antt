@@ -1,18 +1,18 @@
--- The lines of every run of the library have room in its own buffers, so a lent buffer that holds the listing is given it whole.
+-- The length of every listing of the library is a number of 64 bits, and a lent buffer that holds the listing is given it whole.
 use Prim.Native.Nat.{ℕ, _+_, _-_, _*_, _≤_, _<_}
 use mathlib.Core.Bool.{true, and-eq-true-iff}
-use mathlib.Core.List.{List}
+use mathlib.Core.List.{List, _++_}
 use mathlib.Core.Path.{_≡_, refl, sym, ap, subst, _∙_}
 use native.Mathlib.Omega.{arith}
 use lib.ListN.{length, getD, take, drop, length-append, length-take, length-replicate}
 use lib.Seq.{sets}
+use borrow.Author.Tests.{le-leb, lt-leb}
 use Rattle.pools.specs.Pool.{start-of, end-of, entry-of, never-fall, end-to-end}
 use Rattle.pools.proofs.Ends.{within}
 use Rattle.storage.specs.declared.Task.{Task}
 use Rattle.storage.specs.Table.{living-of, sound-counts, sound-slots, sound-table}
 use Rattle.storage.specs.Tasks.{blank}
 use Rattle.storage.proofs.Soundness.{Counts, sound-at, sound-living, sound-counted, table-cleared}
-use Rattle.text.specs.Lines.{lined}
 use Rattle.machine.specs.declared.Machine.{Machine}
 use Rattle.machine.specs.World.{World, world}
 use Rattle.machine.specs.declared.CreateResult.{CreateResult}
@@ -30,17 +30,14 @@ use Rattle.laws.proofs.Refused.{creation-not-created}
 use Rattle.listing.specs.declared.Head.{Head}
 use Rattle.listing.specs.declared.Head.the-variants as head
 use Rattle.listing.specs.declared.Counted.the-variants.{Values, Tasks}
-use Rattle.listing.specs.Listing.{ValueRead, values-read, height-of, line-of-count, lines-of-tasks, listing}
+use Rattle.listing.specs.Listing.{ValueRead, height-of, line-of-head, line-of-count, lines-of-values, lines-of-tasks, listing}
 use Rattle.listing.proofs.LineByLine.{values-length}
 use Rattle.listing.proofs.Short.{numbers-told, head-short, count-short, Small, task-short, tasks-short, living-most}
-use Rattle.host.specs.Lines.{task-lines}
-use Rattle.host.specs.Hosting.{to-save, performed, RunSummaryIn, with-lines, with-saved-image, with-run, with-creation, perform, without-table, own}
-use Rattle.host.specs.Listings.{Listing, listing-of, with-lengths, list, list-run}
-use Rattle.host.specs.Answering.{new-stack, new-ends, new-pool, new-lines, new-scratch, with-listing, with-owned as list-after, rafenuma-run}
-use Rattle.host_listing.proofs.Tasks.{text-of}
-use Rattle.host_listing.proofs.Whole.{Short, text, text-length, Fits, whole-listing, no-listing, tasks-listed}
+use Rattle.host.specs.Hosting.{to-save, performed, RunSummaryIn, with-listing, with-saved-image, with-run, with-creation, perform, without-table, own}
+use Rattle.host.specs.Listings.{head-of, values-of, Listing, listing-of, with-lengths, told-length, list-whole, list-run}
+use Rattle.host.specs.Answering.{new-stack, new-ends, new-pool, with-owned, rafenuma-run}
 use Rattle.host_listing.proofs.Refusals.{stays-stopped}
-use Rattle.host_listing.proofs.Values.{taken-bytes, values-short, lines-short}
+use Rattle.host_listing.proofs.Values.{Short, taken-bytes, values-short, lines-short}
 
 -- ---- what a run leaves
 
@@ -76,125 +73,113 @@ height-below (head.Paused finished) height = omega arith
 height-below (head.Refused refusal) height = omega arith
 height-below (head.Saved length) height = omega arith
 
--- what a run leaves, beside the machine that it reports
-record Left (p : RunSummaryIn) (lines : List ℕ) : Type 0 where
-  machine : Machine
-  bounded : Bounded (p .table) (p .ends) machine
-  entries : p .answer .entries ≡ machine .entries
-  height : p .answer .height ≤ machine .height
-  told : lined (p .answer .lines) (p .lines) ≡ task-lines (p .table) lines
+-- ---- the calls of a run
 
--- the save and the lines of the tasks leave what the run left
-after-run : (creation : CreateResult) (lines : List ℕ) (r : Reported) → Bounded (r .table) (r .ends) (r .report .machine) → Left (with-run creation lines r) lines
-unfolding with-run with-saved-image with-lines performed
-after-run creation lines r bounded = record {
-  machine = r .report .machine;
-  bounded =
-      subst (λ (s : SavedTo). Bounded (s .table) (s .ends) (r .report .machine))
-      (sym (beside-save (world (to-save (r .report)) (r .table) (r .stack) (r .memory) (r .pool) (r .ends) (r .save)))) bounded;
-  entries = refl;
-  height = height-below _ (r .report .machine .height);
-  told = refl;
-}
-
-module _ (fuel : ℕ) (stack memory pool ends save image program lines : List ℕ) (stack-long : length stack ≡ 1000) (ends-long : length ends ≡ 1024) where
+module _ (fuel : ℕ) (stack memory pool ends save image program : List ℕ) where
   -- what the creation answers
-  abbrev made : Made
+  abbrev pub made : Made
   made = create blank-table pool ends image program
 
   -- what the run reports
-  abbrev reported : CreateResult → Reported
+  abbrev pub reported : CreateResult → Reported
   reported creation = start fuel (world (machine-of creation) (made .table) stack memory (made .pool) (made .ends) save)
 
-  -- a run leaves such ones, after a refused creation too
-  started : (creation : CreateResult) → made .answer ≡ creation → Bounded (reported creation .table) (reported creation .ends) (reported creation .report .machine)
-  unfolding machine-of
-  started (Created machine) is =
-      sound-bounded (world-after (reported (Created machine))) (start-sound fuel _ (create-sound blank-table pool ends image program machine ends-long is stack memory save stack-long))
-  started (NotCreated refusal) is =
-      subst (λ (r : Reported). Bounded (r .table) (r .ends) (r .report .machine)) (sym (stays-stopped fuel (made .table) stack memory (made .pool) (made .ends) save))
-      (subst (λ (t : List Task). Bounded t (made .ends) stopped) (sym (ap (λ (m : Made). m .table) (creation-not-created blank-table pool ends image program refusal is))) (stopped-bounded (made .ends)))
+  -- what the save answers, and what it leaves
+  abbrev pub kept : SavedTo
+  kept = host-save (world (to-save (reported (made .answer) .report)) (reported (made .answer) .table) (reported (made .answer) .stack) (reported (made .answer) .memory) (reported (made .answer) .pool) (reported (made .answer) .ends) (reported (made .answer) .save))
 
-  -- and so does all that is performed
-  leaves : Left (perform fuel blank-table stack memory pool ends save image program lines) lines
-  unfolding perform with-creation
-  leaves = after-run (made .answer) lines (reported (made .answer)) (started (made .answer) refl)
+  -- how the run ended, its values and its listing
+  abbrev pub told : Head
+  told = head-of (made .answer) (reported (made .answer) .report)
 
--- ---- its lines
+  abbrev pub values : List ValueRead
+  values = values-of (made .answer) (reported (made .answer) .report) (kept .stack) (kept .memory) (kept .pool) (kept .ends)
 
--- what the types of the code alone say of it: a byte of memory and a state are `u8`, and the numbers in the first line are `u64`, `u32` or `usize`
-pub record Typed (p : RunSummaryIn) : Type 0 where
-  pub bytes : (i : ℕ) → getD (p .memory) i 0 < 256
-  pub states : (slot : ℕ) → getD (p .table) slot blank .state .state < 256
-  pub numbers : (i : ℕ) → getD (numbers-told (p .answer .head)) i 0 < 18446744073709551616
+  abbrev pub whole : List ℕ
+  whole = listing told values (kept .table)
 
--- the values that are listed
-abbrev pub values-left : RunSummaryIn → List ValueRead
-values-left p = values-read (take (p .answer .memory) (drop 0 (p .memory))) (p .pool) (p .ends) (p .answer .entries) (take (p .answer .height) (p .stack))
+  -- what the types of the code alone say: a byte of memory and a state are `u8`, and the numbers in the first line are `u64`, `u32` or `usize`
+  pub record Typed : Type 0 where
+    pub bytes : (i : ℕ) → getD (kept .memory) i 0 < 256
+    pub states : (slot : ℕ) → getD (kept .table) slot blank .state .state < 256
+    pub numbers : (i : ℕ) → getD (numbers-told told) i 0 < 18446744073709551616
 
--- the listing (docs/REFERENCE.md, 'The listing')
-abbrev pub whole : RunSummaryIn → List ℕ
-whole p = listing (p .answer .head) (values-left p) (p .table)
+  module _ (stack-long : length stack ≡ 1000) (ends-long : length ends ≡ 1024) where
+    -- a run leaves such ones, after a refused creation too
+    started : (creation : CreateResult) → made .answer ≡ creation → Bounded (reported creation .table) (reported creation .ends) (reported creation .report .machine)
+    unfolding machine-of
+    started (Created machine) is =
+        sound-bounded (world-after (reported (Created machine))) (start-sound fuel _ (create-sound blank-table pool ends image program machine ends-long is stack memory save stack-long))
+    started (NotCreated refusal) is =
+        subst (λ (r : Reported). Bounded (r .table) (r .ends) (r .report .machine)) (sym (stays-stopped fuel (made .table) stack memory (made .pool) (made .ends) save))
+        (subst (λ (t : List Task). Bounded t (made .ends) stopped) (sym (ap (λ (m : Made). m .table) (creation-not-created blank-table pool ends image program refusal is))) (stopped-bounded (made .ends)))
 
-module _ (p : RunSummaryIn) (lines : List ℕ) (left : Left p lines) (typed : Typed p) where
-  -- the S_LEN count
-  abbrev count : ℕ
-  count = left .machine .count
+    -- after a save all is as the run left it
+    after-save : Bounded (kept .table) (kept .ends) (reported (made .answer) .report .machine)
+    after-save =
+        let r : Reported = reported (made .answer) in
+        subst (λ (s : SavedTo). Bounded (s .table) (s .ends) (r .report .machine))
+        (sym (beside-save (world (to-save (r .report)) (r .table) (r .stack) (r .memory) (r .pool) (r .ends) (r .save)))) (started (made .answer) refl)
 
-  -- the table has 256 slots, and each is sound
-  table-parts : Counts (length (p .table)) (left .machine .«next_id» .0) count × (sound-slots (p .table) 0 count ≡ true)
-  unfolding sound-table
-  table-parts =
-      let both = and-eq-true-iff (sound-counts (length (p .table)) (left .machine .«next_id» .0) count) (sound-slots (p .table) 0 count) .0 (left .bounded .tasks) in
-      (sound-counted _ _ _ (both .0), both .1)
+    module _ (typed : Typed) where
+      abbrev machine : Machine
+      machine = reported (made .answer) .report .machine
 
-  -- a living task keeps to its numbers
-  small-task : (slot : ℕ) → slot < length (p .table) → getD (p .table) slot blank .living ≡ true → Small (getD (p .table) slot blank)
-  small-task slot inside living =
-      let rules = sound-living (getD (p .table) slot blank) (0 + slot) count living (sound-at (p .table) 0 slot count inside (table-parts .1)) in
-      record { id = omega (arith, rules .held, table-parts .0 .count-most); state = typed .states slot; title = rules .title }
+      -- the table has 256 slots, and each is sound
+      table-parts : Counts (length (kept .table)) (machine .«next_id» .0) (machine .count) × (sound-slots (kept .table) 0 (machine .count) ≡ true)
+      unfolding sound-table
+      table-parts =
+          let both = and-eq-true-iff (sound-counts (length (kept .table)) (machine .«next_id» .0) (machine .count)) (sound-slots (kept .table) 0 (machine .count)) .0 (after-save .tasks) in
+          (sound-counted _ _ _ (both .0), both .1)
 
-  -- the lines of the tasks have room in 36,864 bytes
-  tasks-fit : length (text-of (p .table)) ≤ 36864
-  tasks-fit =
-      let slots : length (p .table) ≡ 256 = table-parts .0 .slots-are in
-      let counted : length (line-of-count Tasks (living-of (p .table))) ≤ 28 = count-short Tasks (living-of (p .table)) (omega (arith, living-most (p .table))) in
-      let told : length (lines-of-tasks (p .table)) ≤ 142 * length (p .table) = tasks-short (p .table) (λ slot inside. task-short (getD (p .table) slot blank) (small-task slot inside)) in
-      omega (arith, length-append (line-of-count Tasks (living-of (p .table))) (lines-of-tasks (p .table)))
+      -- a living task keeps to its numbers
+      small-task : (slot : ℕ) → slot < length (kept .table) → getD (kept .table) slot blank .living ≡ true → Small (getD (kept .table) slot blank)
+      small-task slot inside living =
+          let rules = sound-living (getD (kept .table) slot blank) (0 + slot) (machine .count) living (sound-at (kept .table) 0 slot (machine .count) inside (table-parts .1)) in
+          record { id = omega (arith, rules .held, table-parts .0 .count-most); state = typed .states slot; title = rules .title }
 
-  -- an entry of the pool has at most 65,536 bytes
-  entry-short : (i : ℕ) → i < p .answer .entries → length (entry-of (p .pool) (p .ends) i) ≤ 65536
-  unfolding entry-of
-  entry-short i less =
-      let inside = within (p .ends) (left .machine .pool) (left .machine .entries) i (left .bounded .joined) (omega (arith, left .entries)) in
-      omega (arith, inside .in-bytes, left .bounded .small, length-take (end-of (p .ends) i - start-of (p .ends) i) (drop (start-of (p .ends) i) (p .pool)))
+      -- each task's line is short
+      pub tasks-fit : length (lines-of-tasks (kept .table)) ≤ 405 * 256
+      tasks-fit =
+          let slots : length (kept .table) ≡ 256 = table-parts .0 .slots-are in
+          omega (arith, tasks-short (kept .table) (λ slot inside. task-short (getD (kept .table) slot blank) (small-task slot inside)))
 
-  -- each value's line is short
-  short : Short 196608 (values-left p)
-  short =
-      values-short (take (p .answer .memory) (drop 0 (p .memory))) (p .pool) (p .ends) (p .answer .entries) (taken-bytes (p .answer .memory) (p .memory) (typed .bytes)) entry-short
-      (take (p .answer .height) (p .stack))
+      -- an entry of the pool has at most 65,536 bytes
+      entry-short : (i : ℕ) → i < machine .entries → length (entry-of (kept .pool) (kept .ends) i) ≤ 65536
+      unfolding entry-of
+      entry-short i less =
+          let inside = within (kept .ends) (machine .pool) (machine .entries) i (after-save .joined) less in
+          omega (arith, inside .in-bytes, after-save .small, length-take (end-of (kept .ends) i - start-of (kept .ends) i) (drop (start-of (kept .ends) i) (kept .pool)))
 
-  -- and there are at most 1,000
-  few-values : length (values-left p) ≤ 1000
-  few-values =
-      let words = values-length (take (p .answer .memory) (drop 0 (p .memory))) (p .pool) (p .ends) (p .answer .entries) (take (p .answer .height) (p .stack)) in
-      omega (arith, words, left .height, left .bounded .high, length-take (p .answer .height) (p .stack))
+      -- each value's line is short
+      pub short : Short 196611 values
+      short =
+          values-short (take (machine .memory) (drop 0 (kept .memory))) (kept .pool) (kept .ends) (machine .entries) (taken-bytes (machine .memory) (kept .memory) (typed .bytes)) entry-short
+          (take (height-of told (machine .height)) (kept .stack))
 
-  -- each line has room in 196,608 bytes
-  fits : Fits (p .answer .head) (values-left p) (text-of (p .table)) 196608
-  fits = record {
-    one = omega (arith, head-short (p .answer .head) (typed .numbers));
-    two = omega (arith, count-short Values (length (values-left p)) (omega (arith, few-values)));
-    three = short;
-    four = omega (arith, tasks-fit);
-  }
+      -- and there are at most 1,000
+      few-values : length values ≤ 1000
+      few-values =
+          let words = values-length (take (machine .memory) (drop 0 (kept .memory))) (kept .pool) (kept .ends) (machine .entries) (take (height-of told (machine .height)) (kept .stack)) in
+          omega (arith, words, height-below told (machine .height), after-save .high, length-take (height-of told (machine .height)) (kept .stack))
 
-  -- and a number of 64 bits counts them all
-  counts : length (text (p .answer .head) (values-left p) (text-of (p .table))) ≤ 18446744073709551615
-  counts =
-      let f = fits in
-      omega (arith, text-length (p .answer .head) (values-left p) (text-of (p .table)), f .one, f .two, lines-short (values-left p) short, few-values, tasks-fit)
+      -- a number of 64 bits counts the whole
+      pub counts : length whole ≤ 18446744073709551615
+      unfolding listing
+      counts =
+          let first : length (line-of-head told) ≤ 53 = head-short told (typed .numbers) in
+          let second : length (line-of-count Values (length values)) ≤ 28 = count-short Values (length values) (omega (arith, few-values)) in
+          let fourth : length (line-of-count Tasks (living-of (kept .table))) ≤ 28 = count-short Tasks (living-of (kept .table)) (omega (arith, living-most (kept .table), table-parts .0 .slots-are)) in
+          omega (
+            arith,
+            lines-short values short,
+            few-values,
+            tasks-fit,
+            length-append (line-of-head told) (line-of-count Values (length values) ++ (lines-of-values values ++ (line-of-count Tasks (living-of (kept .table)) ++ lines-of-tasks (kept .table)))),
+            length-append (line-of-count Values (length values)) (lines-of-values values ++ (line-of-count Tasks (living-of (kept .table)) ++ lines-of-tasks (kept .table))),
+            length-append (lines-of-values values) (line-of-count Tasks (living-of (kept .table)) ++ lines-of-tasks (kept .table)),
+            length-append (line-of-count Tasks (living-of (kept .table))) (lines-of-tasks (kept .table)),
+          )
 
 -- ---- the library's run
 
@@ -207,41 +192,42 @@ pool-ends : length new-ends ≡ 1024
 unfolding new-ends
 pool-ends = length-replicate {A = ℕ} 1024 0
 
-line-bytes : length new-lines ≡ 36864
-unfolding new-lines
-line-bytes = length-replicate {A = ℕ} 36864 0
+-- a text in a buffer that holds it, and in one that does not
+held : (out text : List ℕ) → length text ≤ length out → list-whole out text ≡ listing-of (with-lengths (length text) (length text)) (sets out 0 text)
+unfolding list-whole
+held out text fits = rw (le-leb (length text) (length out) fits)
 
-scratch-bytes : length new-scratch ≡ 196608
-unfolding new-scratch
-scratch-bytes = length-replicate {A = ℕ} 196608 0
+not-held : (out text : List ℕ) → length text ≤ 18446744073709551615 → length out < length text → list-whole out text ≡ listing-of (with-lengths 0 (length text)) out
+unfolding list-whole told-length
+not-held out text countable over = rw (lt-leb (length text) (length out) over, le-leb (length text) 18446744073709551615 countable)
 
 module _ (fuel : ℕ) (memory image program new-image lent : List ℕ) where
   -- what the library performs, over its own table and buffers
   abbrev pub run : RunSummaryIn
-  run = perform fuel blank-table new-stack memory new-pool new-ends new-image image program new-lines
+  run = perform fuel blank-table new-stack memory new-pool new-ends new-image image program lent
 
-  -- the listing that it makes in the lent buffer
+  -- its listing
+  abbrev pub text : List ℕ
+  text = whole fuel new-stack memory new-pool new-ends new-image image program
+
+  -- what came of it in the lent buffer
   abbrev pub given : Listing
-  given = list-run lent new-scratch (run .stack) (run .memory) (run .pool) (run .ends) (run .lines) (run .answer)
+  given = listing-of (run .answer .listing) (run .listing)
 
-  -- the call answers these two
-  pub is-given : (answer : List ℕ) → rafenuma-run fuel memory image program new-image lent answer ≡ with-listing answer (without-table run) given
-  unfolding rafenuma-run list-after own
+  -- the call answers these
+  pub is-given : (answer : List ℕ) → rafenuma-run fuel memory image program new-image lent answer ≡ with-owned answer (without-table run)
+  unfolding rafenuma-run own
   is-given answer = refl
 
+  is-whole : given ≡ list-whole lent text
+  unfolding perform with-creation with-run with-saved-image with-listing list-run performed
+  is-whole = refl
+
   -- every run's listing is that of docs/REFERENCE.md, 'The listing', whole from the lent buffer's start if the buffer holds it; else the buffer stays, and the length is told
-  pub listed : Typed run → length lent ≤ 18446744073709551615
-      → (length (whole run) ≤ length lent → given ≡ listing-of (with-lengths (length (whole run)) (length (whole run))) (sets lent 0 (whole run)))
-      × (length lent < length (whole run) → given ≡ listing-of (with-lengths 0 (length (whole run))) lent)
-  unfolding listing
-  listed typed most-bytes =
-      let left : Left run new-lines = leaves fuel new-stack memory new-pool new-ends new-image image program new-lines stack-words pool-ends in
-      let tasks : List ℕ = text-of (run .table) in
-      let room : length tasks ≤ length new-lines = omega (arith, line-bytes, tasks-fit run new-lines left typed) in
-      let lines : given ≡ list lent new-scratch (run .answer .head) (values-left run) tasks =
-      tasks-listed lent new-scratch (run .stack) (run .memory) (run .pool) (run .ends) (run .lines) new-lines (run .answer) (run .table) (left .told) room in
-      let short : Fits (run .answer .head) (values-left run) tasks (length new-scratch) = subst (Fits (run .answer .head) (values-left run) tasks) (sym scratch-bytes) (fits run new-lines left typed) in
-      let countable : length (text (run .answer .head) (values-left run) tasks) ≤ 18446744073709551615 = counts run new-lines left typed in (
-        λ held. lines ∙ whole-listing (run .answer .head) (values-left run) tasks lent new-scratch short countable held most-bytes,
-        λ over. lines ∙ no-listing (run .answer .head) (values-left run) tasks lent new-scratch short countable over,
-      )
+  pub listed : Typed fuel new-stack memory new-pool new-ends new-image image program
+      → (length text ≤ length lent → given ≡ listing-of (with-lengths (length text) (length text)) (sets lent 0 text))
+      × (length lent < length text → given ≡ listing-of (with-lengths 0 (length text)) lent)
+  listed typed = (
+    λ fits. is-whole ∙ held lent text fits,
+    λ over. is-whole ∙ not-held lent text (counts fuel new-stack memory new-pool new-ends new-image image program stack-words pool-ends typed) over,
+  )

@@ -19,8 +19,8 @@ use Rattle.machine.specs.Calls.{may-start, not-allowed, Reported, reports, is-s
 use Rattle.machine.specs.Creation.{Made, stopped, machine-of}
 use Rattle.machine.specs.Reads.{saved-to, not-saved, host-save}
 use Rattle.laws.proofs.Refused.{start-in-phase}
-use Rattle.host.specs.Lines.{task-lines}
-use Rattle.host.specs.Hosting.{unsavable, machine-to-save, with-lines, with-saved-image, with-run, with-creation}
+use Rattle.host.specs.Listings.{list-run}
+use Rattle.host.specs.Hosting.{unsavable, machine-to-save, with-listing, with-saved-image, with-run, with-creation}
 
 -- ---- a machine that does not start, and one that no save takes
 
@@ -50,23 +50,23 @@ not-taken machine table stack memory pool ends save = rw (unsound machine table 
 -- ---- a refused run
 
 -- what a refused run leaves is what is left: the save buffer is as the run left it
-pub refused-run : (creation : CreateResult) (lines : List ℕ) (r : Reported) {refusal : Refusal} → r .report .outcome ≡ Refused refusal
-    → with-run creation lines r
-    ≡ with-saved-image creation (r .report) lines (saved-to (not-saved (unsavable (r .report .machine))) (r .table) (r .stack) (r .memory) (r .pool) (r .ends) (r .save))
+pub refused-run : (creation : CreateResult) (listing : List ℕ) (r : Reported) {refusal : Refusal} → r .report .outcome ≡ Refused refusal
+    → with-run creation listing r
+    ≡ with-saved-image creation (r .report) listing (saved-to (not-saved (unsavable (r .report .machine))) (r .table) (r .stack) (r .memory) (r .pool) (r .ends) (r .save))
 unfolding with-run machine-to-save
-refused-run creation lines r is =
-    ap (λ (o : Outcome). with-saved-image creation (r .report) lines (host-save (world (machine-to-save o (r .report .machine)) (r .table) (r .stack) (r .memory) (r .pool) (r .ends) (r .save)))) is
-    ∙ ap (with-saved-image creation (r .report) lines) (not-taken (r .report .machine) (r .table) (r .stack) (r .memory) (r .pool) (r .ends) (r .save))
+refused-run creation listing r is =
+    ap (λ (o : Outcome). with-saved-image creation (r .report) listing (host-save (world (machine-to-save o (r .report .machine)) (r .table) (r .stack) (r .memory) (r .pool) (r .ends) (r .save)))) is
+    ∙ ap (with-saved-image creation (r .report) listing) (not-taken (r .report .machine) (r .table) (r .stack) (r .memory) (r .pool) (r .ends) (r .save))
 
 -- ---- a refused creation
 
 -- a refused creation leaves memory, the save buffer and the stack; the run counts as refused, and nothing is saved
-pub refused-creation : (fuel : ℕ) (stack memory save lines : List ℕ) (m : Made) {refusal : Refusal} → m .answer ≡ NotCreated refusal
-    → with-creation fuel stack memory save lines m
-    ≡ with-lines (NotCreated refusal) (not-allowed stopped)
-    (saved-to (not-saved (unsavable stopped)) (m .table) stack memory (m .pool) (m .ends) save) (task-lines (m .table) lines)
+pub refused-creation : (fuel : ℕ) (stack memory save listing : List ℕ) (m : Made) {refusal : Refusal} → m .answer ≡ NotCreated refusal
+    → with-creation fuel stack memory save listing m
+    ≡ with-listing (NotCreated refusal) (not-allowed stopped) (not-saved (unsavable stopped)) save
+    (list-run (NotCreated refusal) (not-allowed stopped) (m .table) stack memory (m .pool) (m .ends) listing)
 unfolding with-creation with-saved-image machine-of
-refused-creation fuel stack memory save lines m {refusal} is =
-    ap (λ (a : CreateResult). with-run a lines (start fuel (world (machine-of a) (m .table) stack memory (m .pool) (m .ends) save))) is
-    ∙ ap (with-run (NotCreated refusal) lines) (stays-stopped fuel (m .table) stack memory (m .pool) (m .ends) save)
-    ∙ refused-run (NotCreated refusal) lines (reports (not-allowed stopped) (world stopped (m .table) stack memory (m .pool) (m .ends) save)) refl
+refused-creation fuel stack memory save listing m {refusal} is =
+    ap (λ (a : CreateResult). with-run a listing (start fuel (world (machine-of a) (m .table) stack memory (m .pool) (m .ends) save))) is
+    ∙ ap (with-run (NotCreated refusal) listing) (stays-stopped fuel (m .table) stack memory (m .pool) (m .ends) save)
+    ∙ refused-run (NotCreated refusal) listing (reports (not-allowed stopped) (world stopped (m .table) stack memory (m .pool) (m .ends) save)) refl

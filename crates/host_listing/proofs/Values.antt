@@ -1,4 +1,4 @@
--- The line of a value that is read over memory of bytes, and over a pool whose entries have at most 65,536 bytes, fits into 196,608 bytes.
+-- The line of a value that is read over memory of bytes, and over a pool whose entries have at most 65,536 bytes, fits into 196,611 bytes.
 use Prim.Native.Nat.{ℕ, zero, suc, _*_, min, _≤_, _<_}
 use mathlib.Core.List.{List, [], _∷_}
 use native.Mathlib.Omega.{arith}
@@ -23,7 +23,11 @@ use Rattle.memory.specs.declared.unbox.Return.the-variants.{U32, Boolean, Strin
 use Rattle.listing.specs.Listing.{ValueRead, values-read, line-of-value, lines-of-values}
 use Rattle.listing.proofs.Longest.{number-fits, longest-calldata, longest}
 use Rattle.laws.proofs.Either.{either}
-use Rattle.host_listing.proofs.Whole.{Short}
+
+-- each line has room in a buffer of this size
+unfoldable pub Short : ℕ → List ValueRead → Type 0
+Short size [] = 0 ≤ size
+Short size (read ∷ more) = (length (line-of-value (read .answer) (read .part)) ≤ size) × Short size more
 
 -- ---- bytes
 
@@ -61,13 +65,13 @@ unfolding to-u32
 number-short value = omega arith
 
 -- a line with no part beside it
-no-part : (kind : Return) → number-fits kind → length (line-of-value kind []) ≤ 196608
+no-part : (kind : Return) → number-fits kind → length (line-of-value kind []) ≤ 196611
 no-part kind fits = longest kind [] fits (omega arith) none-bytes
 
 module _ (memory pool ends : List ℕ) (entries : ℕ) (byte : Bytes memory) (short : (i : ℕ) → i < entries → length (entry-of pool ends i) ≤ 65536) where
   -- the line of what was read fits
   abbrev Roomy : Return → Type 0
-  Roomy kind = length (line-of-value kind (part-of memory pool ends kind)) ≤ 196608
+  Roomy kind = length (line-of-value kind (part-of memory pool ends kind)) ≤ 196611
 
   -- where nothing can be read
   refused : (refusal : Refusal) → Roomy (NoReturn refusal)
@@ -82,7 +86,7 @@ module _ (memory pool ends : List ℕ) (entries : ℕ) (byte : Bytes memory) (sh
 
   module _ (value : ℕ) where
     -- a line with a vector's bytes beside it
-    with-part : (kind : Return) → number-fits kind → length (line-of-value kind (get-slice-bytes memory (fat-pointer value))) ≤ 196608
+    with-part : (kind : Return) → number-fits kind → length (line-of-value kind (get-slice-bytes memory (fat-pointer value))) ≤ 196611
     with-part kind fits =
         longest kind (get-slice-bytes memory (fat-pointer value)) fits
         (omega (arith, pointer-short value, length-take (fat-pointer value .size) (drop (fat-pointer value .offset) memory)))
@@ -130,16 +134,16 @@ module _ (memory pool ends : List ℕ) (entries : ℕ) (byte : Bytes memory) (sh
   -- ---- all of them
 
   -- each line has room
-  pub values-short : (words : List ℕ) → Short 196608 (values-read memory pool ends entries words)
+  pub values-short : (words : List ℕ) → Short 196611 (values-read memory pool ends entries words)
   unfolding Short values-read
   values-short [] = omega arith
   values-short (word ∷ more) = (value-roomy word, values-short more)
 
 -- the lines of so many
-pub lines-short : (values : List ValueRead) → Short 196608 values → length (lines-of-values values) ≤ 196608 * length values
+pub lines-short : (values : List ValueRead) → Short 196611 values → length (lines-of-values values) ≤ 196611 * length values
 unfolding Short lines-of-values
 lines-short [] short = omega arith
 lines-short (read ∷ more) short =
-    let first : length (line-of-value (read .answer) (read .part)) ≤ 196608 = short .0 in
-    let rest : length (lines-of-values more) ≤ 196608 * length more = lines-short more (short .1) in
+    let first : length (line-of-value (read .answer) (read .part)) ≤ 196611 = short .0 in
+    let rest : length (lines-of-values more) ≤ 196611 * length more = lines-short more (short .1) in
     omega (arith, length-append (line-of-value (read .answer) (read .part)) (lines-of-values more))
