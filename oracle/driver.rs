@@ -119,6 +119,21 @@ fn hex(bytes: &[u8]) -> Vec<u8> {
     bytes.iter().flat_map(|b| [DIGITS[(b >> 4) as usize], DIGITS[(b & 15) as usize]]).collect()
 }
 
+// A text or a title as its line shows it (docs/REFERENCE.md, 'The listing'): control characters and the backslash stand as a backslash and two hex
+// digits. What is not UTF-8 is shown in ASCII alone.
+fn escaped(bytes: &[u8]) -> Vec<u8> {
+    let utf8 = std::str::from_utf8(bytes).is_ok();
+    let mut shown = Vec::with_capacity(bytes.len());
+    for &byte in bytes {
+        if byte.is_ascii_control() || byte == b'\\' || !byte.is_ascii() && !utf8 {
+            shown.extend(format!("\\{byte:02X}").bytes());
+        } else {
+            shown.push(byte);
+        }
+    }
+    shown
+}
+
 // Little-endian numbers and parts of a batch or an image, one after the other.
 struct Reader<'a>(&'a [u8]);
 
@@ -316,7 +331,7 @@ impl Case<'_> {
             match value {
                 Ok(Return::U32(n)) => out.extend(format!("u32 {n}").bytes()),
                 Ok(Return::Bool(b)) => out.extend(format!("bool {b}").bytes()),
-                Ok(Return::String(text)) => out.extend(format!("text {text}").bytes()),
+                Ok(Return::String(text)) => out.extend([b"text ", &escaped(text.as_bytes())[..]].concat()),
                 Ok(Return::CallData(bytes)) => out.extend([b"calldata ", &hex(bytes)[..]].concat()),
                 Ok(Return::VecU32(numbers)) => {
                     let numbers: Vec<String> = numbers.iter().map(u32::to_string).collect();
@@ -335,7 +350,7 @@ impl Case<'_> {
         out.extend(format!("tasks {}\n", tasks.len()).bytes());
         for task in tasks {
             out.extend(format!("task {} {} ", task.id, task.state.get_state()).bytes());
-            out.extend([&task.title[..], b"\n"].concat());
+            out.extend([&escaped(&task.title)[..], b"\n"].concat());
         }
     }
 

@@ -446,6 +446,14 @@ OPCODES = {
 
 # The lines of replay
 
+def escaped(data):
+    """A text or a title as a line shows it. Each byte below 32, the byte 127 and the backslash stand as a backslash and two hex digits; in bytes that
+    are not UTF-8 so does each from 128 up."""
+    high = 256 if is_utf8(data) else 128
+    shown = {byte: b"\\%02X" % byte if byte < 32 or byte in (92, 127) or byte >= high else bytes([byte]) for byte in set(data)}
+    return b"".join(shown[byte] for byte in data)
+
+
 def value_line(machine, value):
     tag = value[0]
     if value in (TRUE, FALSE):
@@ -457,7 +465,7 @@ def value_line(machine, value):
         return b"u32 %d" % value[1]
     data = machine.bytes_of(value)
     if tag == TEXT:
-        return b"text " + data if is_utf8(data) else b"bad 15"
+        return b"text " + escaped(data) if is_utf8(data) else b"bad 15"
     if len(data) % 4:
         return b"bad 17"
     return b"vec " + b" ".join(b"%d" % n for n, in struct.iter_unpack("<I", data))
@@ -496,7 +504,7 @@ def call_lines(machine, verb, fuel):
         yield value_line(machine, value)
     yield b"tasks %d" % len(machine.tasks)
     for id, task in sorted(machine.tasks.items()):
-        yield b"task %d %d " % (id, task.state) + task.title
+        yield b"task %d %d " % (id, task.state) + escaped(task.title)
     yield from machine_lines(machine)
 
 

@@ -1,15 +1,20 @@
 """Every outcome of an opcode (docs/REFERENCE.md, 'Instruction set'), and a machine that notes which ones a case reaches.
 
-A later run begins by a start or by a rerun, and the run before it may have left a loop open or ended inside a task (BEGINNINGS).
+A later run begins by a start or by a rerun, and the run before it may have left a loop open or ended inside a task (BEGINNINGS). A listing
+shows texts and titles that may hold bytes which it escapes, and may be no UTF-8 (LISTED).
 
 EQ and NEQ of some values are answered otherwise by the Rust: those of a scalar with a vector of its tag, which among a program's values is a number
 with numbers, and those of TRUE with FALSE. `otherwise` tells them, from the two values alone, and AsRust has the Rust's answers to them.
 """
+import re
+
 import model
-from model import FALSE, NUMBER, TEXT, TRUE, Refused, is_vector, number
+from model import FALSE, NUMBER, TEXT, TRUE, Refused, is_utf8, is_vector, number
 
 EQ, NEQ = 0x16, 0x17
 BEGINNINGS = [f"{verb} after {end}" for verb in ("start", "rerun") for end in ("an open loop", "a task", "a task with an open loop")]
+HELD = {"a byte below 32": "[\0-\x1f]", "the byte 127": "\x7f", "a backslash": r"\\", "a longer character": "[^\0-\x7f]"}
+LISTED = [f"{what}{form} with {held}" for what in ("text", "title") for form in ("", " not UTF-8") for held in (*HELD, "none of these")]
 OTHERWISE = ["number with numbers", "numbers with number", "true with false", "false with true"]
 
 # By opcode: how it can finish, and its refusals. `3 at 1` is 3 with one value on the stack; `2 after 3` is 2 with three bytes behind the opcode.
@@ -84,6 +89,15 @@ def otherwise(left, right):
     if left[0] == right[0] and is_vector(left) != is_vector(right):
         return "numbers with number" if is_vector(left) else "number with numbers"
     return {(TRUE, FALSE): "true with false", (FALSE, TRUE): "false with true"}.get((left, right))
+
+
+def listed(machine, done):
+    """What the texts and titles of a listing hold, by the names of LISTED. Texts are listed if the run is done."""
+    found, texts = set(), [("text", machine.bytes_of(value)) for value in machine.stack if value[0] == TEXT and done]
+    for what, data in texts + [("title", task.title) for task in machine.tasks.values()]:
+        form, good = "" if is_utf8(data) else " not UTF-8", data.decode(errors="ignore")
+        found.update(f"{what}{form} with {held}" for held in [name for name, hold in HELD.items() if re.search(hold, good)] or ["none of these"])
+    return found
 
 
 class Noted(model.Machine):

@@ -86,13 +86,45 @@ def some_number(r):
     return r.choice(NUMBERS) if r.random() < 0.3 else r.randrange(6)
 
 
+# Texts that could be taken for lines of a listing, or for bytes that it escapes.
+TAKEN = (b"Ab\nu32 5", b"a\ntask 0 0 b", b"\n", b"\\", b"\\0A", b"\\5C0A", b"\r\n", bytes(4))
+SEVERAL = ("\u00e9", "\u2262\u0391", "\U00010348", "\u0080", "\u0085", "\u07ff", "\u2028", "\uffff", "\U0010ffff")
+STRAY = (0x80, 0xa0, 0xbf, 0xc0, 0xc3, 0xe2, 0xed, 0xf0, 0xf4, 0xf5, 0xff)
+
+
+def letter(r):
+    return bytes([r.choice(b"abAB 09.")])
+
+
+def hidden(r):
+    """A byte below 128 that a listing escapes."""
+    return bytes([r.choice((r.randrange(32), r.randrange(32), 0x5c, 0x7f))])
+
+
+def several(r):
+    """A character of several bytes."""
+    return r.choice(SEVERAL).encode()
+
+
+def stray(r):
+    """A byte that alone is not UTF-8."""
+    return bytes([r.choice(STRAY)])
+
+
 def some_text(r):
+    """A few letters; or with bytes among them that are escaped, with longer characters too, or with strays too, and then mostly not UTF-8."""
     kind = r.random()
-    if kind < 0.7:
-        return bytes(r.choice(b"abAB 09.") for _ in range(r.randrange(6)))
-    if kind < 0.85:
-        return r.choice(["é", "≢Α", "𐍈", "\n", "\u0000"]).encode() * r.randrange(1, 3)
-    return bytes(r.choice((0x61, 0x80, 0xc3, 0xa9, 0xe2, 0xed, 0xa0, 0xf0, 0x90, 0xf4, 0xff)) for _ in range(r.randrange(1, 5)))
+    if kind < 0.5:
+        return b"".join(letter(r) for _ in range(r.randrange(6)))
+    if kind < 0.6:
+        return r.choice(TAKEN)
+    parts = (letter, hidden) if kind < 0.7 else (letter, hidden, several) if kind < 0.85 else (letter, hidden, several, stray)
+    return b"".join(r.choice(parts)(r) for _ in range(r.randrange(1, 6)))
+
+
+def long_text(r, size):
+    """So many bytes: those of a text, again and again."""
+    return ((some_text(r) or b"a") * size)[:size]
 
 
 def some_image(r):
@@ -273,7 +305,7 @@ class Maker:
             self.add(u8(size) + bytes([0x1c, width[1]]), given=width[0])
             if r.random() < 0.8:
                 index = r.randrange(size if width[0] == "S" else size // 4)
-                self.add(u8(index) + u32(r.choice((0x41, 0x61, 0xc3, 2 ** 32 - 1, 0x100))) + b"\x1d")
+                self.add(u8(index) + u32(r.choice((0x41, 0x61, 0xc3, 2 ** 32 - 1, 0x100, 0x5c, 0x17f, 0x20a))) + b"\x1d")
         elif choice == 16 and len(self.kinds) > floor:
             self.add(b"\x13", "?")
         elif choice == 17:
@@ -379,7 +411,8 @@ def full_pool(r):
 
 def full_table(r):
     times = r.choice((254, 255, 256, 257))
-    body = r.choice((create(), text(b"t") + u8(2) + u32(0) + b"\x07", text(b"t" * 129) + u8(2) + u32(0) + b"\x07" if r.random() < 0.1 else create(b"x", 3)))
+    title = long_text(r, r.choice((1, 5, 128)))
+    body = r.choice((create(), text(title) + u8(2) + u32(0) + b"\x07", text(b"t" * 129) + u8(2) + u32(0) + b"\x07" if r.random() < 0.1 else create(b"x", 3)))
     if body == create():
         times = r.choice((250, 255, 256, 257))
     after = r.choice((b"", b"\x0b", u32(255) + b"\x0a", u32(255) + b"\x0a" + create(), b"\x0d", get(255, 0), create(b"t" * 129), call(255), u32(times) + b"\x0a"))
@@ -388,9 +421,10 @@ def full_table(r):
 
 def long_title(r):
     size = r.choice((127, 128, 129, 130))
+    title = r.choice((m_sti(size, 4), m_sti(size, 6), text(long_text(r, size)), text(long_text(r, size))))
     if r.random() < 0.5:
-        return m_sti(size, r.choice((4, 6))) + u8(1) + u32(0) + b"\x07" + get(0, 0) + b"\x0b" * r.randrange(2)
-    return create(b"a") + put(m_sti(size, 4), 0, 0) + get(0, 0)
+        return title + u8(1) + u32(0) + b"\x07" + get(0, 0) + b"\x0b" * r.randrange(2)
+    return create(b"a") + put(title, 0, 0) + get(0, 0)
 
 
 def large_save(r):

@@ -147,12 +147,12 @@ fn mixed(size: usize) -> Vec<u8> {
     code
 }
 
-// an image of so many tasks, each with a title and code
-fn image(count: u32) -> Vec<u8> {
+// an image of so many tasks, each with this title and code
+fn image(count: u32, title: &[u8], code: &[u8]) -> Vec<u8> {
     let record = |kind: u16, body: &[u8]| [&(body.len() as u32).to_le_bytes(), &kind.to_le_bytes()[..], body].concat();
     let mut image = record(1, &[count.to_le_bytes(), count.to_le_bytes()].concat());
     for id in 0..count {
-        image.extend(record(2, &[&id.to_le_bytes()[..], &[3, 1], &100u16.to_le_bytes(), &[b'a'; 100], &[0x12; 200]].concat()));
+        image.extend(record(2, &[&id.to_le_bytes()[..], &[3, 1], &(title.len() as u16).to_le_bytes(), title, code].concat()));
     }
     image
 }
@@ -202,6 +202,28 @@ fn beside(name: &str, program: Vec<u8>, times: usize) {
     println!("{name}\t{}\t{best_rust:.2}\t{best_ours:.2}", l.answer[1] * times as u64);
 }
 
+// the best time of many runs, each of which creates, runs, saves and lists
+fn listed(name: &str, size: usize, image: &[u8], program: &[u8]) {
+    let mut l = lent();
+    let best = (0..TURNS * 20).map(|_| milliseconds(|| assert!(ours(&mut l, image, program) == 0, "{name}"))).fold(f64::MAX, f64::min);
+    assert!(image.is_empty() || l.new_image[..image.len()] == *image);
+    println!("{name}\t{size}\t{best:.3}");
+}
+
+// each kind of line whose length grows, at its longest but for some bytes
+fn lines() {
+    let umlauts = ["Abschlüsse".repeat(5957).as_bytes(), b"abc"].concat();
+    let (letters, control) = ([b'a'; 128], [b'\n'; 128]);
+    listed("a text of letters listed", 65530, &[], &text(&[b'a'; 65530]));
+    listed("a text of letters with umlauts listed", umlauts.len(), &[], &text(&umlauts));
+    listed("a text of control bytes listed", 65535, &[], &[0x1b, 0xff, 0xff, 4, 0]);
+    listed("tasks with titles of 128 letters listed", 256, &image(256, &letters, &[]), &[0]);
+    listed("tasks with titles of 128 control bytes listed", 256, &image(256, &control, &[]), &[0]);
+    listed("numbers listed, each 0", 16383, &[], &[0x1b, 0xff, 0xfc, 6, 0]);
+    listed("numbers of ten digits listed", 16382, &[], &[&[0x1b, 0xff, 0xf8, 6, 1], &[0xff; 65528][..]].concat());
+    listed("calldata listed", 60000, &image(1, b"Close", &[0x12; 60000]), &[0x03, 0, 0x05, 2, 0x08]);
+}
+
 fn admitted(name: &str, program: impl Fn(usize) -> Vec<u8>, sizes: &[usize]) {
     for &size in sizes {
         let code = program(size);
@@ -220,13 +242,10 @@ fn main() {
     beside("states of tasks set and read, 200 tasks created and deleted", tasks(), 1);
     beside("tasks created, set, read and deleted, 100 fresh machines", many_tasks(), 100);
     beside("calls of a task", calls(), 1);
-    let mut l = lent();
     for count in [32, 64, 128, 256] {
-        let bytes = image(count);
-        let best = (0..TURNS * 20).map(|_| milliseconds(|| assert!(ours(&mut l, &bytes, &[0]) == 0))).fold(f64::MAX, f64::min);
-        assert!(l.new_image[..bytes.len()] == bytes[..]);
-        println!("tasks loaded, listed and saved\t{count}\t{best:.3}");
+        listed("tasks loaded, listed and saved", count as usize, &image(count, &[b'a'; 100], &[0x12; 200]), &[0]);
     }
+    lines();
     admitted("bytes without an opcode admitted", |size| vec![0; size], &[1023, 16383, 32767, 65535]);
     admitted("instructions of one byte admitted, in no order", mixed, &[1023, 16383, 32767, 65535]);
     admitted("two stacks made apart admitted, a jump every 6 bytes", apart, &[16383, 32767, 65535]);

@@ -16,7 +16,7 @@ fn main() {
         listing = vec![0; needed];
         ran = rafenuma::run(&mut memory, &tasks, &code, &mut new_image, &mut listing, 1_000_000);
     }
-    print!("{}", String::from_utf8_lossy(&listing[..ran.listing.unwrap_or(0)]));
+    print!("{}", std::str::from_utf8(&listing[..ran.listing.unwrap_or(0)]).expect("a listing is UTF-8"));
     if ran.outcome == rafenuma::Outcome::Done && ran.refusal.is_none() {
         std::fs::write(image, &new_image[..ran.new_image]).expect("the image can be written");
     }
