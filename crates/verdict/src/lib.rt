@@ -36,6 +36,6 @@ pub fn verdict_line(out: &mut [u8], program: &[u8]) -> LineResult
     let mut kinds = [0u8; 1000];
     match admission::admit(program, &mut kinds) {
         Admission::Admitted(count) => admitted_line(out, &kinds, count),
-        Admission::Refused(refusal) => head_line(out, Head::Refused(refusal)),
+        Admission::Refused(refusal) => head_line(out, true, Head::Refused(refusal)),
     }
 }

@@ -1,6 +1,6 @@
 -- `verdict::verdict_line` meets its contract.
 use mathlib.Core.Path.{_∙_, ap}
-use Rattle.text.specs.Lines.{put-line}
+use Rattle.text.specs.Lines.{put-line, tell-line}
 use Rattle.verdict.proofs.Told.{told-kinds, told-refusal}
 use borrow.Author.Needs.{needs}
 use Rattle.verdict.proofs.verdict_line.Statement.{statement}
@@ -39,6 +39,7 @@ same-length-2 : tie.Need-same-length-2
 same-length-2 c = search needs
 
 returns-2 : tie.Need-returns-2
+unfolding tell-line
 returns-2 c =
     let answered = c .before .before .before .before .before .before .before in
     c .before .before .head-line .ensures
