@@ -1,0 +1,1 @@
+// (a place to prove the theorem on equal listings)
