@@ -1,6 +1,6 @@
 -- Numbers and bytes read back from a text: each form is read back as what it was written of.
 use Prim.Native.Nat.{ℕ, zero, suc, _+_, _-_, _*_, _/_, _%_, _≤_, _<_}
-use mathlib.Core.Bool.{Bool, true, false, cond}
+use mathlib.Core.Bool.{Bool, true, false, cond, _&&_}
 use mathlib.Core.List.{List, [], _∷_, _++_, append-assoc}
 use mathlib.Core.Path.{_≡_, refl, ap, _∙_}
 use native.Mathlib.Omega.{arith}
@@ -10,6 +10,12 @@ use borrow.Author.Tests.{lt-ltb, le-ltb, ltb-true, ltb-false}
 use Rattle.text.specs.Numbers.{digit, digits, decimal, hex, spaced}
 use Rattle.text.specs.Escapes.{capital, is-escaped, shown, escaped}
 use Rattle.told.proofs.Feeds.{character, not-escaped}
+
+-- a text begins with a word
+unfoldable pub begins : List ℕ → List ℕ → Bool
+begins [] text = true
+begins (byte ∷ word) [] = false
+begins (byte ∷ word) (first ∷ more) = eqb byte first && begins word more
 
 -- ---- decimal numbers
 

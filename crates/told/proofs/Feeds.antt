@@ -52,11 +52,15 @@ pub decimal-lacks : (byte n : ℕ) → byte < 48 → lacks byte (decimal n) ≡ 
 unfolding decimal
 decimal-lacks byte n = digits-lack byte n (ltb n 10) n
 
+-- a number in front
+pub decimal-then : (n : ℕ) (rest : List ℕ) → lacks 10 (decimal n ++ rest) ≡ lacks 10 rest
+decimal-then n rest = lacks-append 10 (decimal n) rest ∙ rw (decimal-lacks 10 n (omega arith))
+
 -- numbers in decimal, a space before each
 pub spaced-lacks : (numbers : List ℕ) → lacks 10 (spaced numbers) ≡ true
 unfolding lacks spaced
 spaced-lacks [] = refl
-spaced-lacks (n ∷ more) = lacks-append 10 (decimal n) (spaced more) ∙ rw (decimal-lacks 10 n (omega arith), spaced-lacks more)
+spaced-lacks (n ∷ more) = decimal-then n (spaced more) ∙ spaced-lacks more
 
 -- bytes in hex
 pub hex-lacks : (bytes : List ℕ) → lacks 10 (hex bytes) ≡ true

@@ -1,2 +1,3 @@
 pub mod Feeds
 pub mod Back
+pub mod Same

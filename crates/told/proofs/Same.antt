@@ -1,0 +1,316 @@
+-- Equal listings tell the same: how the call ended, each value as it was read, each living task.
+use Prim.Native.Nat.{ℕ}
+use mathlib.Core.Bool.{Bool, true, false, cond, not}
+use mathlib.Core.List.{List, [], _∷_, _++_, append-assoc}
+use mathlib.Core.Path.{_≡_, refl, sym, ap, _∙_}
+use native.Mathlib.Omega.{arith}
+use lib.ListN.{length, getD, drop, length-append}
+use lib.Seq.{append-snoc}
+use Rattle.errors.specs.Refusals.{number-of, details-of}
+use Rattle.errors.specs.declared.Refusal.{Refusal}
+use Rattle.errors.specs.declared.Refusal.the-variants as refusal
+use Rattle.storage.specs.declared.Task.{Task}
+use Rattle.text.specs.Ascii.{ascii}
+use Rattle.text.specs.Numbers.{decimal, hex, spaced, words, filled-in, numbers-left, filled}
+use Rattle.text.specs.Escapes.{escaped}
+use Rattle.utf8.specs.Utf8.{valid}
+use Rattle.memory.specs.declared.unbox.Return.{Return}
+use Rattle.memory.specs.declared.unbox.Return.the-variants as kind
+use Rattle.listing.specs.declared.Head.{Head}
+use Rattle.listing.specs.declared.Head.the-variants.{Done, Paused, Refused, Saved}
+use Rattle.listing.specs.declared.Counted.{Counted}
+use Rattle.listing.specs.declared.Counted.the-variants.{Values, Tasks}
+use Rattle.told.specs.Lines.{Escaped, Ascii, formed, line, said}
+use Rattle.told.specs.Listing.{ValueRead, title-form, line-of-refusal, line-of-head, line-of-count, line-of-bool, line-of-numbers, line-of-value, line-of-task, lines-of-values, lines-of-tasks, listing}
+use Rattle.told.specs.Told.{ValueTold, TaskTold, Told, value-told, values-told, task-told, tasks-told, told}
+use Rattle.told.proofs.Feeds.{lacks, lacks-append, decimal-lacks, decimal-then, spaced-lacks, hex-lacks, escaped-lacks, parted, parted-at, parted-same}
+use Rattle.told.proofs.Back.{begins, read-numbers, decimal-back, spaced-back, read-hex, hex-back, read-escaped, escaped-back}
+
+-- ---- where a line ends
+
+-- a line has one line feed, at its end
+record Ended (line : List ℕ) : Type 0 where
+  body : List ℕ
+  is : line ≡ body ++ 10 ∷ []
+  plain : lacks 10 body ≡ true
+
+-- a word, and what stands behind it
+ended : (word behind : List ℕ) → lacks 10 word ≡ true → lacks 10 behind ≡ true → Ended (word ++ (behind ++ 10 ∷ []))
+ended word behind plain plain-too = record {
+  body = word ++ behind;
+  is = sym (append-assoc word behind (10 ∷ []));
+  plain = lacks-append 10 word behind ∙ rw (plain, plain-too);
+}
+
+-- a word and numbers
+numbers-ended : (word numbers : List ℕ) → lacks 10 word ≡ true → Ended (word ++ (spaced numbers ++ 10 ∷ []))
+numbers-ended word numbers plain = ended word (spaced numbers) plain (spaced-lacks numbers)
+
+-- how the call ended
+head-ended : (head : Head) → Ended (line-of-head head)
+unfolding lacks line-of-head line-of-refusal said line formed filled filled-in numbers-left ascii spaced
+head-ended (Done n) = numbers-ended (ascii "done") (n ∷ []) refl
+head-ended (Paused n) = numbers-ended (ascii "paused") (n ∷ []) refl
+head-ended (Refused r) = numbers-ended (ascii "refused") (number-of r ∷ details-of r) refl
+head-ended (Saved n) = numbers-ended (ascii "saved") (n ∷ []) refl
+
+-- how many follow
+count-ended : (counted : Counted) (n : ℕ) → Ended (line-of-count counted n)
+unfolding lacks line-of-count said line formed filled filled-in numbers-left ascii spaced
+count-ended Values n = numbers-ended (ascii "values") (n ∷ []) refl
+count-ended Tasks n = numbers-ended (ascii "tasks") (n ∷ []) refl
+
+vec-ended : (numbers : List ℕ) → Ended (line-of-numbers numbers)
+unfolding lacks line-of-numbers ascii spaced
+vec-ended [] = ended (ascii "vec ") [] refl refl
+vec-ended (n ∷ more) = numbers-ended (ascii "vec") (n ∷ more) refl
+
+-- a value
+value-ended : (kind : Return) (part : List ℕ) → Ended (line-of-value kind part)
+unfolding lacks line-of-value line-of-bool said line formed filled filled-in numbers-left ascii spaced
+value-ended (kind.U32 n) part = numbers-ended (ascii "u32") (n ∷ []) refl
+value-ended (kind.Boolean true) part = ended (ascii "bool true") [] refl refl
+value-ended (kind.Boolean false) part = ended (ascii "bool false") [] refl refl
+value-ended (kind.String pointer) part = ended (ascii "text ") (escaped false part) refl (escaped-lacks false part)
+value-ended (kind.CallData entry) part = ended (ascii "calldata ") (hex part) refl (hex-lacks part)
+value-ended (kind.VecU32 pointer) part = vec-ended (words part)
+value-ended kind.Null part = ended (ascii "null") [] refl refl
+value-ended (kind.NoReturn r) part = numbers-ended (ascii "bad") (number-of r ∷ []) refl
+
+-- a line and what follows it, told apart by the line's end
+line-then : {line other rest rests : List ℕ} → Ended line → Ended other → line ++ rest ≡ other ++ rests → (line ≡ other) × (rest ≡ rests)
+line-then {line} {other} {rest} {rests} first second same =
+    let parts = parted-same 10 (first .plain) (second .plain) (sym (apart rest first) ∙ same ∙ apart rests second) in
+    (first .is ∙ ap (λ (l : List ℕ). l ++ 10 ∷ []) (parts .0) ∙ sym (second .is), parts .1)
+  where
+    apart : {line : List ℕ} (rest : List ℕ) (e : Ended line) → line ++ rest ≡ e .body ++ 10 ∷ rest
+    apart rest e = ap (λ (l : List ℕ). l ++ rest) (e .is) ∙ append-snoc (e .body) 10 rest
+
+-- ---- a line read back
+
+-- what stands behind a line's first space
+behind : List ℕ → List ℕ
+behind line = parted 32 line .1
+
+-- the numbers there
+numbers-of : List ℕ → List ℕ
+numbers-of line = read-numbers [] (behind line)
+
+-- the refusal of a number and its details; 0, 18 and 19 are no refusal's number
+refusal-of : ℕ → List ℕ → Refusal
+refusal-of number details =
+    getD
+    (refusal.EmptyInstructions ∷ refusal.EmptyInstructions ∷ refusal.UnexpectedEOB ∷ refusal.StackUnderflow ∷ refusal.StackOverflow
+    ∷ refusal.InvalidType ∷ refusal.TypeMismatch ∷ refusal.MultiplicationOverflowed ∷ refusal.MaxStatesError
+    ∷ refusal.TaskNotFound (getD details 0 0) ∷ refusal.InvalidTaskField (getD details 0 0) ∷ refusal.InvalidStatus (getD details 0 0)
+    ∷ refusal.InvalidInstructionsIndex (getD details 0 0) ∷ refusal.MSliceParamOverflow ∷ refusal.MSliceOutOfBounds (getD details 0 0) (getD details 1 0)
+    ∷ refusal.BytesToStringConversionError ∷ refusal.AlignmentMismatch ∷ refusal.SliceSizeMismatch ∷ refusal.EmptyInstructions
+    ∷ refusal.EmptyInstructions ∷ refusal.TableFull ∷ refusal.TitleTooLong ∷ refusal.PoolFull ∷ refusal.MemoryTooShort ∷ refusal.SaveBufferTooShort
+    ∷ refusal.BadImage (getD details 0 0) ∷ refusal.WrongPhaseOrUnsound ∷ refusal.NotAdmitted (getD details 0 0) ∷ refusal.ProgramTooLong ∷ [])
+    number refusal.EmptyInstructions
+
+refusal-back : (r : Refusal) → refusal-of (number-of r) (details-of r) ≡ r
+unfolding refusal-of
+refusal-back refusal.EmptyInstructions = refl
+refusal-back refusal.UnexpectedEOB = refl
+refusal-back refusal.StackUnderflow = refl
+refusal-back refusal.StackOverflow = refl
+refusal-back refusal.InvalidType = refl
+refusal-back refusal.TypeMismatch = refl
+refusal-back refusal.MultiplicationOverflowed = refl
+refusal-back refusal.MaxStatesError = refl
+refusal-back (refusal.TaskNotFound id) = refl
+refusal-back (refusal.InvalidTaskField field) = refl
+refusal-back (refusal.InvalidStatus state) = refl
+refusal-back (refusal.InvalidInstructionsIndex index) = refl
+refusal-back refusal.MSliceParamOverflow = refl
+refusal-back (refusal.MSliceOutOfBounds index size) = refl
+refusal-back refusal.BytesToStringConversionError = refl
+refusal-back refusal.AlignmentMismatch = refl
+refusal-back refusal.SliceSizeMismatch = refl
+refusal-back refusal.TableFull = refl
+refusal-back refusal.TitleTooLong = refl
+refusal-back refusal.PoolFull = refl
+refusal-back refusal.MemoryTooShort = refl
+refusal-back refusal.SaveBufferTooShort = refl
+refusal-back (refusal.BadImage place) = refl
+refusal-back refusal.WrongPhaseOrUnsound = refl
+refusal-back (refusal.NotAdmitted place) = refl
+refusal-back refusal.ProgramTooLong = refl
+
+-- how the call ended, by the line and its numbers
+head-of : List ℕ → List ℕ → Head
+head-of line numbers =
+    cond (begins (ascii "done") line) (Done (getD numbers 0 0))
+    (cond (begins (ascii "paused") line) (Paused (getD numbers 0 0))
+    (cond (begins (ascii "saved") line) (Saved (getD numbers 0 0)) (Refused (refusal-of (getD numbers 0 0) (drop 1 numbers)))))
+
+head-back : (head : Head) → head-of (line-of-head head) (numbers-of (line-of-head head)) ≡ head
+unfolding head-of numbers-of behind parted begins read-numbers line-of-head line-of-refusal said line formed filled filled-in numbers-left ascii spaced
+head-back (Done n) = ap (head-of (line-of-head (Done n))) (spaced-back [] (n ∷ []))
+head-back (Paused n) = ap (head-of (line-of-head (Paused n))) (spaced-back [] (n ∷ []))
+head-back (Refused r) = ap (head-of (line-of-head (Refused r))) (spaced-back [] (number-of r ∷ details-of r)) ∙ ap Refused (refusal-back r)
+head-back (Saved n) = ap (head-of (line-of-head (Saved n))) (spaced-back [] (n ∷ []))
+
+-- a value, by the line and its numbers
+value-of : List ℕ → List ℕ → ValueTold
+value-of line numbers =
+    cond (begins (ascii "u32") line) (ValueTold.number (getD numbers 0 0))
+    (cond (begins (ascii "bool true") line) (ValueTold.truth true)
+    (cond (begins (ascii "bool false") line) (ValueTold.truth false)
+    (cond (begins (ascii "text") line) (ValueTold.text (read-escaped 0 (behind line)))
+    (cond (begins (ascii "calldata") line) (ValueTold.calldata (read-hex (behind line)))
+    (cond (begins (ascii "vec") line) (ValueTold.numbers numbers)
+    (cond (begins (ascii "null") line) ValueTold.null (ValueTold.refused (getD numbers 0 0))))))))
+
+vec-back : (numbers : List ℕ) → value-of (line-of-numbers numbers) (numbers-of (line-of-numbers numbers)) ≡ ValueTold.numbers numbers
+unfolding value-of numbers-of behind parted begins read-numbers line-of-numbers ascii spaced
+vec-back [] = refl
+vec-back (n ∷ more) = ap ValueTold.numbers (spaced-back [] (n ∷ more))
+
+value-back : (kind : Return) (part : List ℕ) → value-of (line-of-value kind part) (numbers-of (line-of-value kind part)) ≡ value-told kind part
+unfolding value-told value-of numbers-of behind parted begins read-numbers line-of-value line-of-bool said line formed filled filled-in numbers-left ascii spaced
+value-back (kind.U32 n) part = ap (value-of (line-of-value (kind.U32 n) part)) (spaced-back [] (n ∷ []))
+value-back (kind.Boolean true) part = refl
+value-back (kind.Boolean false) part = refl
+value-back (kind.String pointer) part = ap ValueTold.text (escaped-back false part)
+value-back (kind.CallData entry) part = ap ValueTold.calldata (hex-back part)
+value-back (kind.VecU32 pointer) part = vec-back (words part)
+value-back kind.Null part = refl
+value-back (kind.NoReturn r) part = ap (value-of (line-of-value (kind.NoReturn r) part)) (spaced-back [] (number-of r ∷ []))
+
+-- ---- a task's line
+
+-- the line of a living task, by what is told of it
+abbrev line-of-told : TaskTold → List ℕ
+line-of-told task = line (ascii "task # # ") (task .id ∷ task .state ∷ []) (title-form (task .title)) (task .title)
+
+-- a title is escaped, whether it is UTF-8 or not
+title-escaped : (title numbers : List ℕ) → formed (title-form title) title numbers ≡ escaped (not (valid title)) title
+unfolding formed title-form
+title-escaped title numbers = by (valid title)
+  where
+    by : (is-valid : Bool) → formed (cond is-valid Escaped Ascii) title numbers ≡ escaped (not is-valid) title
+    by true = refl
+    by false = refl
+
+module _ (task : TaskTold) where
+  -- a living task
+  task-ended : Ended (line-of-told task)
+  unfolding lacks line filled filled-in numbers-left ascii
+  task-ended =
+      ended (filled (ascii "task # # ") (task .id ∷ task .state ∷ [])) (formed (title-form (task .title)) (task .title) (task .id ∷ task .state ∷ []))
+      (decimal-then (task .id) (32 ∷ decimal (task .state) ++ 32 ∷ []) ∙ decimal-then (task .state) (32 ∷ []))
+      (ap (lacks 10) (title-escaped (task .title) (task .id ∷ task .state ∷ [])) ∙ escaped-lacks (not (valid (task .title))) (task .title))
+
+  -- its title as it is shown, and the line feed
+  abbrev shown : List ℕ
+  shown = escaped (not (valid (task .title))) (task .title) ++ 10 ∷ []
+
+  -- id, state and title, a space before each
+  task-line : line-of-told task ≡ ascii "task " ++ (decimal (task .id) ++ 32 ∷ (decimal (task .state) ++ 32 ∷ shown))
+  unfolding line filled filled-in numbers-left ascii
+  task-line =
+      ap (λ (l : List ℕ). filled (ascii "task # # ") (task .id ∷ task .state ∷ []) ++ (l ++ 10 ∷ [])) (title-escaped (task .title) (task .id ∷ task .state ∷ []))
+      ∙ ap (λ (l : List ℕ). ascii "task " ++ l) (append-assoc (decimal (task .id)) (32 ∷ (decimal (task .state) ++ 32 ∷ [])) shown)
+      ∙ ap (λ (l : List ℕ). ascii "task " ++ (decimal (task .id) ++ 32 ∷ l)) (append-assoc (decimal (task .state)) (32 ∷ []) shown)
+
+-- a task, by its line
+read-task : List ℕ → TaskTold
+read-task line = record {
+  id = getD (numbers-of line) 0 0;
+  state = getD (numbers-of line) 1 0;
+  title = read-escaped 0 (behind (behind (behind line)));
+}
+
+-- what stands behind a number
+behind-decimal : (n : ℕ) (rest : List ℕ) → behind (decimal n ++ 32 ∷ rest) ≡ rest
+unfolding behind
+behind-decimal n rest = ap (λ (parts : List ℕ × List ℕ). parts .1) (parted-at 32 (decimal n) rest (decimal-lacks 32 n (omega arith)))
+
+-- the first two numbers
+two-back : (first second : ℕ) (rest : List ℕ)
+    → read-numbers [] (decimal first ++ 32 ∷ (decimal second ++ 32 ∷ rest)) ≡ first ∷ second ∷ read-numbers [] rest
+unfolding read-numbers
+two-back first second rest = decimal-back first (32 ∷ (decimal second ++ 32 ∷ rest)) ∙ ap (λ (l : List ℕ). first ∷ l) (decimal-back second (32 ∷ rest))
+
+task-back : (task : TaskTold) → read-task (line-of-told task) ≡ task
+unfolding read-task numbers-of behind parted ascii
+task-back task =
+    ap read-task (task-line task)
+    ∙ rw
+    (two-back (task .id) (task .state) (shown task),
+    behind-decimal (task .id) (decimal (task .state) ++ 32 ∷ shown task),
+    behind-decimal (task .state) (shown task),
+    escaped-back (not (valid (task .title))) (task .title))
+
+-- ---- equal lines tell the same
+
+head-same : (head other : Head) → line-of-head head ≡ line-of-head other → head ≡ other
+head-same head other same = sym (head-back head) ∙ ap (λ (l : List ℕ). head-of l (numbers-of l)) same ∙ head-back other
+
+value-same : (kind other : Return) (part parts : List ℕ) → line-of-value kind part ≡ line-of-value other parts → value-told kind part ≡ value-told other parts
+value-same kind other part parts same = sym (value-back kind part) ∙ ap (λ (l : List ℕ). value-of l (numbers-of l)) same ∙ value-back other parts
+
+task-same : (task other : TaskTold) → line-of-told task ≡ line-of-told other → task ≡ other
+task-same task other same = sym (task-back task) ∙ ap read-task same ∙ task-back other
+
+count-back : (n : ℕ) → numbers-of (line-of-count Values n) ≡ n ∷ []
+unfolding numbers-of behind parted read-numbers line-of-count said line formed filled filled-in numbers-left ascii spaced
+count-back n = spaced-back [] (n ∷ [])
+
+count-same : (n other : ℕ) → line-of-count Values n ≡ line-of-count Values other → n ≡ other
+count-same n other same = cc (count-back n, count-back other)
+
+-- the lines of as many values, and what follows them
+values-same : (values others : List ValueRead) {rest rests : List ℕ} → length values ≡ length others
+    → lines-of-values values ++ rest ≡ lines-of-values others ++ rests → (values-told values ≡ values-told others) × (rest ≡ rests)
+unfolding lines-of-values values-told
+values-same [] [] count same = (refl, same)
+values-same [] (other ∷ others) count same = absurd (omega arith)
+values-same (read ∷ more) [] count same = absurd (omega arith)
+values-same (read ∷ more) (other ∷ others) {rest} {rests} count same =
+    let first = line-then (value-ended (read .answer) (read .part)) (value-ended (other .answer) (other .part))
+        (sym (append-assoc (line-of-value (read .answer) (read .part)) (lines-of-values more) rest) ∙ same ∙ append-assoc (line-of-value (other .answer) (other .part)) (lines-of-values others) rests) in
+    let behind = values-same more others (omega arith) (first .1) in
+    (rw (value-same (read .answer) (other .answer) (read .part) (other .part) (first .0), behind .0), behind .1)
+
+-- the lines of living tasks
+lines-of-told : List TaskTold → List ℕ
+lines-of-told [] = []
+lines-of-told (task ∷ more) = line-of-told task ++ lines-of-told more
+
+-- those of a table are the lines of its living tasks
+living-lines : (table : List Task) → lines-of-tasks table ≡ lines-of-told (tasks-told table)
+unfolding lines-of-tasks line-of-task lines-of-told tasks-told
+living-lines [] = refl
+living-lines (task ∷ more) = by (task .living) (living-lines more)
+  where
+    by : (living : Bool) → lines-of-tasks more ≡ lines-of-told (tasks-told more)
+        → cond living (line-of-told (task-told task)) [] ++ lines-of-tasks more ≡ lines-of-told (cond living (task-told task ∷ tasks-told more) (tasks-told more))
+    by true same = ap (λ (l : List ℕ). line-of-told (task-told task) ++ l) same
+    by false same = same
+
+-- a line is not empty
+some-line : {line : List ℕ} (rest : List ℕ) → Ended line → [] ≡ line ++ rest → ⊥
+some-line {line} rest ended none = omega (arith, ap length none, length-append line rest, ap length (ended .is), length-append (ended .body) (10 ∷ []))
+
+tasks-same : (tasks others : List TaskTold) → lines-of-told tasks ≡ lines-of-told others → tasks ≡ others
+unfolding lines-of-told
+tasks-same [] [] same = refl
+tasks-same [] (other ∷ others) same = absurd (some-line (lines-of-told others) (task-ended other) same)
+tasks-same (task ∷ more) [] same = absurd (some-line (lines-of-told more) (task-ended task) (sym same))
+tasks-same (task ∷ more) (other ∷ others) same =
+    let first = line-then (task-ended task) (task-ended other) same in
+    rw (task-same task other (first .0), tasks-same more others (first .1))
+
+-- equal listings tell the same
+pub same-listings : (head other : Head) (values others : List ValueRead) (table tables : List Task)
+    → listing head values table ≡ listing other others tables → told head values table ≡ told other others tables
+unfolding listing
+same-listings head other values others table tables same =
+    let first = line-then (head-ended head) (head-ended other) same in
+    let second = line-then (count-ended Values (length values)) (count-ended Values (length others)) (first .1) in
+    let third = values-same values others (count-same (length values) (length others) (second .0)) (second .1) in
+    let fourth = line-then (count-ended Tasks _) (count-ended Tasks _) (third .1) in
+    rw (head-same head other (first .0), third .0, tasks-same (tasks-told table) (tasks-told tables) (sym (living-lines table) ∙ fourth .1 ∙ living-lines tables))
