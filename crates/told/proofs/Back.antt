@@ -33,6 +33,7 @@ digit-back {whole} n pending rest small is =
     let more : 10 * getD pending 0 0 + (48 + n - 48) ≡ whole = omega arith in
     rw (lt-ltb n 10 small, le-ltb (48 + n) 48 above, more)
 
+-- the digits of a number
 digits-back : (most : ℕ) (has-one : Bool) (n : ℕ) (rest : List ℕ) → ltb n 10 ≡ has-one → n ≤ most
     → read-numbers [] (digits most has-one n ++ rest) ≡ read-numbers (n ∷ []) rest
 unfolding digits
@@ -67,6 +68,7 @@ digit-of letters byte = cond (ltb byte 58) (byte - 48) (byte - letters)
 pair-of : ℕ → ℕ → ℕ → ℕ
 pair-of letters high low = 16 * digit-of letters high + digit-of letters low
 
+-- the character of a digit
 character-back : (letters n : ℕ) → 48 ≤ letters → digit-of letters (character letters n) ≡ n
 unfolding digit-of
 character-back letters n above = by (ltb n 10) refl
@@ -79,16 +81,18 @@ character-back letters n above = by (ltb n 10) refl
         let high : 58 ≤ letters + n = omega (arith, ltb-false n 10 test) in
         rw (le-ltb (letters + n) 58 high) (omega arith)
 
+-- the two digits of a byte
 pair-back : (letters byte : ℕ) → 48 ≤ letters → pair-of letters (character letters (byte / 16)) (character letters (byte % 16)) ≡ byte
 unfolding pair-of
 pair-back letters byte above = rw (character-back letters (byte / 16) above, character-back letters (byte % 16) above) (omega arith)
 
--- bytes in hex, up to the last byte of the text
+-- the bytes of a text in hex, with a line feed or another byte at its end
 pub read-hex : List ℕ → List ℕ
 read-hex [] = []
 read-hex (last ∷ []) = []
 read-hex (high ∷ low ∷ more) = pair-of 87 high low ∷ read-hex more
 
+-- bytes in hex
 pub hex-back : (bytes : List ℕ) → read-hex (hex bytes ++ 10 ∷ []) ≡ bytes
 unfolding read-hex hex digit
 hex-back [] = refl
@@ -96,7 +100,7 @@ hex-back (byte ∷ more) = cc (pair-back 87 byte (omega arith), hex-back more)
 
 -- ---- escaped bytes
 
--- the bytes of a text up to a line feed, where so many are passed over; a backslash stands for the byte of the two digits behind it
+-- the bytes of a text up to a line feed, behind so many that are passed over; a backslash and two digits are one byte
 pub read-escaped : ℕ → List ℕ → List ℕ
 read-escaped passed [] = []
 read-escaped (suc passed) (byte ∷ more) = read-escaped passed more
@@ -104,6 +108,7 @@ read-escaped zero (byte ∷ more) =
     cond (eqb byte 10) []
     (cond (eqb byte 92) (pair-of 55 (getD more 0 0) (getD more 1 0) ∷ read-escaped 2 more) (byte ∷ read-escaped 0 more))
 
+-- a byte as it is shown
 shown-back : (high : Bool) (byte : ℕ) (rest : List ℕ) → read-escaped 0 (shown high byte ++ rest) ≡ byte ∷ read-escaped 0 rest
 unfolding read-escaped shown is-escaped capital
 shown-back high byte rest = by (is-escaped high byte) refl
@@ -113,6 +118,7 @@ shown-back high byte rest = by (is-escaped high byte) refl
     by true test = ap (λ (b : ℕ). b ∷ read-escaped 0 rest) (pair-back 55 byte (omega arith))
     by false test = rw (not-escaped high byte 10 test refl, not-escaped high byte 92 test refl)
 
+-- escaped bytes, for both kinds of text
 pub escaped-back : (high : Bool) (bytes : List ℕ) → read-escaped 0 (escaped high bytes ++ 10 ∷ []) ≡ bytes
 unfolding read-escaped escaped
 escaped-back high [] = refl

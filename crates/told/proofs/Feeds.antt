@@ -20,14 +20,14 @@ unfolding lacks
 lacks-append byte [] b = refl
 lacks-append byte (first ∷ a) b = rw (lacks-append byte a b) (sym (and-assoc (not (eqb first byte)) (lacks byte a) (lacks byte b)))
 
--- ---- forms that lack a byte
+-- ---- numbers and bytes as text
 
--- the character of a digit: 0 to 9, then letters, 10 at `letters + 10`
+-- the character of a digit: `digit` counts the letters from 87, `capital` from 55
 abbrev pub character : ℕ → ℕ → ℕ
 character letters n = cond (ltb n 10) (48 + n) (letters + n)
 
 -- no character of a digit is below 48
-pub character-high : (letters n : ℕ) → 48 ≤ letters → 48 ≤ character letters n
+character-high : (letters n : ℕ) → 48 ≤ letters → 48 ≤ character letters n
 character-high letters n above = by (ltb n 10)
   where
     by : (small : Bool) → 48 ≤ cond small (48 + n) (letters + n)
@@ -39,6 +39,7 @@ digit-lacks : (byte letters n : ℕ) (more : List ℕ) → byte < 48 → 48 ≤ 
 unfolding lacks
 digit-lacks byte letters n more low above = rw (ne-eqb (character letters n) byte (λ same. omega (arith, character-high letters n above)))
 
+-- the digits of a number
 digits-lack : (byte most : ℕ) (has-one : Bool) (n : ℕ) → byte < 48 → lacks byte (digits most has-one n) ≡ true
 unfolding lacks digits digit
 digits-lack byte zero has-one n low = digit-lacks byte 87 n [] low (omega arith)
@@ -75,6 +76,7 @@ hex-lacks (byte ∷ more) =
 pub not-escaped : (high : Bool) (byte other : ℕ) → is-escaped high byte ≡ false → is-escaped high other ≡ true → eqb byte other ≡ false
 not-escaped high byte other plain escapes = ne-eqb byte other (λ same. true≢false (sym escapes ∙ ap (is-escaped high) (sym same) ∙ plain))
 
+-- a byte as it is shown
 shown-lacks : (high : Bool) (byte : ℕ) → lacks 10 (shown high byte) ≡ true
 unfolding lacks shown is-escaped capital
 shown-lacks high byte = by (is-escaped high byte) refl

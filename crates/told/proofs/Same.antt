@@ -21,28 +21,30 @@ use Rattle.listing.specs.declared.Head.the-variants.{Done, Paused, Refused, Sav
 use Rattle.listing.specs.declared.Counted.{Counted}
 use Rattle.listing.specs.declared.Counted.the-variants.{Values, Tasks}
 use Rattle.told.specs.Lines.{Escaped, Ascii, formed, line, said}
-use Rattle.told.specs.Listing.{ValueRead, title-form, line-of-refusal, line-of-head, line-of-count, line-of-bool, line-of-numbers, line-of-value, line-of-task, lines-of-values, lines-of-tasks, listing}
-use Rattle.told.specs.Told.{ValueTold, TaskTold, Told, value-told, values-told, task-told, tasks-told, told}
-use Rattle.told.proofs.Feeds.{lacks, lacks-append, decimal-lacks, decimal-then, spaced-lacks, hex-lacks, escaped-lacks, parted, parted-at, parted-same}
+use Rattle.told.specs.Listing.{ValueRead, title-form, lines-of-values, lines-of-tasks, listing}
+use Rattle.told.specs.Listing.{line-of-refusal, line-of-head, line-of-count, line-of-bool, line-of-numbers, line-of-value, line-of-task}
+use Rattle.told.specs.Told.{ValueTold, TaskTold, value-told, values-told, task-told, tasks-told, told}
+use Rattle.told.proofs.Feeds.{lacks, lacks-append, decimal-lacks, decimal-then, spaced-lacks, hex-lacks, escaped-lacks}
+use Rattle.told.proofs.Feeds.{parted, parted-at, parted-same}
 use Rattle.told.proofs.Back.{begins, read-numbers, decimal-back, spaced-back, read-hex, hex-back, read-escaped, escaped-back}
 
--- ---- where a line ends
+-- ---- a line's end
 
--- a line has one line feed, at its end
+-- one line feed, at the end
 record Ended (line : List ℕ) : Type 0 where
   body : List ℕ
   is : line ≡ body ++ 10 ∷ []
   plain : lacks 10 body ≡ true
 
--- a word, and what stands behind it
-ended : (word behind : List ℕ) → lacks 10 word ≡ true → lacks 10 behind ≡ true → Ended (word ++ (behind ++ 10 ∷ []))
-ended word behind plain plain-too = record {
-  body = word ++ behind;
-  is = sym (append-assoc word behind (10 ∷ []));
-  plain = lacks-append 10 word behind ∙ rw (plain, plain-too);
+-- a word and a text behind it
+ended : (word text : List ℕ) → lacks 10 word ≡ true → lacks 10 text ≡ true → Ended (word ++ (text ++ 10 ∷ []))
+ended word text plain plain-too = record {
+  body = word ++ text;
+  is = sym (append-assoc word text (10 ∷ []));
+  plain = lacks-append 10 word text ∙ rw (plain, plain-too);
 }
 
--- a word and numbers
+-- a word and numbers behind it
 numbers-ended : (word numbers : List ℕ) → lacks 10 word ≡ true → Ended (word ++ (spaced numbers ++ 10 ∷ []))
 numbers-ended word numbers plain = ended word (spaced numbers) plain (spaced-lacks numbers)
 
@@ -60,6 +62,7 @@ unfolding lacks line-of-count said line formed filled filled-in numbers-left asc
 count-ended Values n = numbers-ended (ascii "values") (n ∷ []) refl
 count-ended Tasks n = numbers-ended (ascii "tasks") (n ∷ []) refl
 
+-- numbers, or none
 vec-ended : (numbers : List ℕ) → Ended (line-of-numbers numbers)
 unfolding lacks line-of-numbers ascii spaced
 vec-ended [] = ended (ascii "vec ") [] refl refl
@@ -77,23 +80,28 @@ value-ended (kind.VecU32 pointer) part = vec-ended (words part)
 value-ended kind.Null part = ended (ascii "null") [] refl refl
 value-ended (kind.NoReturn r) part = numbers-ended (ascii "bad") (number-of r ∷ []) refl
 
--- a line and what follows it, told apart by the line's end
-line-then : {line other rest rests : List ℕ} → Ended line → Ended other → line ++ rest ≡ other ++ rests → (line ≡ other) × (rest ≡ rests)
-line-then {line} {other} {rest} {rests} first second same =
-    let parts = parted-same 10 (first .plain) (second .plain) (sym (apart rest first) ∙ same ∙ apart rests second) in
+-- the first line's feed is the first of the text
+first-feed : {line : List ℕ} (rest : List ℕ) (first : Ended line) → line ++ rest ≡ first .body ++ 10 ∷ rest
+first-feed rest first = ap (λ (l : List ℕ). l ++ rest) (first .is) ∙ append-snoc (first .body) 10 rest
+
+-- equal texts have the same first line, and the same behind it
+first-same : {line other rest rests : List ℕ} → Ended line → Ended other → line ++ rest ≡ other ++ rests → (line ≡ other) × (rest ≡ rests)
+first-same {rest} {rests} first second same =
+    let parts = parted-same 10 (first .plain) (second .plain) (sym (first-feed rest first) ∙ same ∙ first-feed rests second) in
     (first .is ∙ ap (λ (l : List ℕ). l ++ 10 ∷ []) (parts .0) ∙ sym (second .is), parts .1)
-  where
-    apart : {line : List ℕ} (rest : List ℕ) (e : Ended line) → line ++ rest ≡ e .body ++ 10 ∷ rest
-    apart rest e = ap (λ (l : List ℕ). l ++ rest) (e .is) ∙ append-snoc (e .body) 10 rest
+
+-- a text with a line is not empty
+not-empty : {line : List ℕ} (rest : List ℕ) → Ended line → [] ≡ line ++ rest → ⊥
+not-empty rest first none = omega (arith, ap length (none ∙ first-feed rest first), length-append (first .body) (10 ∷ rest))
 
 -- ---- a line read back
 
--- what stands behind a line's first space
-behind : List ℕ → List ℕ
+-- what stands behind the first space
+abbrev behind : List ℕ → List ℕ
 behind line = parted 32 line .1
 
 -- the numbers there
-numbers-of : List ℕ → List ℕ
+abbrev numbers-of : List ℕ → List ℕ
 numbers-of line = read-numbers [] (behind line)
 
 -- the refusal of a number and its details; 0, 18 and 19 are no refusal's number
@@ -103,12 +111,14 @@ refusal-of number details =
     (refusal.EmptyInstructions ∷ refusal.EmptyInstructions ∷ refusal.UnexpectedEOB ∷ refusal.StackUnderflow ∷ refusal.StackOverflow
     ∷ refusal.InvalidType ∷ refusal.TypeMismatch ∷ refusal.MultiplicationOverflowed ∷ refusal.MaxStatesError
     ∷ refusal.TaskNotFound (getD details 0 0) ∷ refusal.InvalidTaskField (getD details 0 0) ∷ refusal.InvalidStatus (getD details 0 0)
-    ∷ refusal.InvalidInstructionsIndex (getD details 0 0) ∷ refusal.MSliceParamOverflow ∷ refusal.MSliceOutOfBounds (getD details 0 0) (getD details 1 0)
-    ∷ refusal.BytesToStringConversionError ∷ refusal.AlignmentMismatch ∷ refusal.SliceSizeMismatch ∷ refusal.EmptyInstructions
-    ∷ refusal.EmptyInstructions ∷ refusal.TableFull ∷ refusal.TitleTooLong ∷ refusal.PoolFull ∷ refusal.MemoryTooShort ∷ refusal.SaveBufferTooShort
-    ∷ refusal.BadImage (getD details 0 0) ∷ refusal.WrongPhaseOrUnsound ∷ refusal.NotAdmitted (getD details 0 0) ∷ refusal.ProgramTooLong ∷ [])
+    ∷ refusal.InvalidInstructionsIndex (getD details 0 0) ∷ refusal.MSliceParamOverflow
+    ∷ refusal.MSliceOutOfBounds (getD details 0 0) (getD details 1 0) ∷ refusal.BytesToStringConversionError ∷ refusal.AlignmentMismatch
+    ∷ refusal.SliceSizeMismatch ∷ refusal.EmptyInstructions ∷ refusal.EmptyInstructions ∷ refusal.TableFull ∷ refusal.TitleTooLong
+    ∷ refusal.PoolFull ∷ refusal.MemoryTooShort ∷ refusal.SaveBufferTooShort ∷ refusal.BadImage (getD details 0 0)
+    ∷ refusal.WrongPhaseOrUnsound ∷ refusal.NotAdmitted (getD details 0 0) ∷ refusal.ProgramTooLong ∷ [])
     number refusal.EmptyInstructions
 
+-- every refusal is that of its number and details
 refusal-back : (r : Refusal) → refusal-of (number-of r) (details-of r) ≡ r
 unfolding refusal-of
 refusal-back refusal.EmptyInstructions = refl
@@ -145,12 +155,19 @@ head-of line numbers =
     (cond (begins (ascii "paused") line) (Paused (getD numbers 0 0))
     (cond (begins (ascii "saved") line) (Saved (getD numbers 0 0)) (Refused (refusal-of (getD numbers 0 0) (drop 1 numbers)))))
 
+-- the first line tells how the call ended
 head-back : (head : Head) → head-of (line-of-head head) (numbers-of (line-of-head head)) ≡ head
-unfolding head-of numbers-of behind parted begins read-numbers line-of-head line-of-refusal said line formed filled filled-in numbers-left ascii spaced
+unfolding head-of parted begins read-numbers line-of-head line-of-refusal said line formed filled filled-in numbers-left ascii spaced
 head-back (Done n) = ap (head-of (line-of-head (Done n))) (spaced-back [] (n ∷ []))
 head-back (Paused n) = ap (head-of (line-of-head (Paused n))) (spaced-back [] (n ∷ []))
-head-back (Refused r) = ap (head-of (line-of-head (Refused r))) (spaced-back [] (number-of r ∷ details-of r)) ∙ ap Refused (refusal-back r)
+head-back (Refused r) =
+    ap (head-of (line-of-head (Refused r))) (spaced-back [] (number-of r ∷ details-of r)) ∙ ap Refused (refusal-back r)
 head-back (Saved n) = ap (head-of (line-of-head (Saved n))) (spaced-back [] (n ∷ []))
+
+-- the count of values tells it
+count-back : (n : ℕ) → numbers-of (line-of-count Values n) ≡ n ∷ []
+unfolding parted read-numbers line-of-count said line formed filled filled-in numbers-left ascii spaced
+count-back n = spaced-back [] (n ∷ [])
 
 -- a value, by the line and its numbers
 value-of : List ℕ → List ℕ → ValueTold
@@ -163,13 +180,15 @@ value-of line numbers =
     (cond (begins (ascii "vec") line) (ValueTold.numbers numbers)
     (cond (begins (ascii "null") line) ValueTold.null (ValueTold.refused (getD numbers 0 0))))))))
 
+-- the line of numbers tells them
 vec-back : (numbers : List ℕ) → value-of (line-of-numbers numbers) (numbers-of (line-of-numbers numbers)) ≡ ValueTold.numbers numbers
-unfolding value-of numbers-of behind parted begins read-numbers line-of-numbers ascii spaced
+unfolding value-of parted begins read-numbers line-of-numbers ascii spaced
 vec-back [] = refl
 vec-back (n ∷ more) = ap ValueTold.numbers (spaced-back [] (n ∷ more))
 
+-- the line of a value tells it
 value-back : (kind : Return) (part : List ℕ) → value-of (line-of-value kind part) (numbers-of (line-of-value kind part)) ≡ value-told kind part
-unfolding value-told value-of numbers-of behind parted begins read-numbers line-of-value line-of-bool said line formed filled filled-in numbers-left ascii spaced
+unfolding value-told value-of parted begins read-numbers line-of-value line-of-bool said line formed filled filled-in numbers-left ascii spaced
 value-back (kind.U32 n) part = ap (value-of (line-of-value (kind.U32 n) part)) (spaced-back [] (n ∷ []))
 value-back (kind.Boolean true) part = refl
 value-back (kind.Boolean false) part = refl
@@ -181,10 +200,6 @@ value-back (kind.NoReturn r) part = ap (value-of (line-of-value (kind.NoReturn r
 
 -- ---- a task's line
 
--- the line of a living task, by what is told of it
-abbrev line-of-told : TaskTold → List ℕ
-line-of-told task = line (ascii "task # # ") (task .id ∷ task .state ∷ []) (title-form (task .title)) (task .title)
-
 -- a title is escaped, whether it is UTF-8 or not
 title-escaped : (title numbers : List ℕ) → formed (title-form title) title numbers ≡ escaped (not (valid title)) title
 unfolding formed title-form
@@ -194,26 +209,9 @@ title-escaped title numbers = by (valid title)
     by true = refl
     by false = refl
 
-module _ (task : TaskTold) where
-  -- a living task
-  task-ended : Ended (line-of-told task)
-  unfolding lacks line filled filled-in numbers-left ascii
-  task-ended =
-      ended (filled (ascii "task # # ") (task .id ∷ task .state ∷ [])) (formed (title-form (task .title)) (task .title) (task .id ∷ task .state ∷ []))
-      (decimal-then (task .id) (32 ∷ decimal (task .state) ++ 32 ∷ []) ∙ decimal-then (task .state) (32 ∷ []))
-      (ap (lacks 10) (title-escaped (task .title) (task .id ∷ task .state ∷ [])) ∙ escaped-lacks (not (valid (task .title))) (task .title))
-
-  -- its title as it is shown, and the line feed
-  abbrev shown : List ℕ
-  shown = escaped (not (valid (task .title))) (task .title) ++ 10 ∷ []
-
-  -- id, state and title, a space before each
-  task-line : line-of-told task ≡ ascii "task " ++ (decimal (task .id) ++ 32 ∷ (decimal (task .state) ++ 32 ∷ shown))
-  unfolding line filled filled-in numbers-left ascii
-  task-line =
-      ap (λ (l : List ℕ). filled (ascii "task # # ") (task .id ∷ task .state ∷ []) ++ (l ++ 10 ∷ [])) (title-escaped (task .title) (task .id ∷ task .state ∷ []))
-      ∙ ap (λ (l : List ℕ). ascii "task " ++ l) (append-assoc (decimal (task .id)) (32 ∷ (decimal (task .state) ++ 32 ∷ [])) shown)
-      ∙ ap (λ (l : List ℕ). ascii "task " ++ (decimal (task .id) ++ 32 ∷ l)) (append-assoc (decimal (task .state)) (32 ∷ []) shown)
+-- the line of a living task, by what is told of it
+abbrev line-of-told : TaskTold → List ℕ
+line-of-told task = line (ascii "task # # ") (task .id ∷ task .state ∷ []) (title-form (task .title)) (task .title)
 
 -- a task, by its line
 read-task : List ℕ → TaskTold
@@ -223,46 +221,70 @@ read-task line = record {
   title = read-escaped 0 (behind (behind (behind line)));
 }
 
--- what stands behind a number
+-- what stands behind a number and a space
 behind-decimal : (n : ℕ) (rest : List ℕ) → behind (decimal n ++ 32 ∷ rest) ≡ rest
-unfolding behind
 behind-decimal n rest = ap (λ (parts : List ℕ × List ℕ). parts .1) (parted-at 32 (decimal n) rest (decimal-lacks 32 n (omega arith)))
 
 -- the first two numbers
-two-back : (first second : ℕ) (rest : List ℕ)
-    → read-numbers [] (decimal first ++ 32 ∷ (decimal second ++ 32 ∷ rest)) ≡ first ∷ second ∷ read-numbers [] rest
+two-back : (n next : ℕ) (rest : List ℕ) → read-numbers [] (decimal n ++ 32 ∷ (decimal next ++ 32 ∷ rest)) ≡ n ∷ next ∷ read-numbers [] rest
 unfolding read-numbers
-two-back first second rest = decimal-back first (32 ∷ (decimal second ++ 32 ∷ rest)) ∙ ap (λ (l : List ℕ). first ∷ l) (decimal-back second (32 ∷ rest))
+two-back n next rest = decimal-back n (32 ∷ (decimal next ++ 32 ∷ rest)) ∙ ap (λ (l : List ℕ). n ∷ l) (decimal-back next (32 ∷ rest))
 
-task-back : (task : TaskTold) → read-task (line-of-told task) ≡ task
-unfolding read-task numbers-of behind parted ascii
-task-back task =
-    ap read-task (task-line task)
-    ∙ rw
-    (two-back (task .id) (task .state) (shown task),
-    behind-decimal (task .id) (decimal (task .state) ++ 32 ∷ shown task),
-    behind-decimal (task .state) (shown task),
-    escaped-back (not (valid (task .title))) (task .title))
+module _ (task : TaskTold) where
+  abbrev numbers : List ℕ
+  numbers = task .id ∷ task .state ∷ []
+
+  -- a living task
+  task-ended : Ended (line-of-told task)
+  unfolding lacks line filled filled-in numbers-left ascii
+  task-ended =
+      ended (filled (ascii "task # # ") numbers) (formed (title-form (task .title)) (task .title) numbers)
+      (decimal-then (task .id) (32 ∷ (decimal (task .state) ++ 32 ∷ [])) ∙ decimal-then (task .state) (32 ∷ []))
+      (ap (lacks 10) (title-escaped (task .title) numbers) ∙ escaped-lacks (not (valid (task .title))) (task .title))
+
+  -- the title as it is shown, and the line feed
+  abbrev shown : List ℕ
+  shown = escaped (not (valid (task .title))) (task .title) ++ 10 ∷ []
+
+  -- id, state and title, a space before each
+  task-line : line-of-told task ≡ ascii "task " ++ (decimal (task .id) ++ 32 ∷ (decimal (task .state) ++ 32 ∷ shown))
+  unfolding line filled filled-in numbers-left ascii
+  task-line =
+      ap (λ (l : List ℕ). filled (ascii "task # # ") numbers ++ (l ++ 10 ∷ [])) (title-escaped (task .title) numbers)
+      ∙ ap (λ (l : List ℕ). ascii "task " ++ l)
+      (append-assoc (decimal (task .id)) (32 ∷ (decimal (task .state) ++ 32 ∷ [])) shown
+      ∙ ap (λ (l : List ℕ). decimal (task .id) ++ 32 ∷ l) (append-assoc (decimal (task .state)) (32 ∷ []) shown))
+
+  -- the line of a task tells it
+  task-back : read-task (line-of-told task) ≡ task
+  unfolding read-task parted ascii
+  task-back =
+      ap read-task task-line
+      ∙ rw
+      (two-back (task .id) (task .state) shown,
+      behind-decimal (task .id) (decimal (task .state) ++ 32 ∷ shown),
+      behind-decimal (task .state) shown,
+      escaped-back (not (valid (task .title))) (task .title))
 
 -- ---- equal lines tell the same
 
 head-same : (head other : Head) → line-of-head head ≡ line-of-head other → head ≡ other
 head-same head other same = sym (head-back head) ∙ ap (λ (l : List ℕ). head-of l (numbers-of l)) same ∙ head-back other
 
-value-same : (kind other : Return) (part parts : List ℕ) → line-of-value kind part ≡ line-of-value other parts → value-told kind part ≡ value-told other parts
-value-same kind other part parts same = sym (value-back kind part) ∙ ap (λ (l : List ℕ). value-of l (numbers-of l)) same ∙ value-back other parts
+count-same : (n other : ℕ) → line-of-count Values n ≡ line-of-count Values other → n ≡ other
+count-same n other same = cc (count-back n, count-back other)
+
+value-same : (kind other : Return) (part parts : List ℕ) → line-of-value kind part ≡ line-of-value other parts
+    → value-told kind part ≡ value-told other parts
+value-same kind other part parts same =
+    sym (value-back kind part) ∙ ap (λ (l : List ℕ). value-of l (numbers-of l)) same ∙ value-back other parts
 
 task-same : (task other : TaskTold) → line-of-told task ≡ line-of-told other → task ≡ other
 task-same task other same = sym (task-back task) ∙ ap read-task same ∙ task-back other
 
-count-back : (n : ℕ) → numbers-of (line-of-count Values n) ≡ n ∷ []
-unfolding numbers-of behind parted read-numbers line-of-count said line formed filled filled-in numbers-left ascii spaced
-count-back n = spaced-back [] (n ∷ [])
+-- ---- equal listings
 
-count-same : (n other : ℕ) → line-of-count Values n ≡ line-of-count Values other → n ≡ other
-count-same n other same = cc (count-back n, count-back other)
-
--- the lines of as many values, and what follows them
+-- as many values, and what follows them
 values-same : (values others : List ValueRead) {rest rests : List ℕ} → length values ≡ length others
     → lines-of-values values ++ rest ≡ lines-of-values others ++ rests → (values-told values ≡ values-told others) × (rest ≡ rests)
 unfolding lines-of-values values-told
@@ -270,38 +292,38 @@ values-same [] [] count same = (refl, same)
 values-same [] (other ∷ others) count same = absurd (omega arith)
 values-same (read ∷ more) [] count same = absurd (omega arith)
 values-same (read ∷ more) (other ∷ others) {rest} {rests} count same =
-    let first = line-then (value-ended (read .answer) (read .part)) (value-ended (other .answer) (other .part))
-        (sym (append-assoc (line-of-value (read .answer) (read .part)) (lines-of-values more) rest) ∙ same ∙ append-assoc (line-of-value (other .answer) (other .part)) (lines-of-values others) rests) in
-    let behind = values-same more others (omega arith) (first .1) in
-    (rw (value-same (read .answer) (other .answer) (read .part) (other .part) (first .0), behind .0), behind .1)
+    let first =
+    first-same (value-ended (read .answer) (read .part)) (value-ended (other .answer) (other .part))
+    (sym (append-assoc (line-of-value (read .answer) (read .part)) (lines-of-values more) rest)
+    ∙ same
+    ∙ append-assoc (line-of-value (other .answer) (other .part)) (lines-of-values others) rests) in
+    let behind-first = values-same more others (omega arith) (first .1) in
+    (rw (value-same (read .answer) (other .answer) (read .part) (other .part) (first .0), behind-first .0), behind-first .1)
 
--- the lines of living tasks
+-- the lines of living tasks, by what is told of them
 lines-of-told : List TaskTold → List ℕ
 lines-of-told [] = []
 lines-of-told (task ∷ more) = line-of-told task ++ lines-of-told more
 
--- those of a table are the lines of its living tasks
-living-lines : (table : List Task) → lines-of-tasks table ≡ lines-of-told (tasks-told table)
+-- the lines of a table are those of its living tasks
+lines-living : (table : List Task) → lines-of-tasks table ≡ lines-of-told (tasks-told table)
 unfolding lines-of-tasks line-of-task lines-of-told tasks-told
-living-lines [] = refl
-living-lines (task ∷ more) = by (task .living) (living-lines more)
+lines-living [] = refl
+lines-living (task ∷ more) = by (task .living) (lines-living more)
   where
     by : (living : Bool) → lines-of-tasks more ≡ lines-of-told (tasks-told more)
-        → cond living (line-of-told (task-told task)) [] ++ lines-of-tasks more ≡ lines-of-told (cond living (task-told task ∷ tasks-told more) (tasks-told more))
+        → cond living (line-of-told (task-told task)) [] ++ lines-of-tasks more
+        ≡ lines-of-told (cond living (task-told task ∷ tasks-told more) (tasks-told more))
     by true same = ap (λ (l : List ℕ). line-of-told (task-told task) ++ l) same
     by false same = same
-
--- a line is not empty
-some-line : {line : List ℕ} (rest : List ℕ) → Ended line → [] ≡ line ++ rest → ⊥
-some-line {line} rest ended none = omega (arith, ap length none, length-append line rest, ap length (ended .is), length-append (ended .body) (10 ∷ []))
 
 tasks-same : (tasks others : List TaskTold) → lines-of-told tasks ≡ lines-of-told others → tasks ≡ others
 unfolding lines-of-told
 tasks-same [] [] same = refl
-tasks-same [] (other ∷ others) same = absurd (some-line (lines-of-told others) (task-ended other) same)
-tasks-same (task ∷ more) [] same = absurd (some-line (lines-of-told more) (task-ended task) (sym same))
+tasks-same [] (other ∷ others) same = absurd (not-empty (lines-of-told others) (task-ended other) same)
+tasks-same (task ∷ more) [] same = absurd (not-empty (lines-of-told more) (task-ended task) (sym same))
 tasks-same (task ∷ more) (other ∷ others) same =
-    let first = line-then (task-ended task) (task-ended other) same in
+    let first = first-same (task-ended task) (task-ended other) same in
     rw (task-same task other (first .0), tasks-same more others (first .1))
 
 -- equal listings tell the same
@@ -309,8 +331,9 @@ pub same-listings : (head other : Head) (values others : List ValueRead) (table 
     → listing head values table ≡ listing other others tables → told head values table ≡ told other others tables
 unfolding listing
 same-listings head other values others table tables same =
-    let first = line-then (head-ended head) (head-ended other) same in
-    let second = line-then (count-ended Values (length values)) (count-ended Values (length others)) (first .1) in
+    let first = first-same (head-ended head) (head-ended other) same in
+    let second = first-same (count-ended Values (length values)) (count-ended Values (length others)) (first .1) in
     let third = values-same values others (count-same (length values) (length others) (second .0)) (second .1) in
-    let fourth = line-then (count-ended Tasks _) (count-ended Tasks _) (third .1) in
-    rw (head-same head other (first .0), third .0, tasks-same (tasks-told table) (tasks-told tables) (sym (living-lines table) ∙ fourth .1 ∙ living-lines tables))
+    let fourth = first-same (count-ended Tasks _) (count-ended Tasks _) (third .1) in
+    let tasks-are = tasks-same (tasks-told table) (tasks-told tables) (sym (lines-living table) ∙ fourth .1 ∙ lines-living tables) in
+    rw (head-same head other (first .0), third .0, tasks-are)
