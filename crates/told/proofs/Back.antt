@@ -22,7 +22,8 @@ begins (byte ∷ word) (first ∷ more) = eqb byte first && begins word more
 -- the numbers of a text behind the one that is being read, if there is one; a byte below 48 ends it
 unfoldable pub read-numbers : List ℕ → List ℕ → List ℕ
 read-numbers pending [] = pending
-read-numbers pending (byte ∷ more) = cond (ltb byte 48) (pending ++ read-numbers [] more) (read-numbers ((10 * getD pending 0 0 + (byte - 48)) ∷ []) more)
+read-numbers pending (byte ∷ more) =
+    cond (ltb byte 48) (pending ++ read-numbers [] more) (read-numbers ((10 * getD pending 0 0 + (byte - 48)) ∷ []) more)
 
 -- one digit more
 digit-back : {whole : ℕ} (n : ℕ) (pending rest : List ℕ) → n < 10 → 10 * getD pending 0 0 + n ≡ whole
@@ -113,10 +114,9 @@ shown-back : (high : Bool) (byte : ℕ) (rest : List ℕ) → read-escaped 0 (sh
 unfolding read-escaped shown is-escaped capital
 shown-back high byte rest = by (is-escaped high byte) refl
   where
-    by : (test : Bool) → is-escaped high byte ≡ test
-        → read-escaped 0 (cond test (92 ∷ capital (byte / 16) ∷ capital (byte % 16) ∷ []) (byte ∷ []) ++ rest) ≡ byte ∷ read-escaped 0 rest
-    by true test = ap (λ (b : ℕ). b ∷ read-escaped 0 rest) (pair-back 55 byte (omega arith))
-    by false test = rw (not-escaped high byte 10 test refl, not-escaped high byte 92 test refl)
+    by : (test : Bool) → is-escaped high byte ≡ test → read-escaped 0 (shown high byte ++ rest) ≡ byte ∷ read-escaped 0 rest
+    by true test = rw test (ap (λ (b : ℕ). b ∷ read-escaped 0 rest) (pair-back 55 byte (omega arith)))
+    by false test = rw (test, not-escaped high byte 10 test refl, not-escaped high byte 92 test refl)
 
 -- escaped bytes, for both kinds of text
 pub escaped-back : (high : Bool) (bytes : List ℕ) → read-escaped 0 (escaped high bytes ++ 10 ∷ []) ≡ bytes

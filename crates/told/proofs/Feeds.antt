@@ -81,11 +81,12 @@ shown-lacks : (high : Bool) (byte : ℕ) → lacks 10 (shown high byte) ≡ true
 unfolding lacks shown is-escaped capital
 shown-lacks high byte = by (is-escaped high byte) refl
   where
-    by : (test : Bool) → is-escaped high byte ≡ test → lacks 10 (cond test (92 ∷ capital (byte / 16) ∷ capital (byte % 16) ∷ []) (byte ∷ [])) ≡ true
+    by : (test : Bool) → is-escaped high byte ≡ test → lacks 10 (shown high byte) ≡ true
     by true test =
-        digit-lacks 10 55 (byte / 16) (capital (byte % 16) ∷ []) (omega arith) (omega arith)
-        ∙ digit-lacks 10 55 (byte % 16) [] (omega arith) (omega arith)
-    by false test = rw (not-escaped high byte 10 test refl)
+        rw test
+        (digit-lacks 10 55 (byte / 16) (capital (byte % 16) ∷ []) (omega arith) (omega arith)
+        ∙ digit-lacks 10 55 (byte % 16) [] (omega arith) (omega arith))
+    by false test = rw (test, not-escaped high byte 10 test refl)
 
 -- escaped bytes
 pub escaped-lacks : (high : Bool) (bytes : List ℕ) → lacks 10 (escaped high bytes) ≡ true

@@ -231,6 +231,7 @@ unfolding read-numbers
 two-back n next rest = decimal-back n (32 ∷ (decimal next ++ 32 ∷ rest)) ∙ ap (λ (l : List ℕ). n ∷ l) (decimal-back next (32 ∷ rest))
 
 module _ (task : TaskTold) where
+  -- its id and its state
   abbrev numbers : List ℕ
   numbers = task .id ∷ task .state ∷ []
 
@@ -260,11 +261,12 @@ module _ (task : TaskTold) where
   unfolding read-task parted ascii
   task-back =
       ap read-task task-line
-      ∙ rw
-      (two-back (task .id) (task .state) shown,
-      behind-decimal (task .id) (decimal (task .state) ++ 32 ∷ shown),
-      behind-decimal (task .state) shown,
-      escaped-back (not (valid (task .title))) (task .title))
+      ∙ rw (
+        two-back (task .id) (task .state) shown,
+        behind-decimal (task .id) (decimal (task .state) ++ 32 ∷ shown),
+        behind-decimal (task .state) shown,
+        escaped-back (not (valid (task .title))) (task .title),
+      )
 
 -- ---- equal lines tell the same
 
@@ -284,7 +286,7 @@ task-same task other same = sym (task-back task) ∙ ap read-task same ∙ task-
 
 -- ---- equal listings
 
--- as many values, and what follows them
+-- as many values, and the text behind them
 values-same : (values others : List ValueRead) {rest rests : List ℕ} → length values ≡ length others
     → lines-of-values values ++ rest ≡ lines-of-values others ++ rests → (values-told values ≡ values-told others) × (rest ≡ rests)
 unfolding lines-of-values values-told
@@ -317,6 +319,7 @@ lines-living (task ∷ more) = by (task .living) (lines-living more)
     by true same = ap (λ (l : List ℕ). line-of-told (task-told task) ++ l) same
     by false same = same
 
+-- the living tasks
 tasks-same : (tasks others : List TaskTold) → lines-of-told tasks ≡ lines-of-told others → tasks ≡ others
 unfolding lines-of-told
 tasks-same [] [] same = refl
