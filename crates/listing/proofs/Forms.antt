@@ -1,5 +1,6 @@
 -- Lines as templates: refusals by how many details they have, numbers by whether there are any, and a slot without a line.
 use Prim.Native.Nat.{ℕ, _≤_, _<_}
+use mathlib.Core.Bool.{Bool, true, false}
 use mathlib.Core.List.{List, [], _∷_}
 use mathlib.Core.Path.{_≡_, refl, sym, ap, _∙_}
 use native.Mathlib.Omega.{arith}
@@ -11,7 +12,7 @@ use Rattle.errors.specs.declared.Details.{Details}
 use Rattle.errors.specs.declared.Details.the-variants.{Nothing, One, Two}
 use Rattle.text.specs.Ascii.{ascii}
 use Rattle.text.specs.Numbers.{spaced, words, filled-in, numbers-left, filled}
-use Rattle.text.specs.Lines.{formed, line, said, lined, put-line}
+use Rattle.text.specs.Lines.{formed, line, said, lined, put-line, measure-line, tell-line}
 use Rattle.text.specs.declared.Form.the-variants.{Plain, Spaced}
 use Rattle.text.specs.declared.LineResult.the-variants.{Line}
 use Rattle.listing.specs.Listing.{line-of-refusal, line-of-numbers}
@@ -56,7 +57,8 @@ some-numbers (a ∷ b ∷ []) many = absurd (omega arith)
 some-numbers (a ∷ b ∷ c ∷ []) many = absurd (omega arith)
 some-numbers (a ∷ b ∷ c ∷ d ∷ more) many = refl
 
--- nothing put
-pub no-line : (out : List ℕ) → lined (Line 0) out ≡ put-line out []
-unfolding put-line
-no-line out = rw (le-leb 0 (length out) (omega arith))
+-- nothing put, or measured
+pub no-line : (writes : Bool) (out : List ℕ) → lined (Line 0) out ≡ tell-line writes out []
+unfolding put-line measure-line tell-line
+no-line true out = rw (le-leb 0 (length out) (omega arith))
+no-line false out = refl

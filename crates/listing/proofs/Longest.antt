@@ -1,34 +1,25 @@
--- 196,608 bytes hold the line of every value whose part has at most 65,536 bytes.
-use Prim.Native.Nat.{ℕ, zero, suc, _+_, _*_, _/_, _%_, _^_, _≤_, _<_}
+-- 196,611 bytes hold the line of every value: of a text of 65,535 bytes, of 16,383 numbers, or of calldata of 65,536 bytes.
+use Prim.Native.Nat.{ℕ, suc, _+_, _*_, _≤_, _<_}
 use mathlib.Core.Bool.{Bool, true, false}
 use mathlib.Core.List.{List, [], _∷_, _++_}
-use mathlib.Core.Path.{_≡_, refl, ap, _∙_}
+use mathlib.Core.Path.{_≡_, refl}
 use native.Mathlib.Omega.{arith}
 use lib.Dec.{ltb}
 use lib.ListN.{length, getD, length-append}
-use borrow.Author.Tests.{ltb-true, ltb-false}
 use Rattle.errors.specs.Refusals.{number-of, details-of}
 use Rattle.errors.specs.declared.Refusal.{Refusal}
 use Rattle.errors.specs.declared.Refusal.the-variants as refusal
 use Rattle.text.specs.Ascii.{ascii}
-use Rattle.text.specs.Numbers.{digit, decimal, hex, spaced, words, filled-in, numbers-left, filled}
+use Rattle.text.specs.Numbers.{decimal, hex, spaced, words, filled-in, numbers-left, filled}
+use Rattle.text.specs.Escapes.{escaped}
 use Rattle.text.specs.Lines.{formed, line, said}
-use Rattle.text.proofs.Decimals.{decimal-one, decimal-more}
+use Rattle.text.proofs.Decimals.{few-digits}
+use Rattle.text.proofs.Escaping.{escaped-short}
 use Rattle.text.proofs.Hexes.{hex-length}
 use Rattle.pools.specs.declared.InstructionsRef.{InstructionsRef}
 use Rattle.memory.specs.declared.unbox.Return.{Return}
 use Rattle.memory.specs.declared.unbox.Return.the-variants.{U32, Boolean, String, CallData, VecU32, Null, NoReturn}
 use Rattle.listing.specs.Listing.{line-of-bool, line-of-numbers, line-of-value}
-
--- a number below a power of ten has no more digits
-pub few-digits : (k n : ℕ) (one : Bool) → ltb n 10 ≡ one → n < 10 ^ suc k → length (decimal n) ≤ suc k
-few-digits zero n true test small = omega (arith, ap length (decimal-one n (ltb-true n 10 test)))
-few-digits zero n false test small = absurd (omega (arith, ltb-false n 10 test))
-few-digits (suc k) n true test small = omega (arith, ap length (decimal-one n (ltb-true n 10 test)))
-few-digits (suc k) n false test small =
-    let long : 10 ≤ n = ltb-false n 10 test in
-    let first : length (decimal (n / 10)) ≤ suc k = few-digits k (n / 10) (ltb (n / 10) 10) refl (omega arith) in
-    omega (arith, ap length (decimal-more n long) ∙ length-append (decimal (n / 10)) (digit (n % 10) ∷ []))
 
 -- a number of 32 bits has at most 10 digits
 ten-digits : (n : ℕ) → n < 4294967296 → length (decimal n) ≤ 10
@@ -95,24 +86,24 @@ number-fits (VecU32 pointer) = Unit
 number-fits Null = Unit
 number-fits (NoReturn r) = Unit
 
-bool-short : (truth : Bool) → length (line-of-bool truth) ≤ 196608
+bool-short : (truth : Bool) → length (line-of-bool truth) ≤ 196611
 unfolding line-of-bool said line formed filled filled-in numbers-left ascii
 bool-short true = omega arith
 bool-short false = omega arith
 
--- the line of calldata fits into 196,608 bytes, whatever its bytes are
-pub longest-calldata : (entry : InstructionsRef) (part : List ℕ) → length part ≤ 65536 → length (line-of-value (CallData entry) part) ≤ 196608
+-- the line of calldata fits into 196,611 bytes, whatever its bytes are
+pub longest-calldata : (entry : InstructionsRef) (part : List ℕ) → length part ≤ 65536 → length (line-of-value (CallData entry) part) ≤ 196611
 unfolding line-of-value line formed filled filled-in numbers-left ascii
 longest-calldata entry part few = omega (arith, length-append (hex part) (10 ∷ []), hex-length part)
 
--- the line of a value fits into 196,608 bytes
-pub longest : (kind : Return) (part : List ℕ) → number-fits kind → length part ≤ 65536 → ((i : ℕ) → getD part i 0 < 256)
-    → length (line-of-value kind part) ≤ 196608
+-- the line of a value fits into 196,611 bytes
+pub longest : (kind : Return) (part : List ℕ) → number-fits kind → length part ≤ 65535 → ((i : ℕ) → getD part i 0 < 256)
+    → length (line-of-value kind part) ≤ 196611
 unfolding number-fits line-of-value said line formed filled filled-in numbers-left ascii
 longest (U32 n) part fits few byte = omega (arith, one-number n, ten-digits n fits)
 longest (Boolean truth) part fits few byte = bool-short truth
-longest (String pointer) part fits few byte = omega (arith, length-append part (10 ∷ []))
-longest (CallData entry) part fits few byte = longest-calldata entry part few
+longest (String pointer) part fits few byte = omega (arith, length-append (escaped false part) (10 ∷ []), escaped-short false part)
+longest (CallData entry) part fits few byte = longest-calldata entry part (omega arith)
 longest (VecU32 pointer) part fits few byte = omega (arith, numbers-length (words part), spaced-short part byte)
 longest Null part fits few byte = omega arith
 longest (NoReturn r) part fits few byte = omega (arith, one-number (number-of r), ten-digits (number-of r) (omega (arith, short-refusal r)))

@@ -13,19 +13,18 @@ use Rattle.storage.specs.Tasks.{blank}
 use Rattle.text.specs.Ascii.{ascii}
 use Rattle.text.specs.Numbers.{decimal, spaced, filled-in, numbers-left, filled}
 use Rattle.text.specs.Lines.{formed, line, said}
-use Rattle.text.specs.declared.Form.the-variants.{Plain}
+use Rattle.text.specs.declared.Form.the-variants.{Escaped, Ascii}
+use Rattle.text.proofs.Decimals.{few-digits, twenty-digits}
+use Rattle.text.proofs.Escaping.{escaped-short}
+use Rattle.utf8.specs.Utf8.{valid}
 use Rattle.listing.specs.declared.Head.{Head}
 use Rattle.listing.specs.declared.Head.the-variants.{Done, Paused, Refused, Saved}
 use Rattle.listing.specs.declared.Counted.{Counted}
 use Rattle.listing.specs.declared.Counted.the-variants.{Values, Tasks}
-use Rattle.listing.specs.Listing.{line-of-refusal, line-of-head, line-of-count, line-of-task, lines-of-tasks}
-use Rattle.listing.proofs.Longest.{few-digits, short-refusal, one-number}
+use Rattle.listing.specs.Listing.{line-of-refusal, line-of-head, line-of-count, title-of, title-form, line-of-task, lines-of-tasks}
+use Rattle.listing.proofs.Longest.{short-refusal, one-number}
 
 -- ---- the first line and the counts
-
--- a number of 64 bits has at most 20 digits
-twenty-digits : (n : ℕ) → n < 18446744073709551616 → length (decimal n) ≤ 20
-twenty-digits n small = few-digits 19 n (ltb n 10) refl (omega arith)
 
 -- one of 8 bits, and the count of 256 slots, have at most 3
 three-digits : (n : ℕ) → n ≤ 256 → length (decimal n) ≤ 3
@@ -71,30 +70,42 @@ pub record Small (task : Task) : Type 0 where
   pub state : task .state .state < 256
   pub title : task .«title_len» ≤ 128
 
-living-line : (task : Task) → Small task → length (line (ascii "task # # ") (task .id .0 ∷ task .state .state ∷ []) Plain (take (task .«title_len») (task .title))) ≤ 142
-unfolding line formed filled filled-in numbers-left ascii
+-- a title takes at most three characters a byte, UTF-8 or not
+title-short : (title : List ℕ) (numbers : List ℕ) → length (formed (title-form title) title numbers) ≤ 3 * length title
+unfolding title-form formed
+title-short title numbers = by (valid title)
+  where
+    by : (is : Bool) → length (formed (cond is Escaped Ascii) title numbers) ≤ 3 * length title
+    by true = escaped-short false title
+    by false = escaped-short true title
+
+living-line : (task : Task) → Small task
+    → length (line (ascii "task # # ") (task .id .0 ∷ task .state .state ∷ []) (title-form (title-of task)) (title-of task)) ≤ 405
+unfolding line filled filled-in numbers-left ascii
 living-line task told =
+    let numbers = task .id .0 ∷ task .state .state ∷ [] in
     let id : length (decimal (task .id .0)) ≤ 3 = three-digits (task .id .0) (omega (arith, told .id)) in
     let state : length (decimal (task .state .state)) ≤ 3 = three-digits (task .state .state) (omega (arith, told .state)) in
-    simp (length-append, length-take) (omega (arith, told .title))
+    let title : length (title-of task) ≤ 128 = omega (arith, told .title, length-take (task .«title_len») (task .title)) in
+    simp length-append (omega (arith, title-short (title-of task) numbers))
 
--- a task's line has at most 142 bytes
-pub task-short : (task : Task) → (task .living ≡ true → Small task) → length (line-of-task task) ≤ 142
+-- a task's line has at most 405 bytes
+pub task-short : (task : Task) → (task .living ≡ true → Small task) → length (line-of-task task) ≤ 405
 unfolding line-of-task
 task-short task told = by (task .living) told
   where
     by : (living : Bool) → (living ≡ true → Small task)
-        → length (cond living (line (ascii "task # # ") (task .id .0 ∷ task .state .state ∷ []) Plain (take (task .«title_len») (task .title))) []) ≤ 142
+        → length (cond living (line (ascii "task # # ") (task .id .0 ∷ task .state .state ∷ []) (title-form (title-of task)) (title-of task)) []) ≤ 405
     by true told = living-line task (told refl)
     by false told = omega arith
 
 -- the lines of so many
-pub tasks-short : (table : List Task) → ((slot : ℕ) → slot < length table → length (line-of-task (getD table slot blank)) ≤ 142) → length (lines-of-tasks table) ≤ 142 * length table
+pub tasks-short : (table : List Task) → ((slot : ℕ) → slot < length table → length (line-of-task (getD table slot blank)) ≤ 405) → length (lines-of-tasks table) ≤ 405 * length table
 unfolding lines-of-tasks
 tasks-short [] each = omega arith
 tasks-short (task ∷ more) each =
-    let first : length (line-of-task task) ≤ 142 = each 0 (omega arith) in
-    let rest : length (lines-of-tasks more) ≤ 142 * length more = tasks-short more (λ slot inside. each (suc slot) (omega arith)) in
+    let first : length (line-of-task task) ≤ 405 = each 0 (omega arith) in
+    let rest : length (lines-of-tasks more) ≤ 405 * length more = tasks-short more (λ slot inside. each (suc slot) (omega arith)) in
     omega (arith, length-append (line-of-task task) (lines-of-tasks more))
 
 lives-most : (living : Bool) → cond living 1 0 ≤ 1

@@ -10,7 +10,9 @@ use Rattle.storage.specs.declared.Task.{Task}
 use Rattle.text.specs.Ascii.{ascii}
 use Rattle.text.specs.Numbers.{decimal, spaced, words}
 use Rattle.text.specs.Lines.{line, said}
-use Rattle.text.specs.declared.Form.the-variants.{Plain, Hex}
+use Rattle.text.specs.declared.Form.{Form}
+use Rattle.text.specs.declared.Form.the-variants.{Hex, Escaped, Ascii}
+use Rattle.utf8.specs.Utf8.{valid}
 use Rattle.memory.specs.Unbox.{unbox-value, part-of}
 use Rattle.memory.specs.declared.unbox.Return.{Return}
 use Rattle.memory.specs.declared.unbox.Return.the-variants as kind
@@ -49,17 +51,25 @@ line-of-numbers (n ∷ more) = ascii "vec " ++ (decimal n ++ spaced more ++ 10 �
 unfoldable pub line-of-value : Return → List ℕ → List ℕ
 line-of-value (kind.U32 number) part = said (ascii "u32 #") (number ∷ [])
 line-of-value (kind.Boolean truth) part = line-of-bool truth
-line-of-value (kind.String pointer) part = line (ascii "text ") [] Plain part
+line-of-value (kind.String pointer) part = line (ascii "text ") [] Escaped part
 line-of-value (kind.CallData entry) part = line (ascii "calldata ") [] Hex part
 line-of-value (kind.VecU32 pointer) part = line-of-numbers (words part)
 line-of-value kind.Null part = said (ascii "null") []
 line-of-value (kind.NoReturn refusal) part = said (ascii "bad #") (number-of refusal ∷ [])
 
--- `task `, id, state, the title's bytes as stored; a slot that is not living has no line
+-- a task's title
+abbrev pub title-of : Task → List ℕ
+title-of task = take (task .«title_len») (task .title)
+
+-- how a title is shown: escaped, and where it is not UTF-8 as ASCII alone
+unfoldable pub title-form : List ℕ → Form
+title-form title = cond (valid title) Escaped Ascii
+
+-- `task `, id, state and title; a slot that is not living has no line
 unfoldable pub line-of-task : Task → List ℕ
 line-of-task task =
     cond (task .living)
-    (line (ascii "task # # ") (task .id .0 ∷ task .state .state ∷ []) Plain (take (task .«title_len») (task .title)))
+    (line (ascii "task # # ") (task .id .0 ∷ task .state .state ∷ []) (title-form (title-of task)) (title-of task))
     []
 
 -- what a read of a value answers, and the part beside it

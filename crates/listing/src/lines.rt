@@ -71,18 +71,18 @@ pub fn line_at<'a>(
     ensures { λ r. ⌜ lined r (now (out .exit)) ≡ put-line (now (out .entry)) (line-by head (values-read (now (memory .entry)) (now (pool .entry)) (now (ends .entry)) entries (now (words .entry))) living task number) ⌝ }
 {
     if number == 0 {
-        return head_line(out, head);
+        return head_line(out, true, head);
     }
     if number == 1 {
-        return count_line(out, Counted::Values, words.len());
+        return count_line(out, true, Counted::Values, words.len());
     }
     let position = number - 2;
     if position < words.len() {
         let kind = memory::unbox::unbox_value(memory, ends, entries, words[position]);
-        return value_line(out, memory, pool, ends, kind);
+        return value_line(out, memory, pool, ends, true, kind);
     }
     if position == words.len() {
-        return count_line(out, Counted::Tasks, living);
+        return count_line(out, true, Counted::Tasks, living);
     }
-    task_line(out, task)
+    task_line(out, true, task)
 }

@@ -1,17 +1,15 @@
--- Decimal digits: one after the other from the lowest, written from the end of an array forwards.
+-- Decimal digits: how many there are, and each of them put, from the last one forwards.
 use Prim.Native.Nat.{ℕ, zero, suc, _+_, _-_, _/_, _%_, _^_, _≤_, _<_}
 use mathlib.Core.Bool.{Bool, true, false}
-use mathlib.Core.List.{List, [], _∷_, _++_, append-assoc, append-nil}
+use mathlib.Core.List.{List, [], _∷_, _++_}
 use mathlib.Core.Path.{_≡_, refl, sym, ap, _∙_}
-use native.Mathlib.Numerals.{add-one, sub-one}
 use native.Mathlib.Omega.{arith}
 use lib.Dec.{ltb}
-use lib.ListN.{length, drop, set, replicate, length-set}
-use lib.Seq.{drop-cons, getD-set-same, drop-set-lt}
-use borrow.Author.Tests.{lt-ltb, le-ltb, ltb-false}
-use Rattle.text.specs.declared.Piece.{Piece}
+use lib.ListN.{length, set, length-set, length-append}
+use lib.Seq.{sets, set-comm}
+use borrow.Author.Tests.{lt-ltb, le-ltb, ltb-true, ltb-false}
+use Rattle.slices.proofs.SlicesWrites.{sets-append}
 use Rattle.text.specs.Numbers.{digit, digits, decimal}
-use Rattle.text.specs.Pieces.{Holds}
 
 -- two bounds on how many digits there are give the same digits
 bounds-same : (most more : ℕ) (last : Bool) (n : ℕ) → ltb n 10 ≡ last → n ≤ most → n ≤ more → digits most last n ≡ digits more last n
@@ -40,74 +38,92 @@ decimal-more (suc k) long =
     rw (le-ltb (suc k) 10 long)
     (ap (λ (l : List ℕ). l ++ (digit (suc k % 10) ∷ [])) (bounds-same k (suc k / 10) (ltb (suc k / 10) 10) (suc k / 10) refl (omega arith) (omega arith)))
 
--- what stands from a place on, once that place is written
-pub drop-set : (l : List ℕ) (i a : ℕ) → i < length l → drop i (set l i a) ≡ a ∷ drop (i + 1) l
-drop-set l i a inside =
-    let still : i < length (set l i a) = rw length-set inside in
-    drop-cons (set l i a) i 0 still
-    ∙ rw (getD-set-same l i a 0 inside, drop-set-lt (suc i) l i a (omega arith), add-one)
+-- a number has a digit
+pub some-digit : (n : ℕ) → 1 ≤ length (decimal n)
+some-digit n = by (ltb n 10) refl
+  where
+    by : (one : Bool) → ltb n 10 ≡ one → 1 ≤ length (decimal n)
+    by true test = omega (arith, ap length (decimal-one n (ltb-true n 10 test)))
+    by false test =
+        omega (arith, ap length (decimal-more n (ltb-false n 10 test)) ∙ length-append (decimal (n / 10)) (digit (n % 10) ∷ []))
 
--- the digits that are written, from behind a place on, follow those that are still to come
-pub record Going (number : ℕ) (bytes : List ℕ) (start rest : ℕ) : Type 0 where
-  pub low : 1 ≤ start
-  pub high : start ≤ 20
-  pub few : rest < 10 ^ start
-  pub size : length bytes ≡ 21
-  pub same : decimal rest ++ drop (start + 1) bytes ≡ decimal number
+-- a number below a power of ten has no more digits
+pub few-digits : (k n : ℕ) (one : Bool) → ltb n 10 ≡ one → n < 10 ^ suc k → length (decimal n) ≤ suc k
+few-digits zero n true test small = omega (arith, ap length (decimal-one n (ltb-true n 10 test)))
+few-digits zero n false test small = absurd (omega (arith, ltb-false n 10 test))
+few-digits (suc k) n true test small = omega (arith, ap length (decimal-one n (ltb-true n 10 test)))
+few-digits (suc k) n false test small =
+    let long : 10 ≤ n = ltb-false n 10 test in
+    let first : length (decimal (n / 10)) ≤ suc k = few-digits k (n / 10) (ltb (n / 10) 10) refl (omega arith) in
+    omega (arith, ap length (decimal-more n long) ∙ length-append (decimal (n / 10)) (digit (n % 10) ∷ []))
 
-pub begun : (number : ℕ) → number < 18446744073709551616 → Going number (replicate 21 0) 20 number
-begun number fits = record { low = omega arith; high = omega arith; few = omega arith; size = refl; same = append-nil (decimal number) }
+-- a number of 64 bits has at most 20
+pub twenty-digits : (n : ℕ) → n < 18446744073709551616 → length (decimal n) ≤ 20
+twenty-digits n small = few-digits 19 n (ltb n 10) refl (omega arith)
 
--- ten and more needs two places
-two-places : (start rest : ℕ) → 10 ≤ rest → rest < 10 ^ start → 2 ≤ start
-two-places zero rest long few = absurd (omega arith)
-two-places (suc zero) rest long few = absurd (omega arith)
-two-places (suc (suc k)) rest long few = omega arith
+-- one digit less
+less-one : (n : ℕ) → 10 ≤ n → length (decimal n) ≡ length (decimal (n / 10)) + 1
+less-one n long = ap length (decimal-more n long) ∙ length-append (decimal (n / 10)) (digit (n % 10) ∷ [])
 
-fewer : (start rest : ℕ) → 1 ≤ start → rest < 10 ^ start → rest / 10 < 10 ^ (start - 1)
-fewer zero rest low few = absurd (omega arith)
-fewer (suc k) rest low few = rw sub-one (omega arith)
+-- ---- counted
 
-module _ {number start rest : ℕ} {bytes : List ℕ} (going : Going number bytes start rest) where
-  pub above : 10 ≤ rest → 2 ≤ start
-  above long = two-places start rest long (going .few)
+-- the digits that are counted and those still to come, with one counted twice
+pub record Counting (number count rest : ℕ) : Type 0 where
+  pub same : count + length (decimal rest) ≡ length (decimal number) + 1
 
-  pub turned : {character : ℕ} → character ≡ digit (rest % 10) → 10 ≤ rest → Going number (set bytes start character) (start - 1) (rest / 10)
-  turned {character} is long =
-      let two : 2 ≤ start = above long in
-      let inside : start < length bytes = omega (arith, going .size, going .high) in
-      let back : start - 1 + 1 ≡ start = omega arith in
-      record {
-        low = omega arith;
-        high = omega (arith, going .high);
-        few = fewer start rest (going .low) (going .few);
-        size = length-set bytes start character ∙ going .size;
-        same =
-            ap (λ (k : ℕ). decimal (rest / 10) ++ drop k (set bytes start character)) back
-            ∙ ap (λ (l : List ℕ). decimal (rest / 10) ++ l) (drop-set bytes start character inside)
-            ∙ ap (λ (d : ℕ). decimal (rest / 10) ++ d ∷ drop (start + 1) bytes) is
-            ∙ sym (append-assoc (decimal (rest / 10)) (digit (rest % 10) ∷ []) (drop (start + 1) bytes))
-            ∙ ap (λ (l : List ℕ). l ++ drop (start + 1) bytes) (sym (decimal-more rest long))
-            ∙ going .same;
-      }
+pub counting-begun : (number : ℕ) → Counting number 1 number
+counting-begun number = record { same = omega arith }
 
-  pub ended : {character : ℕ} → character ≡ digit rest → rest < 10 → drop start (set bytes start character) ≡ decimal number
-  ended {character} is short =
-      drop-set bytes start character (omega (arith, going .size, going .high))
-      ∙ ap (λ (d : ℕ). d ∷ drop (start + 1) bytes) is
-      ∙ ap (λ (l : List ℕ). l ++ drop (start + 1) bytes) (sym (decimal-one rest short))
-      ∙ going .same
+pub counting-turned : {number count rest : ℕ} → 10 ≤ rest → Counting number count rest → Counting number (count + 1) (rest / 10)
+counting-turned {number} {count} {rest} long counting = record { same = omega (arith, counting .same, less-one rest long) }
 
--- one character more before a piece
-pub preceded : {piece : Piece} {text : List ℕ} (character : ℕ) → Holds piece text → 1 ≤ piece .start
-    → Holds (record { start = piece .start - 1; bytes = set (piece .bytes) (piece .start - 1) character }) (character ∷ text)
-preceded {piece} {text} character holds room =
-    let back : piece .start - 1 + 1 ≡ piece .start = omega arith in
-    record {
-      text-is =
-          drop-set (piece .bytes) (piece .start - 1) character (omega (arith, holds .size, holds .inside))
-          ∙ ap (λ (k : ℕ). character ∷ drop k (piece .bytes)) back
-          ∙ ap (λ (l : List ℕ). character ∷ l) (holds .text-is);
-      size = length-set (piece .bytes) (piece .start - 1) character ∙ holds .size;
-      inside = omega (arith, holds .inside);
-    }
+pub counting-ended : {number count rest : ℕ} → rest < 10 → Counting number count rest → count ≡ length (decimal number)
+counting-ended {number} {count} {rest} short counting = omega (arith, counting .same, ap length (decimal-one rest short))
+
+-- ---- put from the last one forwards
+
+-- a write behind others may come first
+pub behind-first : (out : List ℕ) (at : ℕ) (text : List ℕ) (place byte : ℕ) → at + length text ≤ place → sets (set out place byte) at text ≡ set (sets out at text) place byte
+behind-first out at [] place byte behind = refl
+behind-first out at (a ∷ text) place byte behind =
+    ap (λ (l : List ℕ). sets l (suc at) text) (set-comm out place at byte a (λ same. omega arith))
+    ∙ behind-first (set out at a) (suc at) text place byte (omega arith)
+
+-- the digits still to come, put before those that are written, are the whole number put
+pub record Putting (out₀ : List ℕ) (at number : ℕ) (out : List ℕ) (last rest : ℕ) : Type 0 where
+  pub kept : length out ≡ length out₀
+  pub inside : last < length out₀
+  pub place : last + 1 ≡ at + length (decimal rest)
+  pub same : sets out at (decimal rest) ≡ sets out₀ at (decimal number)
+
+module _ (out₀ : List ℕ) (at number : ℕ) where
+  pub putting-begun : {last : ℕ} → last + 1 ≡ at + length (decimal number) → at + length (decimal number) ≤ length out₀ → Putting out₀ at number out₀ last number
+  putting-begun place fits = record { kept = refl; inside = omega (arith, place); place = place; same = refl }
+
+  module _ {out : List ℕ} {last rest : ℕ} (putting : Putting out₀ at number out last rest) where
+    pub putting-above : 10 ≤ rest → 1 ≤ last
+    putting-above long = omega (arith, putting .place, less-one rest long, some-digit (rest / 10))
+
+    pub putting-turned : {character : ℕ} → character ≡ digit (rest % 10) → 10 ≤ rest → Putting out₀ at number (set out last character) (last - 1) (rest / 10)
+    putting-turned {character} is long =
+        let start : at + length (decimal (rest / 10)) ≡ last = omega (arith, putting .place, less-one rest long) in
+        record {
+          kept = length-set out last character ∙ putting .kept;
+          inside = omega (arith, putting .inside);
+          place = omega (arith, putting .place, putting-above long, less-one rest long);
+          same =
+              behind-first out at (decimal (rest / 10)) last character (omega (arith, start))
+              ∙ ap (λ (c : ℕ). set (sets out at (decimal (rest / 10))) last c) is
+              ∙ ap (λ (k : ℕ). set (sets out at (decimal (rest / 10))) k (digit (rest % 10))) (sym start)
+              ∙ sym (sets-append out at (decimal (rest / 10)) (digit (rest % 10) ∷ []))
+              ∙ ap (sets out at) (sym (decimal-more rest long))
+              ∙ putting .same;
+        }
+
+    pub putting-ended : {character : ℕ} → character ≡ digit rest → rest < 10 → set out last character ≡ sets out₀ at (decimal number)
+    putting-ended {character} is short =
+        let here : last ≡ at = omega (arith, putting .place, ap length (decimal-one rest short)) in
+        ap (set out last) is
+        ∙ ap (λ (k : ℕ). set out k (digit rest)) here
+        ∙ ap (sets out at) (sym (decimal-one rest short))
+        ∙ putting .same

@@ -1,5 +1,5 @@
 -- A line put part by part is the line put at once; and a part in hex.
-use Prim.Native.Nat.{ℕ, _+_, _*_, _≤_, _<_}
+use Prim.Native.Nat.{ℕ, _+_, _-_, _*_, _≤_, _<_}
 use mathlib.Core.Bool.{true, false}
 use mathlib.Core.List.{List, [], _∷_, _++_}
 use mathlib.Core.Path.{_≡_, sym, ap, _∙_}
@@ -12,9 +12,11 @@ use Rattle.slices.proofs.SlicesWrites.{sets-append}
 use Rattle.errors.specs.declared.Refusal.the-variants.{SaveBufferTooShort}
 use Rattle.text.specs.declared.Form.{Form}
 use Rattle.text.specs.declared.LineResult.the-variants.{Line, NoLine}
+use Rattle.text.specs.declared.Room.the-variants.{Left, Short}
 use Rattle.text.specs.Numbers.{hex, filled}
-use Rattle.text.specs.Lines.{formed, line, lined, put-line, hex-count, parted, hex-part}
-use Rattle.text.proofs.Rooms.{line-length}
+use Rattle.text.specs.Pieces.{room-after}
+use Rattle.text.specs.Lines.{formed, line, lined, put-line, measure-line, hex-count, parted, hex-part}
+use Rattle.text.proofs.Rooms.{left-fits, left-is, short-over, line-length}
 
 module _ (out template numbers : List ℕ) (form : Form) (bytes : List ℕ) where
   pub refused : leb (length (line template numbers form bytes)) (length out) ≡ false
@@ -60,6 +62,22 @@ module _ (out template numbers : List ℕ) (form : Form) (bytes : List ℕ) wher
             ap (λ (n : ℕ). lined (Line n) (set after last 10)) counted
             ∙ ap (λ (l : List ℕ). lined (Line (length (line template numbers form bytes))) l) (rw (after-is, last-is, between-is, behind-is) (sym whole))
             ∙ sym put-is
+
+-- a line measured in the largest room
+pub measured : {left : ℕ} (text : List ℕ) → Left left ≡ room-after 18446744073709551615 (length text) → Line (18446744073709551615 - left) ≡ measure-line text
+unfolding measure-line
+measured text answer =
+    rw (left-fits 18446744073709551615 (length text) answer) (ap Line (left-is 18446744073709551615 (length text) answer))
+
+pub not-measured : (text : List ℕ) → Short ≡ room-after 18446744073709551615 (length text) → NoLine SaveBufferTooShort ≡ measure-line text
+unfolding measure-line
+not-measured text answer = rw (short-over 18446744073709551615 (length text) answer)
+
+-- a form in which the bytes look the same makes the same line
+pub same-line : (template numbers bytes : List ℕ) (form other : Form) → ((n : List ℕ) → formed form bytes n ≡ formed other bytes n)
+    → line template numbers form bytes ≡ line template numbers other bytes
+unfolding line
+same-line template numbers bytes form other same = rw (same numbers)
 
 -- the bytes that were counted, in hex
 pub hex-parted : (out bytes : List ℕ) (from : ℕ) {count : ℕ} {part after : List ℕ}

@@ -1,4 +1,5 @@
 pub mod Decimals
+pub mod Escaping
 pub mod Fronts
 pub mod Loops
 pub mod Hexes

@@ -40,16 +40,26 @@ short-then room a b first = by (leb a room) refl
     by true test = absurd (let never : _≡_ {A = ℕ} 0 1 = cc (enough room a test) in omega arith)
     by false test = sym (no-room room a b (leb-false a room test))
 
-abbrev is-left : Room → Bool
-is-left (Left left) = true
-is-left Short = false
-
-test-is : (room size : ℕ) → is-left (room-after room size) ≡ leb size room
-test-is room size = by (leb size room) refl
+-- room that is left tells that a part fits, and how long it is; none that it does not
+pub left-fits : {left : ℕ} (room size : ℕ) → Left left ≡ room-after room size → leb size room ≡ true
+left-fits room size answer = by (leb size room) refl
   where
-    by : (fits : Bool) → leb size room ≡ fits → is-left (room-after room size) ≡ leb size room
-    by true test = ap is-left (enough room size test) ∙ sym test
-    by false test = ap is-left (too-little room size test) ∙ sym test
+    by : (fits : Bool) → leb size room ≡ fits → leb size room ≡ true
+    by true test = test
+    by false test = absurd (let never : _≡_ {A = ℕ} 0 1 = cc (too-little room size test) in omega arith)
+
+pub left-is : {left : ℕ} (room size : ℕ) → Left left ≡ room-after room size → room - left ≡ size
+left-is {left} room size answer =
+    let fits = left-fits room size answer in
+    let is : left ≡ room - size = cc (enough room size fits) in
+    omega (arith, leb-true size room fits)
+
+pub short-over : (room size : ℕ) → Short ≡ room-after room size → leb size room ≡ false
+short-over room size answer = by (leb size room) refl
+  where
+    by : (fits : Bool) → leb size room ≡ fits → leb size room ≡ false
+    by true test = absurd (let never : _≡_ {A = ℕ} 0 1 = cc (enough room size test) in omega arith)
+    by false test = test
 
 module _ (template numbers : List ℕ) (form : Form) (bytes : List ℕ) where
   pub line-length : length (line template numbers form bytes) ≡ length (filled template numbers) + (length (formed form bytes numbers) + 1)
@@ -59,18 +69,16 @@ module _ (template numbers : List ℕ) (form : Form) (bytes : List ℕ) where
       ∙ ap (λ (k : ℕ). length (filled template numbers) + k) (length-append (formed form bytes numbers) (10 ∷ []))
 
   module _ (room : ℕ) where
-    by-room : {answer : Room} → answer ≡ room-after room (length (filled template numbers) + (length (formed form bytes numbers) + 1))
-        → is-left answer ≡ leb (length (line template numbers form bytes)) room
-    by-room is = ap is-left is ∙ test-is room _ ∙ ap (λ (k : ℕ). leb k room) (sym line-length)
+    whole : room-after room (length (filled template numbers) + (length (formed form bytes numbers) + 1)) ≡ room-after room (length (line template numbers form bytes))
+    whole = ap (room-after room) (sym line-length)
 
-    pub no-template : Short ≡ room-after room (length (filled template numbers)) → false ≡ leb (length (line template numbers form bytes)) room
-    no-template short = by-room (short-then room _ _ short)
+    pub no-template : Short ≡ room-after room (length (filled template numbers)) → Short ≡ room-after room (length (line template numbers form bytes))
+    no-template short = short-then room _ _ short ∙ whole
 
     pub no-bytes : {left : ℕ} → Left left ≡ room-after room (length (filled template numbers)) → Short ≡ room-after left (length (formed form bytes numbers))
-        → false ≡ leb (length (line template numbers form bytes)) room
-    no-bytes {left} first short = by-room (short-then left _ 1 short ∙ room-then room _ _ first)
+        → Short ≡ room-after room (length (line template numbers form bytes))
+    no-bytes {left} first short = short-then left _ 1 short ∙ room-then room _ _ first ∙ whole
 
     pub both : {left last : ℕ} → Left left ≡ room-after room (length (filled template numbers)) → Left last ≡ room-after left (length (formed form bytes numbers))
-        → leb 1 last ≡ leb (length (line template numbers form bytes)) room
-    both {left} {last} first second =
-        sym (test-is last 1) ∙ by-room (room-then left _ 1 second ∙ room-then room _ _ first)
+        → room-after last 1 ≡ room-after room (length (line template numbers form bytes))
+    both {left} {last} first second = room-then left _ 1 second ∙ room-then room _ _ first ∙ whole

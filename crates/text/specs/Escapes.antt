@@ -12,9 +12,13 @@ capital n = cond (ltb n 10) (48 + n) (55 + n)
 unfoldable pub is-escaped : Bool → ℕ → Bool
 is-escaped high byte = ltb byte 32 || eqb byte 127 || eqb byte 92 || (high && leb 128 byte)
 
--- a byte: a backslash and two hex digits if it is escaped, else as it is
+-- a backslash and two hex digits
+abbrev pub escape : ℕ → List ℕ
+escape byte = 92 ∷ capital (byte / 16) ∷ capital (byte % 16) ∷ []
+
+-- a byte, escaped or as it is
 unfoldable pub shown : Bool → ℕ → List ℕ
-shown high byte = cond (is-escaped high byte) (92 ∷ capital (byte / 16) ∷ capital (byte % 16) ∷ []) (byte ∷ [])
+shown high byte = cond (is-escaped high byte) (escape byte) (byte ∷ [])
 
 -- bytes, one after the other
 unfoldable pub escaped : Bool → List ℕ → List ℕ

@@ -1,17 +1,18 @@
 -- A line of text, and a lent buffer after it was put there.
 use Prim.Native.Nat.{ℕ, _+_, _-_, _*_, _/_, min}
-use mathlib.Core.Bool.{cond}
+use mathlib.Core.Bool.{Bool, true, false, cond}
 use mathlib.Core.List.{List, [], _∷_, _++_}
 use lib.ListN.{length, take, drop}
 use lib.Seq.{sets}
 use lib.Dec.{leb}
 use Rattle.errors.specs.declared.Refusal.the-variants.{SaveBufferTooShort}
 use Rattle.text.specs.declared.Form.{Form}
-use Rattle.text.specs.declared.Form.the-variants.{Plain, Hex, Spaced, Filled}
+use Rattle.text.specs.declared.Form.the-variants.{Plain, Hex, Spaced, Filled, Escaped, Ascii}
 use Rattle.text.specs.declared.LineResult.{LineResult}
 use Rattle.text.specs.declared.LineResult.the-variants.{Line, NoLine}
 use Rattle.text.specs.declared.HexPart.{HexPart}
 use Rattle.text.specs.Numbers.{hex, spaced, words, filled}
+use Rattle.text.specs.Escapes.{escaped}
 
 -- bytes in a form
 unfoldable pub formed : Form → List ℕ → List ℕ → List ℕ
@@ -19,6 +20,8 @@ formed Plain bytes numbers = bytes
 formed Hex bytes numbers = hex bytes
 formed Spaced bytes numbers = spaced (words bytes)
 formed Filled bytes numbers = filled bytes numbers
+formed Escaped bytes numbers = escaped false bytes
+formed Ascii bytes numbers = escaped true bytes
 
 -- a line: a template with its numbers, then bytes in a form, then one line feed
 unfoldable pub line : List ℕ → List ℕ → Form → List ℕ → List ℕ
@@ -40,6 +43,15 @@ lined answer out = record { answer = answer; out = out }
 unfoldable pub put-line : List ℕ → List ℕ → Lined
 put-line out text =
     cond (leb (length text) (length out)) (lined (Line (length text)) (sets out 0 text)) (lined (NoLine SaveBufferTooShort) out)
+
+-- a line measured: its length, where a number of 64 bits holds it; else 24
+unfoldable pub measure-line : List ℕ → LineResult
+measure-line text = cond (leb (length text) 18446744073709551615) (Line (length text)) (NoLine SaveBufferTooShort)
+
+-- a line put at a buffer's start, or only measured
+unfoldable pub tell-line : Bool → List ℕ → List ℕ → Lined
+tell-line true out text = put-line out text
+tell-line false out text = lined (measure-line text) out
 
 -- how many bytes from a place on a buffer holds in hex
 unfoldable pub hex-count : List ℕ → List ℕ → ℕ → ℕ

@@ -1,16 +1,19 @@
-// Lines of text in a lent buffer: templates filled with numbers, and bytes as they are, in hex, or as numbers.
+// Lines of text in a lent buffer: templates filled with numbers, and bytes as they are, escaped, in hex, or as numbers.
+mod escapes;
 pub mod hex;
 pub mod lines;
 mod pieces;
 
 use errors::Refusal;
 
-// How bytes are shown: as they are, in hex, as numbers of 4 bytes with a space before each, or as a template.
+// How bytes are shown: as they are, in hex, as numbers of 4 bytes with a space before each, as a template, or escaped: as UTF-8, or as ASCII alone.
 pub enum Form {
     Plain,
     Hex,
     Spaced,
     Filled,
+    Escaped,
+    Ascii,
 }
 
 // What putting a line answers: its length.
@@ -25,10 +28,20 @@ pub struct HexPart {
     pub next: usize,
 }
 
-// A short text, at the end of its bytes.
-struct Piece {
-    start: usize,
-    bytes: [u8; 21],
+// How a text is cut into pieces: numbers of 4 bytes, a template, or bytes that are escaped: as UTF-8, or as ASCII alone.
+enum Cut {
+    Spaced,
+    Filled,
+    Escaped,
+    Ascii,
+}
+
+// A piece of a text: a byte as it is or escaped, a number in decimal, or one with a space before it.
+enum Piece {
+    Byte(u8),
+    Escape(u8),
+    Number(u64),
+    Spaced(u64),
 }
 
 // The piece at the front of a text, and where the rest of it starts.

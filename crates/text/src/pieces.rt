@@ -1,14 +1,17 @@
 // Pieces of a text: a byte, or a number in decimal; measured one after the other, and put one after the other.
 ghost use mathlib.Core.Path.{_≡_};
-ghost use mathlib.Core.List.{[], _∷_};
 ghost use Prim.Native.Nat.{_+_, _*_, _≤_, _<_};
 ghost use lib.ListN.{length, getD, drop};
 ghost use lib.Seq.{sets};
 ghost use Rattle.text.specs.Numbers.{digit, decimal};
-ghost use Rattle.text.specs.Pieces.{pieces, width, Holds, Front, room-after};
+ghost use Rattle.text.specs.declared.Cut.the-variants.{Filled};
+ghost use Rattle.text.specs.Pieces.{pieces, width, text-of, Front, room-after};
+use crate::Cut;
 use crate::Piece;
 use crate::Room;
 use crate::Turn;
+use crate::escapes::put_escape;
+use crate::escapes::shown;
 
 // The character of a digit.
 pub(crate) fn digit(n: u64) -> u8
@@ -21,40 +24,34 @@ pub(crate) fn digit(n: u64) -> u8
     87 + n as u8
 }
 
-// A byte as it is.
-fn single(byte: u8) -> Piece
-    ensures { λ r. ⌜ Holds r (byte ∷ []) ⌝ }
+// How many digits a number has.
+fn digit_count(number: u64) -> usize
+    ensures { λ r. ⌜ (r ≡ length (decimal number)) × (r ≤ 20) ⌝ }
 {
-    let mut bytes = [0u8; 21];
-    bytes[20] = byte;
-    Piece { start: 20, bytes }
-}
-
-// A number in decimal.
-fn decimal(number: u64) -> Piece
-    ensures { λ r. ⌜ Holds r (decimal number) × (1 ≤ r .start) ⌝ }
-{
-    let mut bytes = [0u8; 21];
-    let mut start: usize = 20;
+    let mut count = 1;
     let mut rest = number;
     while 10 <= rest {
-        bytes[start] = digit(rest % 10);
         rest = rest / 10;
-        start -= 1;
+        count += 1;
     }
-    bytes[start] = digit(rest);
-    Piece { start, bytes }
+    count
 }
 
-// A number in decimal, a space before it.
-fn spaced(number: u64) -> Piece
-    ensures { λ r. ⌜ Holds r (32 ∷ decimal number) ⌝ }
+// Puts a number in decimal at a place of a buffer that holds it, and answers the place behind it.
+fn put_decimal(out: &mut [u8], at: usize, number: u64) -> usize
+    requires { ⌜ at + length (decimal number) ≤ length (now out) ⌝ }
+    ensures { λ r. ⌜ (r ≡ at + length (decimal number)) × (now (out .exit) ≡ sets (now (out .entry)) at (decimal number)) ⌝ }
 {
-    let shown = decimal(number);
-    let start = shown.start - 1;
-    let mut bytes = shown.bytes;
-    bytes[start] = b' ';
-    Piece { start, bytes }
+    let behind = at + digit_count(number);
+    let mut last = behind - 1;
+    let mut rest = number;
+    while 10 <= rest {
+        out[last] = digit(rest % 10);
+        rest = rest / 10;
+        last -= 1;
+    }
+    out[last] = digit(rest);
+    behind
 }
 
 // A byte as a number.
@@ -95,41 +92,73 @@ fn behind(numbers: &[u64], used: usize) -> usize
     used
 }
 
-// The piece at the front of a text, from a place on and with so many numbers used.
-fn turn(is_spaced: bool, bytes: &[u8], numbers: &[u64], place: usize, used: usize) -> Turn
-    requires { ⌜ place + width «is_spaced» ≤ length (now bytes) ⌝ }
-    ensures { λ r. ⌜ Front «is_spaced» (now (bytes .entry)) (now (numbers .entry)) place used r ⌝ }
+// The piece at the front of a template, from a place on and with so many numbers used.
+fn filled_turn(bytes: &[u8], numbers: &[u64], place: usize, used: usize) -> Turn
+    requires { ⌜ place < length (now bytes) ⌝ }
+    ensures { λ r. ⌜ Front Filled (now (bytes .entry)) (now (numbers .entry)) place used r ⌝ }
 {
-    if is_spaced {
-        return Turn {
-            piece: spaced(number_at(bytes, place)),
-            place: place + 4,
-            used,
-        };
-    }
     let byte = bytes[place];
     if byte == b'#' {
         return Turn {
-            piece: decimal(number_or_zero(numbers, used)),
+            piece: Piece::Number(number_or_zero(numbers, used)),
             place: place + 1,
             used: behind(numbers, used),
         };
     }
     Turn {
-        piece: single(byte),
+        piece: Piece::Byte(byte),
         place: place + 1,
         used,
     }
 }
 
-// How many bytes a piece takes.
-fn width(is_spaced: bool) -> usize
-    ensures { λ r. ⌜ r ≡ width «is_spaced» ⌝ }
+// The piece at the front of a text, from a place on and with so many numbers used.
+fn turn(cut: Cut, bytes: &[u8], numbers: &[u64], place: usize, used: usize) -> Turn
+    requires { ⌜ place + width cut ≤ length (now bytes) ⌝ }
+    ensures { λ r. ⌜ Front cut (now (bytes .entry)) (now (numbers .entry)) place used r ⌝ }
 {
-    if is_spaced {
-        return 4;
+    match cut {
+        Cut::Spaced => Turn {
+            piece: Piece::Spaced(number_at(bytes, place)),
+            place: place + 4,
+            used,
+        },
+        Cut::Filled => filled_turn(bytes, numbers, place, used),
+        Cut::Escaped => Turn {
+            piece: shown(false, bytes[place]),
+            place: place + 1,
+            used,
+        },
+        Cut::Ascii => Turn {
+            piece: shown(true, bytes[place]),
+            place: place + 1,
+            used,
+        },
     }
-    1
+}
+
+// How many bytes a piece takes.
+fn width(cut: Cut) -> usize
+    ensures { λ r. ⌜ r ≡ width cut ⌝ }
+{
+    match cut {
+        Cut::Spaced => 4,
+        Cut::Filled => 1,
+        Cut::Escaped => 1,
+        Cut::Ascii => 1,
+    }
+}
+
+// How long a piece is.
+fn size_of(piece: Piece) -> usize
+    ensures { λ r. ⌜ r ≡ length (text-of piece) ⌝ }
+{
+    match piece {
+        Piece::Byte(_) => 1,
+        Piece::Escape(_) => 3,
+        Piece::Number(number) => digit_count(number),
+        Piece::Spaced(number) => 1 + digit_count(number),
+    }
 }
 
 // The room behind so many bytes.
@@ -143,16 +172,17 @@ pub(crate) fn room_after(room: usize, size: usize) -> Room
 }
 
 // The room behind a text in pieces.
-pub(crate) fn measure_pieces(room: usize, is_spaced: bool, bytes: &[u8], numbers: &[u64]) -> Room
-    ensures { λ r. ⌜ r ≡ room-after room (length (pieces «is_spaced» (now (bytes .entry)) (now (numbers .entry)))) ⌝ }
+pub(crate) fn measure_pieces(room: usize, cut: Cut, bytes: &[u8], numbers: &[u64]) -> Room
+    ensures { λ r. ⌜ r ≡ room-after room (length (pieces cut (now (bytes .entry)) (now (numbers .entry)))) ⌝ }
 {
-    let step = width(is_spaced);
+    let step = width(cut);
     let mut left = room;
     let mut place = 0;
     let mut used = 0;
     while step <= bytes.len() - place {
-        let front = turn(is_spaced, bytes, numbers, place, used);
-        let size = 21 - front.piece.start;
+        let front = turn(cut, bytes, numbers, place, used);
+        let piece = front.piece;
+        let size = size_of(piece);
         if left < size {
             return Room::Short;
         }
@@ -165,33 +195,44 @@ pub(crate) fn measure_pieces(room: usize, is_spaced: bool, bytes: &[u8], numbers
 
 // Puts a piece at a place of a buffer that holds it, and answers the place behind it.
 fn put_piece(out: &mut [u8], at: usize, piece: Piece) -> usize
-    requires { ⌜ at + length (drop (piece .start) (piece .bytes)) ≤ length (now out) ⌝ }
-    ensures { λ r. ⌜ (r ≡ at + length (drop (piece .start) (piece .bytes))) × (now (out .exit) ≡ sets (now (out .entry)) at (drop (piece .start) (piece .bytes))) ⌝ }
+    requires { ⌜ at + length (text-of piece) ≤ length (now out) ⌝ }
+    ensures { λ r. ⌜ (r ≡ at + length (text-of piece)) × (now (out .exit) ≡ sets (now (out .entry)) at (text-of piece)) ⌝ }
 {
-    let start = piece.start;
-    let held = piece.bytes;
-    let text = slices::part(&held, start, 21);
-    slices::writes::write(out, text, at);
-    at + text.len()
+    match piece {
+        Piece::Byte(byte) => {
+            out[at] = byte;
+            return at + 1;
+        }
+        Piece::Escape(byte) => {
+            return put_escape(out, at, byte);
+        }
+        Piece::Number(number) => {
+            return put_decimal(out, at, number);
+        }
+        Piece::Spaced(number) => {
+            out[at] = b' ';
+            return put_decimal(out, at + 1, number);
+        }
+    }
 }
 
 // Puts a text in pieces at a place of a buffer that holds it, and answers the place behind it.
 pub(crate) fn put_pieces(
     out: &mut [u8],
     at: usize,
-    is_spaced: bool,
+    cut: Cut,
     bytes: &[u8],
     numbers: &[u64],
 ) -> usize
-    requires { ⌜ at + length (pieces «is_spaced» (now bytes) (now numbers)) ≤ length (now out) ⌝ }
-    ensures { λ r. ⌜ (r ≡ at + length (pieces «is_spaced» (now (bytes .entry)) (now (numbers .entry)))) × (now (out .exit) ≡ sets (now (out .entry)) at (pieces «is_spaced» (now (bytes .entry)) (now (numbers .entry)))) ⌝ }
+    requires { ⌜ at + length (pieces cut (now bytes) (now numbers)) ≤ length (now out) ⌝ }
+    ensures { λ r. ⌜ (r ≡ at + length (pieces cut (now (bytes .entry)) (now (numbers .entry)))) × (now (out .exit) ≡ sets (now (out .entry)) at (pieces cut (now (bytes .entry)) (now (numbers .entry)))) ⌝ }
 {
-    let step = width(is_spaced);
+    let step = width(cut);
     let mut behind = at;
     let mut place = 0;
     let mut used = 0;
     while step <= bytes.len() - place {
-        let front = turn(is_spaced, bytes, numbers, place, used);
+        let front = turn(cut, bytes, numbers, place, used);
         let piece = front.piece;
         behind = put_piece(out, behind, piece);
         place = front.place;

@@ -5,16 +5,16 @@ use Rattle.listing.proofs.say.Statement.{statement}
 use Rattle.listing.proofs.say.Tie as tie
 use Rattle.listing.proofs.say.Reads as reads
 use Rattle.listing.proofs.say.Lts as lts
-use Rattle.text.proofs.lines.put_line.Reads as put-line-reads
+use Rattle.text.proofs.lines.tell_line.Reads as tell-line-reads
 
-slice-aggregate-put-line : tie.Need-slice-aggregate-put-line
-slice-aggregate-put-line c = search needs
+slice-aggregate-tell-line : tie.Need-slice-aggregate-tell-line
+slice-aggregate-tell-line c = search needs
 
-slice-aggregate-put-line-2 : tie.Need-slice-aggregate-put-line-2
-slice-aggregate-put-line-2 c = search needs
+slice-aggregate-tell-line-2 : tie.Need-slice-aggregate-tell-line-2
+slice-aggregate-tell-line-2 c = search needs
 
-put-line-requires : tie.Need-put-line-requires
-put-line-requires c κs = search needs
+tell-line-requires : tie.Need-tell-line-requires
+tell-line-requires c κs = search needs
 
 same-length : tie.Need-same-length
 same-length c = search needs
@@ -22,14 +22,14 @@ same-length c = search needs
 returns : tie.Need-returns
 unfolding said
 returns c =
-    c .before .before .put-line .ensures
+    c .before .before .tell-line .ensures
 
 pub say-spec : {M : Type 1} → statement M
 say-spec =
     tie.close
     (tie.spec
-    slice-aggregate-put-line
-    slice-aggregate-put-line-2
-    put-line-requires
+    slice-aggregate-tell-line
+    slice-aggregate-tell-line-2
+    tell-line-requires
     same-length
     returns)

@@ -1,7 +1,7 @@
 -- `listing::head_line::refusal_line` meets its contract.
 use mathlib.Core.Path.{ap, _∙_}
 use Rattle.text.specs.Ascii.{ascii}
-use Rattle.text.specs.Lines.{put-line}
+use Rattle.text.specs.Lines.{tell-line}
 use Rattle.listing.proofs.Forms.{refused-plain, refused-one, refused-two}
 use borrow.Author.Needs.{needs}
 use Rattle.listing.proofs.head_line.refusal_line.Statement.{statement}
@@ -11,7 +11,7 @@ use Rattle.listing.proofs.head_line.refusal_line.Lts as lts
 use Rattle.errors.proofs.details_of.Reads as details-of-reads
 use Rattle.errors.proofs.number_of.Reads as number-of-reads
 use Rattle.listing.proofs.say.Reads as say-reads
-use Rattle.text.proofs.lines.put_line.Reads as put-line-reads
+use Rattle.text.proofs.lines.tell_line.Reads as tell-line-reads
 
 number-of-requires : tie.Need-number-of-requires
 number-of-requires c κs = search needs
@@ -34,32 +34,32 @@ say-requires c κs = search needs
 enum-known-detail : tie.Need-enum-known-detail
 enum-known-detail c = search needs
 
-slice-aggregate-put-line : tie.Need-slice-aggregate-put-line
-slice-aggregate-put-line c = search needs
+slice-aggregate-tell-line : tie.Need-slice-aggregate-tell-line
+slice-aggregate-tell-line c = search needs
 
-slice-aggregate-put-line-2 : tie.Need-slice-aggregate-put-line-2
-slice-aggregate-put-line-2 c = search needs
+slice-aggregate-tell-line-2 : tie.Need-slice-aggregate-tell-line-2
+slice-aggregate-tell-line-2 c = search needs
 
-slice-aggregate-put-line-3 : tie.Need-slice-aggregate-put-line-3
-slice-aggregate-put-line-3 c = search needs
+slice-aggregate-tell-line-3 : tie.Need-slice-aggregate-tell-line-3
+slice-aggregate-tell-line-3 c = search needs
 
-put-line-requires : tie.Need-put-line-requires
-put-line-requires c κs = search needs
+tell-line-requires : tie.Need-tell-line-requires
+tell-line-requires c κs = search needs
 
 enum-known-detail-2 : tie.Need-enum-known-detail-2
 enum-known-detail-2 c = search needs
 
-slice-aggregate-put-line-4 : tie.Need-slice-aggregate-put-line-4
-slice-aggregate-put-line-4 c = search needs
+slice-aggregate-tell-line-4 : tie.Need-slice-aggregate-tell-line-4
+slice-aggregate-tell-line-4 c = search needs
 
-slice-aggregate-put-line-5 : tie.Need-slice-aggregate-put-line-5
-slice-aggregate-put-line-5 c = search needs
+slice-aggregate-tell-line-5 : tie.Need-slice-aggregate-tell-line-5
+slice-aggregate-tell-line-5 c = search needs
 
-slice-aggregate-put-line-6 : tie.Need-slice-aggregate-put-line-6
-slice-aggregate-put-line-6 c = search needs
+slice-aggregate-tell-line-6 : tie.Need-slice-aggregate-tell-line-6
+slice-aggregate-tell-line-6 c = search needs
 
-put-line-requires-2 : tie.Need-put-line-requires-2
-put-line-requires-2 c κs = search needs
+tell-line-requires-2 : tie.Need-tell-line-requires-2
+tell-line-requires-2 c κs = search needs
 
 same-length : tie.Need-same-length
 same-length c = search needs
@@ -69,7 +69,7 @@ unfolding ascii
 returns c =
     let start = c .before .before .before .before .before .before .before .before .before .before in
     c .before .before .say .ensures
-    ∙ ap (put-line (start .args .out .now)) (refused-plain (start .args .refusal) (c .before .before .before .before .before .before .before .before .number-of .ensures) (c .before .before .before .before .before .before .before .details-of .ensures) (c .before .before .before .before .before .enum-told .given .1))
+    ∙ ap (tell-line (start .args .writes) (start .args .out .now)) (refused-plain (start .args .refusal) (c .before .before .before .before .before .before .before .before .number-of .ensures) (c .before .before .before .before .before .before .before .details-of .ensures) (c .before .before .before .before .before .enum-told .given .1))
 
 same-length-2 : tie.Need-same-length-2
 same-length-2 c = search needs
@@ -78,8 +78,8 @@ returns-2 : tie.Need-returns-2
 unfolding ascii
 returns-2 c =
     let start = c .before .before .before .before .before .before .before .before .before .before .before .before .before in
-    c .before .before .put-line .ensures
-    ∙ ap (put-line (start .args .out .now)) (refused-one (start .args .refusal) (c .before .before .before .before .before .before .before .before .before .before .before .number-of .ensures) (c .before .before .before .before .before .before .before .before .before .before .details-of .ensures) (c .before .before .before .before .before .before .before .before .detail .given .1))
+    c .before .before .tell-line .ensures
+    ∙ ap (tell-line (start .args .writes) (start .args .out .now)) (refused-one (start .args .refusal) (c .before .before .before .before .before .before .before .before .before .before .before .number-of .ensures) (c .before .before .before .before .before .before .before .before .before .before .details-of .ensures) (c .before .before .before .before .before .before .before .before .detail .given .1))
 
 same-length-3 : tie.Need-same-length-3
 same-length-3 c = search needs
@@ -88,8 +88,8 @@ returns-3 : tie.Need-returns-3
 unfolding ascii
 returns-3 c =
     let start = c .before .before .before .before .before .before .before .before .before .before .before .before .before in
-    c .before .before .put-line2 .ensures
-    ∙ ap (put-line (start .args .out .now)) (refused-two (start .args .refusal) (c .before .before .before .before .before .before .before .before .before .before .before .number-of .ensures) (c .before .before .before .before .before .before .before .before .before .before .details-of .ensures) (c .before .before .before .before .before .before .before .before .detail2 .given .1))
+    c .before .before .tell-line2 .ensures
+    ∙ ap (tell-line (start .args .writes) (start .args .out .now)) (refused-two (start .args .refusal) (c .before .before .before .before .before .before .before .before .before .before .before .number-of .ensures) (c .before .before .before .before .before .before .before .before .before .before .details-of .ensures) (c .before .before .before .before .before .before .before .before .detail2 .given .1))
 
 pub refusal-line-spec : {M : Type 1} → statement M
 refusal-line-spec =
@@ -102,15 +102,15 @@ refusal-line-spec =
     slice-aggregate-say
     say-requires
     enum-known-detail
-    slice-aggregate-put-line
-    slice-aggregate-put-line-2
-    slice-aggregate-put-line-3
-    put-line-requires
+    slice-aggregate-tell-line
+    slice-aggregate-tell-line-2
+    slice-aggregate-tell-line-3
+    tell-line-requires
     enum-known-detail-2
-    slice-aggregate-put-line-4
-    slice-aggregate-put-line-5
-    slice-aggregate-put-line-6
-    put-line-requires-2
+    slice-aggregate-tell-line-4
+    slice-aggregate-tell-line-5
+    slice-aggregate-tell-line-6
+    tell-line-requires-2
     same-length
     returns
     same-length-2

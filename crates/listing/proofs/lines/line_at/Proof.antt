@@ -1,6 +1,6 @@
 -- `listing::lines::line_at` meets its contract.
 use mathlib.Core.Path.{ap, _∙_}
-use Rattle.text.specs.Lines.{put-line}
+use Rattle.text.specs.Lines.{put-line, tell-line}
 use Rattle.listing.proofs.LineByLine.{past-two, past-all, by-first, by-second, by-value, by-count, by-task}
 use borrow.Author.Needs.{needs}
 use Rattle.listing.proofs.lines.line_at.Statement.{statement}
@@ -13,6 +13,7 @@ same-length : tie.Need-same-length
 same-length c = search needs
 
 returns : tie.Need-returns
+unfolding tell-line
 returns c =
     c .before .before .head-line .ensures
     ∙ ap (put-line _) (by-first _ _ _ _ _ _ _ _ _ (c .before .before .before .before .if1 .taken))
@@ -24,6 +25,7 @@ same-length-2 : tie.Need-same-length-2
 same-length-2 c = search needs
 
 returns-2 : tie.Need-returns-2
+unfolding tell-line
 returns-2 c =
     c .before .before .count-line .ensures
     ∙ ap (put-line _) (by-second _ _ _ _ _ _ _ _ _ (c .before .before .before .before .if2 .taken))
@@ -47,6 +49,7 @@ same-length-3 : tie.Need-same-length-3
 same-length-3 c = search needs
 
 returns-3 : tie.Need-returns-3
+unfolding tell-line
 returns-3 c =
     let test = c .before .before .before .before .before .before in
     c .before .before .value-line .ensures
@@ -59,6 +62,7 @@ same-length-4 : tie.Need-same-length-4
 same-length-4 c = search needs
 
 returns-4 : tie.Need-returns-4
+unfolding tell-line
 returns-4 c =
     let test = c .before .before .before .before in
     c .before .before .count-line2 .ensures
@@ -71,6 +75,7 @@ same-length-5 : tie.Need-same-length-5
 same-length-5 c = search needs
 
 returns-5 : tie.Need-returns-5
+unfolding tell-line
 returns-5 c =
     let test = c .before .before .before .before in
     c .before .before .task-line .ensures

@@ -11,7 +11,7 @@ use Rattle.listing.proofs.value_line.bool_line.Reads as bool-line-reads
 use Rattle.listing.proofs.value_line.numbers_line.Reads as numbers-line-reads
 use Rattle.listing.proofs.say.Reads as say-reads
 use Rattle.listing.proofs.value_line.say_only.Reads as say-only-reads
-use Rattle.text.proofs.lines.put_line.Reads as put-line-reads
+use Rattle.text.proofs.lines.tell_line.Reads as tell-line-reads
 
 enum-known-kind : tie.Need-enum-known-kind
 enum-known-kind c = search needs
@@ -34,26 +34,26 @@ bool-line-requires c κs = search needs
 enum-told : tie.Need-enum-told
 enum-told c = search needs
 
-slice-aggregate-put-line : tie.Need-slice-aggregate-put-line
-slice-aggregate-put-line c = search needs
+slice-aggregate-tell-line : tie.Need-slice-aggregate-tell-line
+slice-aggregate-tell-line c = search needs
 
-slice-aggregate-put-line-2 : tie.Need-slice-aggregate-put-line-2
-slice-aggregate-put-line-2 c = search needs
+slice-aggregate-tell-line-2 : tie.Need-slice-aggregate-tell-line-2
+slice-aggregate-tell-line-2 c = search needs
 
-put-line-requires : tie.Need-put-line-requires
-put-line-requires c κs = search needs
+tell-line-requires : tie.Need-tell-line-requires
+tell-line-requires c κs = search needs
 
 enum-told-2 : tie.Need-enum-told-2
 enum-told-2 c = search needs
 
-slice-aggregate-put-line-3 : tie.Need-slice-aggregate-put-line-3
-slice-aggregate-put-line-3 c = search needs
+slice-aggregate-tell-line-3 : tie.Need-slice-aggregate-tell-line-3
+slice-aggregate-tell-line-3 c = search needs
 
-slice-aggregate-put-line-4 : tie.Need-slice-aggregate-put-line-4
-slice-aggregate-put-line-4 c = search needs
+slice-aggregate-tell-line-4 : tie.Need-slice-aggregate-tell-line-4
+slice-aggregate-tell-line-4 c = search needs
 
-put-line-requires-2 : tie.Need-put-line-requires-2
-put-line-requires-2 c κs = search needs
+tell-line-requires-2 : tie.Need-tell-line-requires-2
+tell-line-requires-2 c κs = search needs
 
 enum-told-3 : tie.Need-enum-told-3
 enum-told-3 c = search needs
@@ -107,7 +107,7 @@ same-length-3 c = search needs
 returns-3 : tie.Need-returns-3
 unfolding line-of-value ascii
 returns-3 c =
-    rw (c .before .before .before .before .before .before .enum-told .given .1) (c .before .before .put-line .ensures)
+    rw (c .before .before .before .before .before .before .enum-told .given .1) (c .before .before .tell-line .ensures)
 
 same-length-4 : tie.Need-same-length-4
 same-length-4 c = search needs
@@ -115,7 +115,7 @@ same-length-4 c = search needs
 returns-4 : tie.Need-returns-4
 unfolding line-of-value ascii
 returns-4 c =
-    rw (c .before .before .before .before .before .before .enum-told2 .given .1) (c .before .before .put-line2 .ensures)
+    rw (c .before .before .before .before .before .before .enum-told2 .given .1) (c .before .before .tell-line2 .ensures)
 
 same-length-5 : tie.Need-same-length-5
 same-length-5 c = search needs
@@ -152,13 +152,13 @@ read-line-spec =
     enum-known-kind-2
     bool-line-requires
     enum-told
-    slice-aggregate-put-line
-    slice-aggregate-put-line-2
-    put-line-requires
+    slice-aggregate-tell-line
+    slice-aggregate-tell-line-2
+    tell-line-requires
     enum-told-2
-    slice-aggregate-put-line-3
-    slice-aggregate-put-line-4
-    put-line-requires-2
+    slice-aggregate-tell-line-3
+    slice-aggregate-tell-line-4
+    tell-line-requires-2
     enum-told-3
     numbers-line-requires
     enum-told-4

@@ -46,6 +46,18 @@ enum-told-5 c = search needs
 measure-pieces-requires-2 : tie.Need-measure-pieces-requires-2
 measure-pieces-requires-2 c κs = search needs
 
+enum-told-6 : tie.Need-enum-told-6
+enum-told-6 c = search needs
+
+measure-pieces-requires-3 : tie.Need-measure-pieces-requires-3
+measure-pieces-requires-3 c κs = search needs
+
+enum-told-7 : tie.Need-enum-told-7
+enum-told-7 c = search needs
+
+measure-pieces-requires-4 : tie.Need-measure-pieces-requires-4
+measure-pieces-requires-4 c κs = search needs
+
 returns : tie.Need-returns
 unfolding formed pieces
 returns c =
@@ -75,6 +87,16 @@ unfolding formed pieces
 returns-5 c =
     simp (← c .measure-pieces2 .ensures, c .before .enum-told5 .given .1)
 
+returns-6 : tie.Need-returns-6
+unfolding formed pieces
+returns-6 c =
+    simp (← c .measure-pieces3 .ensures, c .before .enum-told6 .given .1)
+
+returns-7 : tie.Need-returns-7
+unfolding formed pieces
+returns-7 c =
+    simp (← c .measure-pieces4 .ensures, c .before .enum-told7 .given .1)
+
 pub measure-spec : {M : Type 1} → statement M
 measure-spec =
     tie.close
@@ -90,8 +112,14 @@ measure-spec =
     measure-pieces-requires
     enum-told-5
     measure-pieces-requires-2
+    enum-told-6
+    measure-pieces-requires-3
+    enum-told-7
+    measure-pieces-requires-4
     returns
     returns-2
     returns-3
     returns-4
-    returns-5)
+    returns-5
+    returns-6
+    returns-7)

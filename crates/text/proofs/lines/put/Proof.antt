@@ -94,6 +94,38 @@ unfolding formed pieces
 returns-4 c =
     rw (c .before .before .before .before .enum-told4 .given .1) (c .before .before .put-pieces2 .ensures)
 
+enum-told-5 : tie.Need-enum-told-5
+enum-told-5 c = search needs
+
+put-pieces-requires-3 : tie.Need-put-pieces-requires-3
+unfolding formed pieces
+put-pieces-requires-3 c κs =
+    rw (c .before .enum-told5 .given .1) at (c .before .before .before .before .before .before .pre)
+
+same-length-5 : tie.Need-same-length-5
+same-length-5 c = search needs
+
+returns-5 : tie.Need-returns-5
+unfolding formed pieces
+returns-5 c =
+    rw (c .before .before .before .before .enum-told5 .given .1) (c .before .before .put-pieces3 .ensures)
+
+enum-told-6 : tie.Need-enum-told-6
+enum-told-6 c = search needs
+
+put-pieces-requires-4 : tie.Need-put-pieces-requires-4
+unfolding formed pieces
+put-pieces-requires-4 c κs =
+    rw (c .before .enum-told6 .given .1) at (c .before .before .before .before .before .before .pre)
+
+same-length-6 : tie.Need-same-length-6
+same-length-6 c = search needs
+
+returns-6 : tie.Need-returns-6
+unfolding formed pieces
+returns-6 c =
+    rw (c .before .before .before .before .enum-told6 .given .1) (c .before .before .put-pieces4 .ensures)
+
 pub put-spec : {M : Type 1} → statement M
 put-spec =
     tie.close
@@ -116,4 +148,12 @@ put-spec =
     enum-told-4
     put-pieces-requires-2
     same-length-4
-    returns-4)
+    returns-4
+    enum-told-5
+    put-pieces-requires-3
+    same-length-5
+    returns-5
+    enum-told-6
+    put-pieces-requires-4
+    same-length-6
+    returns-6)

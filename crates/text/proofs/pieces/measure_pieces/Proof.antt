@@ -8,10 +8,10 @@ use Rattle.text.proofs.pieces.measure_pieces.Statement.{statement}
 use Rattle.text.proofs.pieces.measure_pieces.Tie as tie
 
 abbrev Inv-loop : tie.InvT-loop
-Inv-loop room is-spaced bytes numbers step left₀ place₀ used₀ left place used = Measured is-spaced bytes numbers room left place used
+Inv-loop room cut bytes numbers step left₀ place₀ used₀ left place used = Measured cut bytes numbers room left place used
 
 abbrev μ-loop : tie.MeasureT-loop
-μ-loop room is-spaced bytes numbers step left₀ place₀ used₀ left place used = length bytes - place
+μ-loop room cut bytes numbers step left₀ place₀ used₀ left place used = length bytes - place
 
 width-requires : tie.Need-width-requires Inv-loop μ-loop
 width-requires c κs = search needs
@@ -25,12 +25,12 @@ sub-loop c = c .loop .inv .inside
 turn-requires : tie.Need-turn-requires Inv-loop μ-loop
 turn-requires c κs = omega (arith, c .loop-test .taken, c .before .loop .inv .inside, c .before .before .width .ensures)
 
-sub-size : tie.Need-sub-size Inv-loop μ-loop
-sub-size c = omega (arith, c .before .turn .ensures .holds .inside)
+size-of-requires : tie.Need-size-of-requires Inv-loop μ-loop
+size-of-requires c κs = search needs
 
 returns : tie.Need-returns Inv-loop μ-loop
 returns c =
-    measured-short _ _ _ (c .before .before .turn .ensures) (c .before .before .before .before .loop .inv) (c .if1 .taken)
+    measured-short _ _ _ (c .before .before .turn .ensures) (c .before .size-of .ensures) (c .before .before .before .before .loop .inv) (c .if1 .taken)
 
 loop-less : tie.Need-loop-less Inv-loop μ-loop
 loop-less c =
@@ -38,7 +38,7 @@ loop-less c =
 
 loop-again : tie.Need-loop-again Inv-loop μ-loop
 loop-again c =
-    measured-turn _ _ _ (c .before .before .turn .ensures) (c .before .before .before .before .loop .inv) (c .if1 .left)
+    measured-turn _ _ _ (c .before .before .turn .ensures) (c .before .size-of .ensures) (c .before .before .before .before .loop .inv) (c .if1 .left)
 
 returns-2 : tie.Need-returns-2 Inv-loop μ-loop
 returns-2 c =
@@ -54,7 +54,7 @@ measure-pieces-spec =
     loop-holds
     sub-loop
     turn-requires
-    sub-size
+    size-of-requires
     returns
     loop-less
     loop-again

@@ -8,10 +8,10 @@ use Rattle.text.proofs.pieces.put_pieces.Statement.{statement}
 use Rattle.text.proofs.pieces.put_pieces.Tie as tie
 
 abbrev Inv-loop : tie.InvT-loop
-Inv-loop out₀ at is-spaced bytes numbers step behind₀ place₀ used₀ out behind place used = Putting is-spaced bytes numbers out₀ at out behind place used
+Inv-loop out₀ at cut bytes numbers step behind₀ place₀ used₀ out behind place used = Putting cut bytes numbers out₀ at out behind place used
 
 abbrev μ-loop : tie.MeasureT-loop
-μ-loop out₀ at is-spaced bytes numbers step behind₀ place₀ used₀ out behind place used = length bytes - place
+μ-loop out₀ at cut bytes numbers step behind₀ place₀ used₀ out behind place used = length bytes - place
 
 width-requires : tie.Need-width-requires Inv-loop μ-loop
 width-requires c κs = search needs
@@ -27,18 +27,18 @@ turn-requires c κs = omega (arith, c .loop-test .taken, c .before .loop .inv .i
 
 put-piece-requires : tie.Need-put-piece-requires Inv-loop μ-loop
 put-piece-requires c κs =
-    putting-fits _ _ _ (c .before .before .turn .ensures) (c .before .before .before .before .loop .inv) (c .before .before .before .before .before .before .before .before .before .pre)
+    putting-fits _ _ _ (c .before .turn .ensures) (c .before .before .before .loop .inv) (c .before .before .before .before .before .before .before .before .pre)
 
 loop-less : tie.Need-loop-less Inv-loop μ-loop
 loop-less c =
-    let front = c .before .before .before .before .before .turn .ensures in
+    let front = c .before .before .before .before .turn .ensures in
     omega (arith, front .on, front .within)
 
 loop-again : tie.Need-loop-again Inv-loop μ-loop
 loop-again c =
-    let front = c .before .before .before .before .before .turn .ensures in
+    let front = c .before .before .before .before .turn .ensures in
     let put = c .before .before .put-piece .ensures in
-    putting-turn _ _ _ front (c .before .before .before .before .before .before .before .loop .inv) (put .0) (put .1)
+    putting-turn _ _ _ front (c .before .before .before .before .before .before .loop .inv) (put .0) (put .1)
 
 same-length : tie.Need-same-length Inv-loop μ-loop
 same-length c = c .before .loop .inv .kept

@@ -1,71 +1,99 @@
 -- `text::pieces::turn` meets its contract.
+use Prim.Native.Nat.{ℕ, _+_, _≤_}
 use native.Mathlib.Omega.{arith}
-use Rattle.text.proofs.Fronts.{four-there, one-there, number-front, marked-front, byte-front}
+use lib.ListN.{length}
 use borrow.Author.Needs.{needs}
+use Rattle.text.specs.Pieces.{width}
+use Rattle.text.proofs.Fronts.{four-there, number-front, escaped-front, ascii-front}
 use Rattle.text.proofs.pieces.turn.Statement.{statement}
 use Rattle.text.proofs.pieces.turn.Tie as tie
 use Rattle.text.proofs.pieces.turn.Reads as reads
 use Rattle.text.proofs.pieces.turn.Lts as lts
-use Rattle.text.proofs.pieces.behind.Reads as behind-reads
-use Rattle.text.proofs.pieces.decimal.Reads as decimal-reads
+use Rattle.text.proofs.escapes.shown.Reads as shown-reads
+use Rattle.text.proofs.pieces.filled_turn.Reads as filled-turn-reads
 use Rattle.text.proofs.pieces.number_at.Reads as number-at-reads
-use Rattle.text.proofs.pieces.number_or_zero.Reads as number-or-zero-reads
-use Rattle.text.proofs.pieces.single.Reads as single-reads
-use Rattle.text.proofs.pieces.spaced.Reads as spaced-reads
+
+enum-told : tie.Need-enum-told
+enum-told c = search needs
 
 number-at-requires : tie.Need-number-at-requires
-number-at-requires c κs = four-there _ _ _ (c .if1 .taken) (c .before .before .before .pre)
+number-at-requires c κs = four-there _ _ _ (c .enum-told .given .1) (c .before .before .before .before .pre)
 
-spaced-requires : tie.Need-spaced-requires
-spaced-requires c κs = search needs
+add-t9 : tie.Need-add-t9
+add-t9 c = search needs
 
-add-t10 : tie.Need-add-t10
-add-t10 c = search needs
+enum-told-2 : tie.Need-enum-told-2
+enum-told-2 c = search needs
+
+filled-turn-requires : tie.Need-filled-turn-requires
+unfolding width
+filled-turn-requires c κs =
+    let there : c .before .before .before .before .args .place + 1 ≤ length (c .before .before .before .before .args .bytes .now) = rw (c .enum-told2 .given .1) at (c .before .before .before .before .pre) in omega arith
+
+enum-told-3 : tie.Need-enum-told-3
+enum-told-3 c = search needs
+
+shared-slice-read-shown : tie.Need-shared-slice-read-shown
+unfolding width
+shared-slice-read-shown c =
+    let there : c .before .before .before .before .before .args .place + 1 ≤ length (c .before .before .before .before .before .args .bytes .now) = rw (c .before .enum-told3 .given .1) at (c .before .before .before .before .before .pre) in omega arith
+
+shown-requires : tie.Need-shown-requires
+shown-requires c κs = search needs
+
+add-t13 : tie.Need-add-t13
+add-t13 c = search needs
+
+enum-told-4 : tie.Need-enum-told-4
+enum-told-4 c = search needs
+
+shared-slice-read-shown-2 : tie.Need-shared-slice-read-shown-2
+unfolding width
+shared-slice-read-shown-2 c =
+    let there : c .before .before .before .before .before .args .place + 1 ≤ length (c .before .before .before .before .before .args .bytes .now) = rw (c .before .enum-told4 .given .1) at (c .before .before .before .before .before .pre) in omega arith
+
+shown-requires-2 : tie.Need-shown-requires-2
+shown-requires-2 c κs = search needs
+
+add-t17 : tie.Need-add-t17
+add-t17 c = search needs
 
 returns : tie.Need-returns
-returns c = number-front _ _ _ _ _ (c .before .number-at .ensures) (c .spaced .ensures) (c .before .before .if1 .taken) (c .before .before .before .before .before .pre)
-
-shared-slice-read-byte : tie.Need-shared-slice-read-byte
-shared-slice-read-byte c = omega (arith, one-there _ _ _ (c .before .if1 .left) (c .before .before .before .before .pre))
-
-number-or-zero-requires : tie.Need-number-or-zero-requires
-number-or-zero-requires c κs = search needs
-
-decimal-requires : tie.Need-decimal-requires
-decimal-requires c κs = search needs
-
-add-t15 : tie.Need-add-t15
-add-t15 c = search needs
-
-behind-requires : tie.Need-behind-requires
-behind-requires c κs = search needs
+returns c = number-front _ _ _ _ _ (c .number-at .ensures) (c .before .enum-told .given .1) (c .before .before .before .before .before .pre)
 
 returns-2 : tie.Need-returns-2
-returns-2 c = marked-front _ _ _ _ _ (c .before .before .number-or-zero .ensures) (c .before .decimal .ensures .0) (c .behind .ensures) (c .before .before .before .if2 .taken) (c .before .before .before .before .before .if1 .left) (c .before .before .before .before .before .before .before .before .pre)
-
-single-requires : tie.Need-single-requires
-single-requires c κs = search needs
-
-add-t18 : tie.Need-add-t18
-add-t18 c = search needs
+returns-2 c = rw (c .before .enum-told2 .given .1) (c .filled-turn .ensures)
 
 returns-3 : tie.Need-returns-3
-returns-3 c = byte-front _ _ _ _ _ (c .single .ensures) (c .before .if2 .left) (c .before .before .before .if1 .left) (c .before .before .before .before .before .before .pre)
+unfolding width
+returns-3 c =
+    let there : c .before .before .before .before .before .before .args .place + 1 ≤ length (c .before .before .before .before .before .before .args .bytes .now) = rw (c .before .before .enum-told3 .given .1) at (c .before .before .before .before .before .before .pre) in
+    escaped-front _ _ _ _ _ (omega arith) (c .shown .ensures) (c .before .before .enum-told3 .given .1)
+
+returns-4 : tie.Need-returns-4
+unfolding width
+returns-4 c =
+    let there : c .before .before .before .before .before .before .args .place + 1 ≤ length (c .before .before .before .before .before .before .args .bytes .now) = rw (c .before .before .enum-told4 .given .1) at (c .before .before .before .before .before .before .pre) in
+    ascii-front _ _ _ _ _ (omega arith) (c .shown2 .ensures) (c .before .before .enum-told4 .given .1)
 
 pub turn-spec : {M : Type 1} → statement M
 turn-spec =
     tie.close
     (tie.spec
+    enum-told
     number-at-requires
-    spaced-requires
-    add-t10
+    add-t9
+    enum-told-2
+    filled-turn-requires
+    enum-told-3
+    shared-slice-read-shown
+    shown-requires
+    add-t13
+    enum-told-4
+    shared-slice-read-shown-2
+    shown-requires-2
+    add-t17
     returns
-    shared-slice-read-byte
-    number-or-zero-requires
-    decimal-requires
-    add-t15
-    behind-requires
     returns-2
-    single-requires
-    add-t18
-    returns-3)
+    returns-3
+    returns-4)

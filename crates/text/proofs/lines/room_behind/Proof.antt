@@ -1,13 +1,14 @@
--- `text::lines::fits` meets its contract.
+-- `text::lines::room_behind` meets its contract.
 use mathlib.Core.Path.{sym, _∙_}
 use Rattle.text.specs.Lines.{formed}
 use Rattle.text.proofs.Rooms.{no-template, no-bytes, both}
 use borrow.Author.Needs.{needs}
-use Rattle.text.proofs.lines.fits.Statement.{statement}
-use Rattle.text.proofs.lines.fits.Tie as tie
-use Rattle.text.proofs.lines.fits.Reads as reads
-use Rattle.text.proofs.lines.fits.Lts as lts
+use Rattle.text.proofs.lines.room_behind.Statement.{statement}
+use Rattle.text.proofs.lines.room_behind.Tie as tie
+use Rattle.text.proofs.lines.room_behind.Reads as reads
+use Rattle.text.proofs.lines.room_behind.Lts as lts
 use Rattle.text.proofs.lines.measure.Reads as measure-reads
+use Rattle.text.proofs.pieces.room_after.Reads as room-after-reads
 
 measure-requires : tie.Need-measure-requires
 measure-requires c κs = search needs
@@ -27,10 +28,12 @@ enum-told-2 c = search needs
 enum-known-last : tie.Need-enum-known-last
 enum-known-last c = search needs
 
+room-after-requires : tie.Need-room-after-requires
+room-after-requires c κs = search needs
+
 returns : tie.Need-returns
 unfolding formed
-returns c =
-    no-template _ _ _ _ _ (sym (c .enum-told .given .1) ∙ c .before .before .measure .ensures)
+returns c = no-template _ _ _ _ _ (sym (c .enum-told .given .1) ∙ c .before .before .measure .ensures)
 
 returns-2 : tie.Need-returns-2
 unfolding formed
@@ -42,12 +45,13 @@ returns-2 c =
 returns-3 : tie.Need-returns-3
 unfolding formed
 returns-3 c =
-    both _ _ _ _ _
-    (sym (c .before .before .before .before .before .left .given .1) ∙ c .before .before .before .before .before .before .before .measure .ensures)
-    (sym (c .before .last .given .1) ∙ c .before .before .before .measure2 .ensures)
+    c .room-after .ensures
+    ∙ both _ _ _ _ _
+    (sym (c .before .before .before .before .before .before .left .given .1) ∙ c .before .before .before .before .before .before .before .before .measure .ensures)
+    (sym (c .before .before .last .given .1) ∙ c .before .before .before .before .measure2 .ensures)
 
-pub fits-spec : {M : Type 1} → statement M
-fits-spec =
+pub room-behind-spec : {M : Type 1} → statement M
+room-behind-spec =
     tie.close
     (tie.spec
     measure-requires
@@ -56,6 +60,7 @@ fits-spec =
     measure-requires-2
     enum-told-2
     enum-known-last
+    room-after-requires
     returns
     returns-2
     returns-3)
