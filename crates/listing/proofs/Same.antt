@@ -4,101 +4,33 @@ use mathlib.Core.Bool.{Bool, true, false, cond, not}
 use mathlib.Core.List.{List, [], _∷_, _++_, append-assoc}
 use mathlib.Core.Path.{_≡_, refl, sym, ap, _∙_}
 use native.Mathlib.Omega.{arith}
-use lib.ListN.{length, getD, drop, length-append}
-use lib.Seq.{append-snoc}
+use lib.ListN.{length, getD, drop}
 use Rattle.errors.specs.Refusals.{number-of, details-of}
 use Rattle.errors.specs.declared.Refusal.{Refusal}
 use Rattle.errors.specs.declared.Refusal.the-variants as refusal
 use Rattle.storage.specs.declared.Task.{Task}
 use Rattle.text.specs.Ascii.{ascii}
-use Rattle.text.specs.Numbers.{decimal, hex, spaced, words, filled-in, numbers-left, filled}
+use Rattle.text.specs.Numbers.{decimal, spaced, words, filled-in, numbers-left, filled}
 use Rattle.text.specs.Escapes.{escaped}
+use Rattle.text.specs.Lines.{formed, line, said}
+use Rattle.text.proofs.Feeds.{decimal-lacks, cut-at, cut-at-first}
+use Rattle.text.proofs.Back.{begins, read-numbers, decimal-back, spaced-back, read-hex, hex-back, read-escaped, escaped-back}
 use Rattle.utf8.specs.Utf8.{valid}
 use Rattle.memory.specs.declared.unbox.Return.{Return}
 use Rattle.memory.specs.declared.unbox.Return.the-variants as kind
 use Rattle.listing.specs.declared.Head.{Head}
 use Rattle.listing.specs.declared.Head.the-variants.{Done, Paused, Refused, Saved}
-use Rattle.listing.specs.declared.Counted.{Counted}
 use Rattle.listing.specs.declared.Counted.the-variants.{Values, Tasks}
-use Rattle.told.specs.Lines.{Escaped, Ascii, formed, line, said}
-use Rattle.told.specs.Listing.{ValueRead, title-form, lines-of-values, lines-of-tasks, listing}
-use Rattle.told.specs.Listing.{line-of-refusal, line-of-head, line-of-count, line-of-bool, line-of-numbers, line-of-value, line-of-task}
-use Rattle.told.specs.Told.{ValueTold, TaskTold, value-told, values-told, task-told, tasks-told, told}
-use Rattle.told.proofs.Feeds.{lacks, lacks-append, decimal-lacks, decimal-then, spaced-lacks, hex-lacks, escaped-lacks}
-use Rattle.told.proofs.Feeds.{parted, parted-at, parted-same}
-use Rattle.told.proofs.Back.{begins, read-numbers, decimal-back, spaced-back, read-hex, hex-back, read-escaped, escaped-back}
-
--- ---- a line's end
-
--- one line feed, at the end
-record Ended (line : List ℕ) : Type 0 where
-  body : List ℕ
-  is : line ≡ body ++ 10 ∷ []
-  plain : lacks 10 body ≡ true
-
--- a word and a text behind it
-ended : (word text : List ℕ) → lacks 10 word ≡ true → lacks 10 text ≡ true → Ended (word ++ (text ++ 10 ∷ []))
-ended word text plain plain-too = record {
-  body = word ++ text;
-  is = sym (append-assoc word text (10 ∷ []));
-  plain = lacks-append 10 word text ∙ rw (plain, plain-too);
-}
-
--- a word and numbers behind it
-numbers-ended : (word numbers : List ℕ) → lacks 10 word ≡ true → Ended (word ++ (spaced numbers ++ 10 ∷ []))
-numbers-ended word numbers plain = ended word (spaced numbers) plain (spaced-lacks numbers)
-
--- how the call ended
-head-ended : (head : Head) → Ended (line-of-head head)
-unfolding lacks line-of-head line-of-refusal said line formed filled filled-in numbers-left ascii spaced
-head-ended (Done n) = numbers-ended (ascii "done") (n ∷ []) refl
-head-ended (Paused n) = numbers-ended (ascii "paused") (n ∷ []) refl
-head-ended (Refused r) = numbers-ended (ascii "refused") (number-of r ∷ details-of r) refl
-head-ended (Saved n) = numbers-ended (ascii "saved") (n ∷ []) refl
-
--- how many follow
-count-ended : (counted : Counted) (n : ℕ) → Ended (line-of-count counted n)
-unfolding lacks line-of-count said line formed filled filled-in numbers-left ascii spaced
-count-ended Values n = numbers-ended (ascii "values") (n ∷ []) refl
-count-ended Tasks n = numbers-ended (ascii "tasks") (n ∷ []) refl
-
--- numbers, or none
-vec-ended : (numbers : List ℕ) → Ended (line-of-numbers numbers)
-unfolding lacks line-of-numbers ascii spaced
-vec-ended [] = ended (ascii "vec ") [] refl refl
-vec-ended (n ∷ more) = numbers-ended (ascii "vec") (n ∷ more) refl
-
--- a value
-value-ended : (kind : Return) (part : List ℕ) → Ended (line-of-value kind part)
-unfolding lacks line-of-value line-of-bool said line formed filled filled-in numbers-left ascii spaced
-value-ended (kind.U32 n) part = numbers-ended (ascii "u32") (n ∷ []) refl
-value-ended (kind.Boolean true) part = ended (ascii "bool true") [] refl refl
-value-ended (kind.Boolean false) part = ended (ascii "bool false") [] refl refl
-value-ended (kind.String pointer) part = ended (ascii "text ") (escaped false part) refl (escaped-lacks false part)
-value-ended (kind.CallData entry) part = ended (ascii "calldata ") (hex part) refl (hex-lacks part)
-value-ended (kind.VecU32 pointer) part = vec-ended (words part)
-value-ended kind.Null part = ended (ascii "null") [] refl refl
-value-ended (kind.NoReturn r) part = numbers-ended (ascii "bad") (number-of r ∷ []) refl
-
--- the first line's feed is the first of the text
-first-feed : {line : List ℕ} (rest : List ℕ) (first : Ended line) → line ++ rest ≡ first .body ++ 10 ∷ rest
-first-feed rest first = ap (λ (l : List ℕ). l ++ rest) (first .is) ∙ append-snoc (first .body) 10 rest
-
--- equal texts have the same first line, and the same behind it
-first-same : {line other rest rests : List ℕ} → Ended line → Ended other → line ++ rest ≡ other ++ rests → (line ≡ other) × (rest ≡ rests)
-first-same {rest} {rests} first second same =
-    let parts = parted-same 10 (first .plain) (second .plain) (sym (first-feed rest first) ∙ same ∙ first-feed rests second) in
-    (first .is ∙ ap (λ (l : List ℕ). l ++ 10 ∷ []) (parts .0) ∙ sym (second .is), parts .1)
-
--- a text with a line is not empty
-not-empty : {line : List ℕ} (rest : List ℕ) → Ended line → [] ≡ line ++ rest → ⊥
-not-empty rest first none = omega (arith, ap length (none ∙ first-feed rest first), length-append (first .body) (10 ∷ rest))
+use Rattle.listing.specs.Listing.{ValueRead, lines-of-values, lines-of-tasks, listing}
+use Rattle.listing.specs.Listing.{line-of-refusal, line-of-head, line-of-count, line-of-bool, line-of-numbers, line-of-value, line-of-task}
+use Rattle.listing.specs.Told.{ValueTold, TaskTold, value-told, values-told, task-told, tasks-told, told}
+use Rattle.listing.proofs.Ends.{head-ended, count-ended, value-ended, title-escaped, line-of-told, task-ended, first-same, not-empty}
 
 -- ---- a line read back
 
 -- what stands behind the first space
 abbrev behind : List ℕ → List ℕ
-behind line = parted 32 line .1
+behind line = cut-at 32 line .1
 
 -- the numbers there
 abbrev numbers-of : List ℕ → List ℕ
@@ -157,7 +89,7 @@ head-of line numbers =
 
 -- the first line tells how the call ended
 head-back : (head : Head) → head-of (line-of-head head) (numbers-of (line-of-head head)) ≡ head
-unfolding head-of parted begins read-numbers line-of-head line-of-refusal said line formed filled filled-in numbers-left ascii spaced
+unfolding head-of cut-at begins read-numbers line-of-head line-of-refusal said line formed filled filled-in numbers-left ascii spaced
 head-back (Done n) = ap (head-of (line-of-head (Done n))) (spaced-back [] (n ∷ []))
 head-back (Paused n) = ap (head-of (line-of-head (Paused n))) (spaced-back [] (n ∷ []))
 head-back (Refused r) =
@@ -166,7 +98,7 @@ head-back (Saved n) = ap (head-of (line-of-head (Saved n))) (spaced-back [] (n �
 
 -- the count of values tells it
 count-back : (n : ℕ) → numbers-of (line-of-count Values n) ≡ n ∷ []
-unfolding parted read-numbers line-of-count said line formed filled filled-in numbers-left ascii spaced
+unfolding cut-at read-numbers line-of-count said line formed filled filled-in numbers-left ascii spaced
 count-back n = spaced-back [] (n ∷ [])
 
 -- a value, by the line and its numbers
@@ -182,13 +114,13 @@ value-of line numbers =
 
 -- the line of numbers tells them
 vec-back : (numbers : List ℕ) → value-of (line-of-numbers numbers) (numbers-of (line-of-numbers numbers)) ≡ ValueTold.numbers numbers
-unfolding value-of parted begins read-numbers line-of-numbers ascii spaced
+unfolding value-of cut-at begins read-numbers line-of-numbers ascii spaced
 vec-back [] = refl
 vec-back (n ∷ more) = ap ValueTold.numbers (spaced-back [] (n ∷ more))
 
 -- the line of a value tells it
 value-back : (kind : Return) (part : List ℕ) → value-of (line-of-value kind part) (numbers-of (line-of-value kind part)) ≡ value-told kind part
-unfolding value-told value-of parted begins read-numbers line-of-value line-of-bool said line formed filled filled-in numbers-left ascii spaced
+unfolding value-told value-of cut-at begins read-numbers line-of-value line-of-bool said line formed filled filled-in numbers-left ascii spaced
 value-back (kind.U32 n) part = ap (value-of (line-of-value (kind.U32 n) part)) (spaced-back [] (n ∷ []))
 value-back (kind.Boolean true) part = refl
 value-back (kind.Boolean false) part = refl
@@ -200,19 +132,6 @@ value-back (kind.NoReturn r) part = ap (value-of (line-of-value (kind.NoReturn r
 
 -- ---- a task's line
 
--- a title is escaped, whether it is UTF-8 or not
-title-escaped : (title numbers : List ℕ) → formed (title-form title) title numbers ≡ escaped (not (valid title)) title
-unfolding formed title-form
-title-escaped title numbers = by (valid title)
-  where
-    by : (is-valid : Bool) → formed (cond is-valid Escaped Ascii) title numbers ≡ escaped (not is-valid) title
-    by true = refl
-    by false = refl
-
--- the line of a living task, by what is told of it
-abbrev line-of-told : TaskTold → List ℕ
-line-of-told task = line (ascii "task # # ") (task .id ∷ task .state ∷ []) (title-form (task .title)) (task .title)
-
 -- a task, by its line
 read-task : List ℕ → TaskTold
 read-task line = record {
@@ -223,7 +142,7 @@ read-task line = record {
 
 -- what stands behind a number and a space
 behind-decimal : (n : ℕ) (rest : List ℕ) → behind (decimal n ++ 32 ∷ rest) ≡ rest
-behind-decimal n rest = ap (λ (parts : List ℕ × List ℕ). parts .1) (parted-at 32 (decimal n) rest (decimal-lacks 32 n (omega arith)))
+behind-decimal n rest = ap (λ (parts : List ℕ × List ℕ). parts .1) (cut-at-first 32 (decimal n) rest (decimal-lacks 32 n (omega arith)))
 
 -- the first two numbers
 two-back : (n next : ℕ) (rest : List ℕ) → read-numbers [] (decimal n ++ 32 ∷ (decimal next ++ 32 ∷ rest)) ≡ n ∷ next ∷ read-numbers [] rest
@@ -234,14 +153,6 @@ module _ (task : TaskTold) where
   -- its id and its state
   abbrev numbers : List ℕ
   numbers = task .id ∷ task .state ∷ []
-
-  -- a living task
-  task-ended : Ended (line-of-told task)
-  unfolding lacks line filled filled-in numbers-left ascii
-  task-ended =
-      ended (filled (ascii "task # # ") numbers) (formed (title-form (task .title)) (task .title) numbers)
-      (decimal-then (task .id) (32 ∷ (decimal (task .state) ++ 32 ∷ [])) ∙ decimal-then (task .state) (32 ∷ []))
-      (ap (lacks 10) (title-escaped (task .title) numbers) ∙ escaped-lacks (not (valid (task .title))) (task .title))
 
   -- the title as it is shown, and the line feed
   abbrev shown : List ℕ
@@ -258,7 +169,7 @@ module _ (task : TaskTold) where
 
   -- the line of a task tells it
   task-back : read-task (line-of-told task) ≡ task
-  unfolding read-task parted ascii
+  unfolding read-task cut-at ascii
   task-back =
       ap read-task task-line
       ∙ rw (
@@ -270,18 +181,22 @@ module _ (task : TaskTold) where
 
 -- ---- equal lines tell the same
 
-head-same : (head other : Head) → line-of-head head ≡ line-of-head other → head ≡ other
+-- how the call ended
+pub head-same : (head other : Head) → line-of-head head ≡ line-of-head other → head ≡ other
 head-same head other same = sym (head-back head) ∙ ap (λ (l : List ℕ). head-of l (numbers-of l)) same ∙ head-back other
 
-count-same : (n other : ℕ) → line-of-count Values n ≡ line-of-count Values other → n ≡ other
+-- how many values follow
+pub count-same : (n other : ℕ) → line-of-count Values n ≡ line-of-count Values other → n ≡ other
 count-same n other same = cc (count-back n, count-back other)
 
-value-same : (kind other : Return) (part parts : List ℕ) → line-of-value kind part ≡ line-of-value other parts
+-- a value
+pub value-same : (kind other : Return) (part parts : List ℕ) → line-of-value kind part ≡ line-of-value other parts
     → value-told kind part ≡ value-told other parts
 value-same kind other part parts same =
     sym (value-back kind part) ∙ ap (λ (l : List ℕ). value-of l (numbers-of l)) same ∙ value-back other parts
 
-task-same : (task other : TaskTold) → line-of-told task ≡ line-of-told other → task ≡ other
+-- a living task
+pub task-same : (task other : TaskTold) → line-of-told task ≡ line-of-told other → task ≡ other
 task-same task other same = sym (task-back task) ∙ ap read-task same ∙ task-back other
 
 -- ---- equal listings

@@ -1,4 +1,4 @@
--- Where a text ends: texts that lack a byte, and a text parted at the first such byte.
+-- Where a text ends: texts that lack a byte, and a text cut at the first such byte.
 use Prim.Native.Nat.{ℕ, zero, suc, _+_, _/_, _%_, _≤_, _<_}
 use mathlib.Core.Bool.{Bool, true, false, cond, not, _&&_, and-assoc, true≢false}
 use mathlib.Core.List.{List, [], _∷_, _++_}
@@ -94,27 +94,27 @@ unfolding lacks escaped
 escaped-lacks high [] = refl
 escaped-lacks high (byte ∷ more) = lacks-append 10 (shown high byte) (escaped high more) ∙ rw (shown-lacks high byte, escaped-lacks high more)
 
--- ---- parted at a byte
+-- ---- cut at a byte
 
 -- what stands before the first such byte, and what behind it
-unfoldable pub parted : ℕ → List ℕ → List ℕ × List ℕ
-parted byte [] = ([], [])
-parted byte (first ∷ more) = cond (eqb first byte) ([], more) (first ∷ parted byte more .0, parted byte more .1)
+unfoldable pub cut-at : ℕ → List ℕ → List ℕ × List ℕ
+cut-at byte [] = ([], [])
+cut-at byte (first ∷ more) = cond (eqb first byte) ([], more) (first ∷ cut-at byte more .0, cut-at byte more .1)
 
 -- a text that lacks the byte stands before it
-pub parted-at : (byte : ℕ) (before behind : List ℕ) → lacks byte before ≡ true → parted byte (before ++ byte ∷ behind) ≡ (before, behind)
-unfolding lacks parted
-parted-at byte [] behind plain = rw (eq-eqb byte byte refl)
-parted-at byte (first ∷ before) behind plain = by (eqb first byte) refl (parted-at byte before behind)
+pub cut-at-first : (byte : ℕ) (before behind : List ℕ) → lacks byte before ≡ true → cut-at byte (before ++ byte ∷ behind) ≡ (before, behind)
+unfolding lacks cut-at
+cut-at-first byte [] behind plain = rw (eq-eqb byte byte refl)
+cut-at-first byte (first ∷ before) behind plain = by (eqb first byte) refl (cut-at-first byte before behind)
   where
-    by : (test : Bool) → eqb first byte ≡ test → (lacks byte before ≡ true → parted byte (before ++ byte ∷ behind) ≡ (before, behind))
-        → parted byte (first ∷ before ++ byte ∷ behind) ≡ (first ∷ before, behind)
+    by : (test : Bool) → eqb first byte ≡ test → (lacks byte before ≡ true → cut-at byte (before ++ byte ∷ behind) ≡ (before, behind))
+        → cut-at byte (first ∷ before ++ byte ∷ behind) ≡ (first ∷ before, behind)
     by true test more = absurd (true≢false (sym plain ∙ rw test))
     by false test more = rw (test, more (rw test at plain))
 
 -- two such texts that are the same have the same before the byte, and the same behind it
-pub parted-same : (byte : ℕ) {before behind other others : List ℕ} → lacks byte before ≡ true → lacks byte other ≡ true
+pub cut-same : (byte : ℕ) {before behind other others : List ℕ} → lacks byte before ≡ true → lacks byte other ≡ true
     → before ++ byte ∷ behind ≡ other ++ byte ∷ others → (before ≡ other) × (behind ≡ others)
-parted-same byte {before} {behind} {other} {others} plain plain-too same =
-    let parts = sym (parted-at byte before behind plain) ∙ ap (parted byte) same ∙ parted-at byte other others plain-too in
+cut-same byte {before} {behind} {other} {others} plain plain-too same =
+    let parts = sym (cut-at-first byte before behind plain) ∙ ap (cut-at byte) same ∙ cut-at-first byte other others plain-too in
     (ap (λ (l : List ℕ × List ℕ). l .0) parts, ap (λ (l : List ℕ × List ℕ). l .1) parts)

@@ -7,8 +7,8 @@ use Rattle.storage.specs.declared.Task.{Task}
 use Rattle.text.specs.Numbers.{words}
 use Rattle.memory.specs.declared.unbox.Return.{Return}
 use Rattle.memory.specs.declared.unbox.Return.the-variants as kind
 use Rattle.listing.specs.declared.Head.{Head}
-use Rattle.told.specs.Listing.{ValueRead, title-of}
+use Rattle.listing.specs.Listing.{ValueRead, title-of}
 
 -- a value: what it is, or the number of the refusal to read it
 pub data ValueTold : Type 0 where

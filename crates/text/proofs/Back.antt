@@ -7,9 +7,9 @@ use native.Mathlib.Omega.{arith}
 use lib.Dec.{eqb, ltb}
 use lib.ListN.{getD}
 use borrow.Author.Tests.{lt-ltb, le-ltb, ltb-true, ltb-false}
 use Rattle.text.specs.Numbers.{digit, digits, decimal, hex, spaced}
 use Rattle.text.specs.Escapes.{capital, is-escaped, shown, escaped}
-use Rattle.told.proofs.Feeds.{character, not-escaped}
+use Rattle.text.proofs.Feeds.{character, not-escaped}
 
 -- a text begins with a word
 unfoldable pub begins : List ℕ → List ℕ → Bool

@@ -1,3 +1,0 @@
-pub mod Feeds
-pub mod Back
-pub mod Same

@@ -1,1 +1,0 @@
-// (a place to prove the theorem on equal listings)
