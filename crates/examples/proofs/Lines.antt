@@ -18,10 +18,10 @@ use Rattle.text.specs.declared.LineResult.the-variants.{Line, NoLine}
 use Rattle.text.specs.Lines.{formed, line, said, lined, put-line, measure-line, tell-line, hex-count, parted, hex-part}
 use Rattle.utf8.specs.Grammar.{UTF8-char}
 use Rattle.utf8.specs.Utf8.{holds, lead, from, valid}
-use Rattle.values.specs.Values.{make-vec-tagged, is-scalar, is-vec, raw-tag, to-u32, fat-pointer, to-fat-pointer, vec-type, scalar-type, get-value-type}
+use Rattle.values.specs.Values.{make-vec-tagged, is-vec, raw-tag, fat-pointer, to-fat-pointer, vec-type, get-value-type}
 use Rattle.memory.specs.Change.{inside}
 use Rattle.memory.specs.Reads.{get-slice-as-str}
-use Rattle.memory.specs.Unbox.{unbox-value, part-of, where-readable, text-at, where-bounded, by-type}
+use Rattle.memory.specs.Unbox.{unbox-value, where-readable, text-at, by-type}
 use Rattle.memory.specs.declared.unbox.Return.the-variants.{U32, CallData, VecU32, Null, NoReturn, String}
 use Rattle.listing.specs.declared.Head.the-variants.{Done, Paused, Refused}
 use Rattle.listing.specs.declared.Counted.the-variants.{Values, Tasks}
@@ -122,7 +122,7 @@ bad = refl
 
 -- 15, and no byte, of a text that is not UTF-8
 pub bad-text : lines-of-values (values-read (0x41 ∷ 0xff ∷ []) [] [] 0 (make-vec-tagged 0 2 4 ∷ [])) ≡ ascii "bad 15\n"
-unfolding UTF8-char holds lead from valid make-vec-tagged is-scalar is-vec raw-tag to-u32 fat-pointer to-fat-pointer vec-type scalar-type get-value-type get-slice-as-str where-readable text-at where-bounded by-type inside unbox-value part-of values-read lines-of-values line-of-value said line formed filled filled-in numbers-left decimal digits digit ascii
+unfolding UTF8-char holds lead from valid make-vec-tagged is-vec raw-tag fat-pointer to-fat-pointer vec-type get-value-type get-slice-as-str where-readable text-at by-type inside unbox-value values-read lines-of-values line-of-value said line formed filled filled-in numbers-left decimal digits digit ascii
 bad-text = refl
 
 -- a byte 7 of a text takes three
@@ -133,7 +133,7 @@ controls-length (suc count) = omega (arith, controls-length count)
 
 -- the longest line of a text, of 196,611 bytes
 pub longest-text : length (line-of-value (String (record { offset = 0; size = 65535 })) (replicate 65535 7)) ≡ 196611
-unfolding line-of-value line formed filled filled-in numbers-left ascii
+unfolding line-of-value line formed filled filled-in ascii
 longest-text = omega (arith, controls-length 65535, length-append (escaped false (replicate 65535 7)) (10 ∷ []))
 
 -- id, state and title
@@ -161,12 +161,12 @@ repeated byte = record {
 
 -- the longest line of a task, of 398 bytes: each byte of its title is escaped
 pub longest-task : length (line-of-task (repeated 7)) ≡ 398
-unfolding line-of-task title-form UTF8-char holds lead from valid line formed escaped shown is-escaped filled filled-in numbers-left decimal digits digit ascii
+unfolding line-of-task title-form UTF8-char holds lead from valid line formed escaped shown is-escaped filled filled-in numbers-left decimal digits ascii
 longest-task = refl
 
 -- where none is, 142
 pub longest-plain-task : length (line-of-task (repeated 65)) ≡ 142
-unfolding line-of-task title-form UTF8-char holds lead from valid line formed escaped shown is-escaped filled filled-in numbers-left decimal digits digit ascii
+unfolding line-of-task title-form UTF8-char holds lead from valid line formed escaped shown is-escaped filled filled-in numbers-left decimal digits ascii
 longest-plain-task = refl
 
 -- a line goes to the buffer's start, and the bytes past it stay
