@@ -5,3 +5,5 @@ pub mod Loops
 pub mod Hexes
 pub mod Rooms
 pub mod Joined
+pub mod Feeds
+pub mod Back
