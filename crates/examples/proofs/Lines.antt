@@ -148,24 +148,24 @@ pub task : line-of-task (record {
 unfolding line-of-task title-form UTF8-char holds lead from valid line formed escaped shown is-escaped filled filled-in numbers-left decimal digits digit ascii
 task = refl
 
--- task 255 in state 254, its title this byte 128 times
-abbrev repeated : ℕ → Task
-repeated byte = record {
+-- a task in state 254, its title this byte 128 times
+abbrev repeated : ℕ → ℕ → Task
+repeated id byte = record {
   living = true;
-  id = record { 0 = 255 };
+  id = record { 0 = id };
   state = record { len = 255; state = 254 };
   «instructions_ref» = record { 0 = 0 };
   «title_len» = 128;
   title = replicate 128 byte;
 }
 
--- the longest line of a task, of 398 bytes: each byte of its title is escaped
-pub longest-task : length (line-of-task (repeated 7)) ≡ 398
+-- the longest line of a task, of 405 bytes: an id of ten digits, and each byte of its title escaped
+pub longest-task : length (line-of-task (repeated 4294967295 7)) ≡ 405
 unfolding line-of-task title-form UTF8-char holds lead from valid line formed escaped shown is-escaped filled filled-in numbers-left decimal digits ascii
 longest-task = refl
 
--- where none is, 142
-pub longest-plain-task : length (line-of-task (repeated 65)) ≡ 142
+-- with an id of three digits and a title of letters, 142
+pub longest-plain-task : length (line-of-task (repeated 255 65)) ≡ 142
 unfolding line-of-task title-form UTF8-char holds lead from valid line formed escaped shown is-escaped filled filled-in numbers-left decimal digits ascii
 longest-plain-task = refl
 
