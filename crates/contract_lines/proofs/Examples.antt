@@ -7,7 +7,7 @@ use denote.Ref.{now}
 use Rattle.errors.specs.declared.Refusal.the-variants.{EmptyInstructions, MSliceOutOfBounds, SaveBufferTooShort, TaskNotFound}
 use Rattle.storage.specs.Tasks.{blank}
 use Rattle.text.specs.Ascii.{ascii}
-use Rattle.text.specs.Lines.{parted, hex-part, lined, put-line}
+use Rattle.text.specs.Lines.{parted, hex-part, lined, tell-line}
 use Rattle.listing.specs.declared.Head.the-variants.{Refused}
 use Rattle.listing.specs.Listing.{line-of-head}
 use Rattle.memory.specs.declared.unbox.Return.the-variants.{U32}
@@ -57,12 +57,12 @@ hex-part-of-one-says met =
 
 -- a refusal's two details, in their order
 abbrev pub head-line-of-14 : Line head-line.head_line.ended
-head-line-of-14 _ out head r =
-    head .entry ≡ Refused (MSliceOutOfBounds 4 6) → lined r (now (out .exit)) ≡ put-line (now (out .entry)) (ascii "refused 14 4 6\n")
+head-line-of-14 _ out writes head r =
+    head .entry ≡ Refused (MSliceOutOfBounds 4 6) → lined r (now (out .exit)) ≡ tell-line (writes .entry) (now (out .entry)) (ascii "refused 14 4 6\n")
 
 pub head-line-of-14-says : {M : Type 1} → head-line.head_line.Statement.statement M → Answers M head-line.head_line.ended head-line.head_line.Symbol.routine head-line-of-14
 head-line-of-14-says met =
-    so head-line.head_line.ended head-line.head_line.Symbol.routine lines.head-line-head-line head-line-of-14 (lines.head-line-head-line-says met) (λ _ out head r e h. e ∙ (λ i. put-line (now (out .entry)) (line-of-head (h i))) ∙ ap (put-line (now (out .entry))) refused-14)
+    so head-line.head_line.ended head-line.head_line.Symbol.routine lines.head-line-head-line head-line-of-14 (lines.head-line-head-line-says met) (λ _ out writes head r e h. e ∙ (λ i. tell-line (writes .entry) (now (out .entry)) (line-of-head (h i))) ∙ ap (tell-line (writes .entry) (now (out .entry))) refused-14)
 
 -- a run of C1 is done with fuel 5
 abbrev pub run-of-C1 : Line runner.run.ended

@@ -3,7 +3,7 @@
 -- argument of a line, which none reads, is for the lifetimes of what is lent.
 use mathlib.Core.Path.{_≡_}
 use denote.Ref.{now}
-use Rattle.text.specs.Lines.{parted, hex-part, lined, put-line, line}
+use Rattle.text.specs.Lines.{parted, hex-part, lined, put-line, line, tell-line}
 use Rattle.listing.specs.Listing.{line-of-head, line-of-value}
 use Rattle.memory.specs.Unbox.{part-of}
 use Rattle.image.specs.Image.{read-image}
@@ -62,6 +62,13 @@ text-put-line _ out template numbers form bytes r =
 
 pub text-put-line-says : {M : Type 1} → text.lines.put_line.Statement.statement M → Answers M text.lines.put_line.ended text.lines.put_line.Symbol.routine text-put-line
 text-put-line-says met = met
+
+abbrev pub text-tell-line : Line text.lines.tell_line.ended
+text-tell-line _ out writes template numbers form bytes r =
+    lined r (now (out .exit)) ≡ tell-line (writes .entry) (now (out .entry)) (line (now (template .entry)) (now (numbers .entry)) (form .entry) (now (bytes .entry)))
+
+pub text-tell-line-says : {M : Type 1} → text.lines.tell_line.Statement.statement M → Answers M text.lines.tell_line.ended text.lines.tell_line.Symbol.routine text-tell-line
+text-tell-line-says met = met
 
 abbrev pub image-test-image : Line image.reading.test_image.ended
 image-test-image _ image r =
@@ -162,15 +169,15 @@ pub task-reading-read-task-says : {M : Type 1} → task-reading.read_task.Statem
 task-reading-read-task-says met = met
 
 abbrev pub head-line-head-line : Line head-line.head_line.ended
-head-line-head-line _ out head r =
-    lined r (now (out .exit)) ≡ put-line (now (out .entry)) (line-of-head (head .entry))
+head-line-head-line _ out writes head r =
+    lined r (now (out .exit)) ≡ tell-line (writes .entry) (now (out .entry)) (line-of-head (head .entry))
 
 pub head-line-head-line-says : {M : Type 1} → head-line.head_line.Statement.statement M → Answers M head-line.head_line.ended head-line.head_line.Symbol.routine head-line-head-line
 head-line-head-line-says met = met
 
 abbrev pub value-line-value-line : Line value-line.value_line.ended
-value-line-value-line _ out memory pool ends kind r =
-    lined r (now (out .exit)) ≡ put-line (now (out .entry)) (line-of-value (kind .entry) (part-of (now (memory .entry)) (now (pool .entry)) (now (ends .entry)) (kind .entry)))
+value-line-value-line _ out memory pool ends writes kind r =
+    lined r (now (out .exit)) ≡ tell-line (writes .entry) (now (out .entry)) (line-of-value (kind .entry) (part-of (now (memory .entry)) (now (pool .entry)) (now (ends .entry)) (kind .entry)))
 
 pub value-line-value-line-says : {M : Type 1} → value-line.value_line.Statement.statement M → Answers M value-line.value_line.ended value-line.value_line.Symbol.routine value-line-value-line
 value-line-value-line-says met = met

@@ -6,7 +6,7 @@ use lib.ListN.{take}
 use Rattle.labels.specs.Check.{admission}
 use Rattle.listing.specs.Listing.{height-of, values-read, line-of-count, line-of-task, line-by, line-count, slot-shown}
 use Rattle.report.specs.Reports.{line-of-report, text-of-word}
-use Rattle.text.specs.Lines.{lined, put-line}
+use Rattle.text.specs.Lines.{lined, put-line, tell-line}
 use Rattle.verdict.specs.Verdicts.{line-of-verdict}
 use Rattle.listing.proofs as listing
 use Rattle.report.proofs as report
@@ -14,15 +14,15 @@ use Rattle.verdict.proofs as verdict
 use Rattle.contract_lines.proofs.Answers.{Line, Answers}
 
 abbrev pub listing-count-line : Line listing.count_line.ended
-listing-count-line _ out counted count r =
-    lined r (now (out .exit)) ≡ put-line (now (out .entry)) (line-of-count (counted .entry) (count .entry))
+listing-count-line _ out writes counted count r =
+    lined r (now (out .exit)) ≡ tell-line (writes .entry) (now (out .entry)) (line-of-count (counted .entry) (count .entry))
 
 pub listing-count-line-says : {M : Type 1} → listing.count_line.Statement.statement M → Answers M listing.count_line.ended listing.count_line.Symbol.routine listing-count-line
 listing-count-line-says met = met
 
 abbrev pub listing-task-line : Line listing.task_line.task_line.ended
-listing-task-line _ out task r =
-    lined r (now (out .exit)) ≡ put-line (now (out .entry)) (line-of-task (task .entry))
+listing-task-line _ out writes task r =
+    lined r (now (out .exit)) ≡ tell-line (writes .entry) (now (out .entry)) (line-of-task (task .entry))
 
 pub listing-task-line-says : {M : Type 1} → listing.task_line.task_line.Statement.statement M → Answers M listing.task_line.task_line.ended listing.task_line.task_line.Symbol.routine listing-task-line
 listing-task-line-says met = met

@@ -1,4 +1,4 @@
--- The lines that are printed after a call, one after the other, are its listing.
+-- The lines that are printed after a call, one after the other, are its listing; two calls that print the same came to the same.
 use Prim.Native.Nat.{ℕ, _≤_}
 use mathlib.Core.List.{List}
 use mathlib.Core.Path.{_≡_, sym, ap, _∙_}
@@ -9,7 +9,9 @@ use Rattle.storage.specs.Table.{living-of}
 use Rattle.storage.specs.Tasks.{blank}
 use Rattle.storage.specs.declared.Task.{Task}
 use Rattle.listing.specs.Listing.{line-count, slot-shown, line-at, joined-lines, listing}
+use Rattle.listing.specs.Told.{Told, told}
 use Rattle.listing.proofs.LineByLine.{values-length, listing-by-lines}
+use Rattle.listing.proofs.Same.{same-listings}
 use Rattle.printer.specs.declared.CallOutcome.{CallOutcome}
 use Rattle.printer.specs.Listed.{values-listed, call-values, call-line}
 
@@ -33,3 +35,20 @@ module _ (answered : CallOutcome) (stack memory pool ends : List ℕ) (whole : l
   call-listing table =
       ap (λ (values : ℕ). joined-lines (λ number. call-line answered stack memory pool ends (living-of table) (getD table (slot-shown values number) blank) number) (line-count values (length table))) (sym as-many)
       ∙ listing-by-lines (answered .head) (call-values answered stack memory pool ends) table
+
+-- what a call came to
+abbrev pub told-of-call : CallOutcome → List ℕ → List ℕ → List ℕ → List ℕ → List Task → Told
+told-of-call answered stack memory pool ends table = told (answered .head) (call-values answered stack memory pool ends) table
+
+-- the lines that are printed after it
+abbrev pub printed : CallOutcome → List ℕ → List ℕ → List ℕ → List ℕ → List Task → List ℕ
+printed answered stack memory pool ends table =
+    joined-lines (λ number. call-line answered stack memory pool ends (living-of table) (getD table (slot-shown (values-listed answered) number) blank) number) (line-count (values-listed answered) (length table))
+
+-- any two calls, on any two machines
+pub same-calls : (answered other : CallOutcome) (stack stack′ memory memory′ pool pool′ ends ends′ : List ℕ) (table table′ : List Task)
+    → length stack ≡ 1000 → length stack′ ≡ 1000 → printed answered stack memory pool ends table ≡ printed other stack′ memory′ pool′ ends′ table′
+    → told-of-call answered stack memory pool ends table ≡ told-of-call other stack′ memory′ pool′ ends′ table′
+same-calls answered other stack stack′ memory memory′ pool pool′ ends ends′ table table′ whole whole′ same =
+    same-listings _ _ _ _ _ _
+    (sym (call-listing answered stack memory pool ends whole table) ∙ same ∙ call-listing other stack′ memory′ pool′ ends′ whole′ table′)

@@ -9,7 +9,6 @@ use Rattle.image.specs.Image.{read-image}
 use Rattle.image.specs.Reading.{image-result}
 use Rattle.roundtrips.specs.Images.{I1}
 use Rattle.text.specs.Ascii.{ascii}
-use Rattle.text.specs.declared.LineResult.the-variants.{Line}
 use Rattle.listing.specs.declared.Head.the-variants.{Done, Refused}
 use Rattle.host.specs.Hosting.{Owned, own}
 use Rattle.host.specs.Answering.{RunOn, rafenuma-run}
@@ -43,7 +42,6 @@ use Rattle.machine.specs.Creation as vm-creation
 use Rattle.machine.specs.Reads as vm-reads
 use Rattle.machine.specs.Sound as vm-sound
 use Rattle.host.specs.Hosting as hosting-hosting
-use Rattle.host.specs.Lines as hosting-lines
 use Rattle.host.specs.Answering as answering-answering
 use Rattle.host.specs.Listings as answering-listings
 use Rattle.host.specs.AnsweringNumbers as answering-numbers
@@ -84,7 +82,7 @@ called fuel program room = rafenuma-run fuel (replicate 16 0) [] program (replic
 
 -- the same run with every buffer lent
 abbrev owned : ℕ → List ℕ → Owned
-owned fuel program = own fuel (replicate 1000 0) (replicate 16 0) (replicate 64 0) (replicate 1024 0) (replicate 16 255) [] program (replicate 16 0)
+owned fuel program = own fuel (replicate 1000 0) (replicate 16 0) (replicate 64 0) (replicate 1024 0) (replicate 16 255) [] program (replicate 40 0)
 
 -- an admission for a host, with a buffer for kinds
 abbrev admits : List ℕ → Admitting
@@ -133,11 +131,8 @@ pub record Examples : Type 0 where
     head = Done 5;
     finished = 5;
     save = Saved 14;
-    height = 1;
-    memory = 0;
-    entries = 1;
     saved = 14;
-    lines = Line 8;
+    listing = record { written = 31; needed = 31 };
   }
   -- the image, from the start of the save buffer
   pub own-done-image : owned 9 C1 .save ≡ No-tasks ++ replicate 2 255
@@ -146,11 +141,8 @@ pub record Examples : Type 0 where
     head = Refused StackUnderflow;
     finished = 0;
     save = NotSaved WrongPhaseOrUnsound;
-    height = 0;
-    memory = 0;
-    entries = 1;
     saved = 0;
-    lines = Line 8;
+    listing = record { written = 27; needed = 27 };
   }
   -- the save buffer is as it was
   pub own-refused-image : owned 9 Drop .save ≡ replicate 16 255
@@ -180,7 +172,7 @@ pub record Examples : Type 0 where
   pub image-left-over : tests (No-tasks ++ 0 ∷ []) ≡ 25 + 256 * 14
 
 pub examples : Examples
-unfolding bytecode-opcodes.operand-size bytecode-operands.big-endian bytecode-operands.operand bytecode-operands.data-size bytecode-operands.behind bytecode-operands.extent inlinevec-stacks.if-room inlinevec-stacks.if-some inlinevec-stacks.push inlinevec-stacks.pop inlinevec-stacks.push-two inlinevec-stacks.last-two inlinevec-stacks.pop-two inlinevec-stacks.change-two inlinevec-stacks.push-loop inlinevec-stacks.pop-loop values-values.make-scalar-tagged values-values.is-scalar values-values.is-vec values-values.raw-tag values-values.to-u32 values-values.scalar-type values-values.get-value-type pools-pool.end-of pools-pool.start-of pools-pool.entry-of pools-pool.has-room pools-pool.interned pools-pool.never-fall pools-pool.end-to-end storage-table.lives storage-table.living-of storage-table.sound-slot storage-table.sound-slots storage-table.sound-counts storage-table.sound-table storage-tasks.blank slices-same.same creation-creation.image-tests creation-creation.creation-tests image-image.record-of image-image.header image-image.headed image-image.good image-image.task-before image-image.read-from image-image.with-count image-image.read-image slices-numbers.little-endian slices-numbers.number-at image-reading.s-len-of image-reading.instruction-bytes image-reading.image-result image-table.living-tasks image-table.refusal-by image-table.task-refusal image-table.or-else image-table.first-refusal image-table.image-of-tasks image-table.saved-over image-table.saved-unless image-table.save-tasks image-table.save-table utf8-grammar.UTF8-char utf8-utf8.holds utf8-utf8.lead utf8-utf8.from utf8-utf8.valid vm-calls.may-start vm-calls.may-continue vm-calls.allowed vm-calls.ended vm-calls.report vm-calls.call-with vm-calls.call vm-creation.create vm-creation.create-fit vm-creation.create-behind vm-reads.host-saved vm-reads.host-save vm-sound.sound-frames vm-sound.sound-lengths vm-sound.sound-record vm-sound.sound-world vm-creation.machine-of hosting-hosting.machine-to-save hosting-hosting.run-head hosting-hosting.head-of hosting-hosting.performed hosting-hosting.with-lines hosting-hosting.with-saved-image hosting-hosting.with-run hosting-hosting.with-creation hosting-hosting.perform vm-creation.blank-table hosting-hosting.own hosting-lines.put-behind hosting-lines.put-tasks hosting-lines.task-lines answering-answering.new-stack answering-answering.new-ends answering-answering.new-pool answering-answering.new-lines answering-answering.new-scratch answering-answering.with-owned answering-answering.rafenuma-run answering-listings.put-from answering-listings.counted answering-listings.next-line answering-listings.put-values answering-listings.tell answering-listings.measured answering-listings.list answering-listings.with-tasks answering-numbers.save-reason answering-numbers.reason-of answering-numbers.outcome-of answering-numbers.listing-number answering-numbers.answers listing-listing.height-of listing-listing.values-read listing-listing.line-of-refusal listing-listing.line-of-head listing-listing.line-of-count listing-listing.line-of-value listing-listing.line-of-task text-ascii.ascii text-lines.formed text-lines.line text-lines.said text-lines.put-line text-numbers.digit text-numbers.digits text-numbers.decimal text-numbers.spaced text-numbers.filled-in text-numbers.numbers-left text-numbers.filled unbox-unbox.by-type unbox-unbox.unbox-value labels-check.label-from labels-check.label-at labels-check.first-failing labels-check.first-without-rule labels-check.first-wrong-jump labels-check.swept labels-check.admission labels-elements.joined labels-elements.element-end labels-elements.moving-element labels-elements.plain-element labels-elements.whole-element labels-elements.element labels-labels.exchanged labels-labels.kinds-after labels-labels.loops-after labels-labels.bounded labels-labels.rule labels-labels.next-label admission-answer.answered host-numbers.admission-number host-numbers.packed-image machine-machines.current machine-machines.with-current machine-machines.code-of machine-machines.op-at machine-machines.placed machine-machines.rewound machine-fields.within machine-fields.title-bytes machine-world.at-end machine-words.test machine-words.operand-found machine-words.popped machine-words.looked-at machine-words.push machine-words.calculated machine-words.pointed machine-words.bytes-of machine-words.allocated machine-words.store machine-words.element-changed machine-words.loop-pushed machine-words.loop-popped machine-words.loop-looked-at machine-words.frame-pushed machine-words.frame-popped machine-words.bounds-found machine-words.interned machine-words.found machine-words.first-state machine-words.has-state machine-words.with-room machine-words.saved machine-opcodes.push-u32 machine-opcodes.push-byte machine-opcodes.push-calldata machine-opcodes.mul machine-opcodes.muli machine-opcodes.compare machine-opcodes.t-create machine-opcodes.get-field machine-opcodes.t-get-field machine-opcodes.set-field machine-opcodes.t-set-field machine-opcodes.t-delete machine-opcodes.s-save machine-opcodes.s-len machine-opcodes.«do» machine-opcodes.loop machine-opcodes.loop-index machine-opcodes.enter machine-opcodes.call-task machine-opcodes.end-call machine-opcodes.jump-if-false machine-opcodes.drops machine-opcodes.dup machine-opcodes.swap machine-opcodes.equal machine-opcodes.eq machine-opcodes.neq machine-opcodes.m-sti machine-opcodes.m-st machine-opcodes.m-muta machine-step.execute machine-step.step machine-run.follow machine-run.run image-image.written image-image.records image-table.load-slot image-table.load-tasks image-table.load-read image-table.load-table
+unfolding bytecode-opcodes.operand-size bytecode-operands.big-endian bytecode-operands.operand bytecode-operands.data-size bytecode-operands.behind bytecode-operands.extent inlinevec-stacks.if-room inlinevec-stacks.if-some inlinevec-stacks.push inlinevec-stacks.pop inlinevec-stacks.push-two inlinevec-stacks.last-two inlinevec-stacks.pop-two inlinevec-stacks.change-two inlinevec-stacks.push-loop inlinevec-stacks.pop-loop values-values.make-scalar-tagged values-values.is-scalar values-values.is-vec values-values.raw-tag values-values.to-u32 values-values.scalar-type values-values.get-value-type pools-pool.end-of pools-pool.start-of pools-pool.entry-of pools-pool.has-room pools-pool.interned pools-pool.never-fall pools-pool.end-to-end storage-table.lives storage-table.living-of storage-table.sound-slot storage-table.sound-slots storage-table.sound-counts storage-table.sound-table storage-tasks.blank slices-same.same creation-creation.image-tests creation-creation.creation-tests image-image.record-of image-image.header image-image.headed image-image.good image-image.task-before image-image.read-from image-image.with-count image-image.read-image slices-numbers.little-endian slices-numbers.number-at image-reading.s-len-of image-reading.instruction-bytes image-reading.image-result image-table.living-tasks image-table.refusal-by image-table.task-refusal image-table.or-else image-table.first-refusal image-table.image-of-tasks image-table.saved-over image-table.saved-unless image-table.save-tasks image-table.save-table utf8-grammar.UTF8-char utf8-utf8.holds utf8-utf8.lead utf8-utf8.from utf8-utf8.valid vm-calls.may-start vm-calls.may-continue vm-calls.allowed vm-calls.ended vm-calls.report vm-calls.call-with vm-calls.call vm-creation.create vm-creation.create-fit vm-creation.create-behind vm-reads.host-saved vm-reads.host-save vm-sound.sound-frames vm-sound.sound-lengths vm-sound.sound-record vm-sound.sound-world vm-creation.machine-of hosting-hosting.machine-to-save answering-listings.run-head answering-listings.head-of hosting-hosting.performed hosting-hosting.with-saved-image hosting-hosting.with-run hosting-hosting.with-creation hosting-hosting.perform vm-creation.blank-table hosting-hosting.own answering-answering.new-stack answering-answering.new-ends answering-answering.new-pool answering-answering.with-owned answering-answering.rafenuma-run answering-numbers.save-reason answering-numbers.reason-of answering-numbers.outcome-of answering-numbers.listing-number answering-numbers.answers listing-listing.height-of listing-listing.values-read listing-listing.line-of-refusal listing-listing.line-of-head listing-listing.line-of-count listing-listing.line-of-value listing-listing.line-of-task text-ascii.ascii text-lines.formed text-lines.line text-lines.said text-numbers.digit text-numbers.digits text-numbers.decimal text-numbers.spaced text-numbers.filled-in text-numbers.numbers-left text-numbers.filled unbox-unbox.by-type unbox-unbox.unbox-value labels-check.label-from labels-check.label-at labels-check.first-failing labels-check.first-without-rule labels-check.first-wrong-jump labels-check.swept labels-check.admission labels-elements.joined labels-elements.element-end labels-elements.moving-element labels-elements.plain-element labels-elements.whole-element labels-elements.element labels-labels.exchanged labels-labels.kinds-after labels-labels.loops-after labels-labels.bounded labels-labels.rule labels-labels.next-label admission-answer.answered host-numbers.admission-number host-numbers.packed-image machine-machines.current machine-machines.with-current machine-machines.code-of machine-machines.op-at machine-machines.placed machine-machines.rewound machine-fields.within machine-fields.title-bytes machine-world.at-end machine-words.test machine-words.operand-found machine-words.popped machine-words.looked-at machine-words.push machine-words.calculated machine-words.pointed machine-words.bytes-of machine-words.allocated machine-words.store machine-words.element-changed machine-words.loop-pushed machine-words.loop-popped machine-words.loop-looked-at machine-words.frame-pushed machine-words.frame-popped machine-words.bounds-found machine-words.interned machine-words.found machine-words.first-state machine-words.has-state machine-words.with-room machine-words.saved machine-opcodes.push-u32 machine-opcodes.push-byte machine-opcodes.push-calldata machine-opcodes.mul machine-opcodes.muli machine-opcodes.compare machine-opcodes.t-create machine-opcodes.get-field machine-opcodes.t-get-field machine-opcodes.set-field machine-opcodes.t-set-field machine-opcodes.t-delete machine-opcodes.s-save machine-opcodes.s-len machine-opcodes.«do» machine-opcodes.loop machine-opcodes.loop-index machine-opcodes.enter machine-opcodes.call-task machine-opcodes.end-call machine-opcodes.jump-if-false machine-opcodes.drops machine-opcodes.dup machine-opcodes.swap machine-opcodes.equal machine-opcodes.eq machine-opcodes.neq machine-opcodes.m-sti machine-opcodes.m-st machine-opcodes.m-muta machine-step.execute machine-step.step machine-run.follow machine-run.run image-image.written image-image.records image-table.load-slot image-table.load-tasks image-table.load-read image-table.load-table hosting-hosting.with-listing answering-listings.list-whole answering-listings.list-run answering-listings.told-length listing-listing.listing listing-listing.lines-of-values listing-listing.lines-of-tasks
 examples = record {
   run-done = refl;
   run-paused = refl;
