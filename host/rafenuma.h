@@ -3,7 +3,7 @@
  * Each function answers for every input, reads and writes only inside what is lent, keeps nothing between two calls, and allocates
  * nothing. What is lent is lent for the call alone: no other thread touches a buffer that is written, or writes to one that is read, and
  * a buffer that is written overlaps no other. No pointer is NULL, also where its length is 0. Calls that write to buffers of their own
- * may run at the same time. A run needs 320 KB of stack and an admission 1,040 KB, as measured (docs/HOST.md): a thread of 2 MB has room.
+ * may run at the same time. A run needs 128 KB of stack and an admission 1,040 KB, as measured (docs/HOST.md): a thread of 2 MB has room.
  *
  * docs/HOST.md says the same at length. The definitions that the functions are proved to meet stand in crates/host/specs.
  */
