@@ -15,6 +15,11 @@ use Rattle.listing.proofs.Same.{same-listings}
 use Rattle.printer.specs.declared.CallOutcome.{CallOutcome}
 use Rattle.printer.specs.Listed.{values-listed, call-values, call-line}
 
+-- the lines that are printed after a call: each with the count of living tasks and the task in its slot, from 0 up to their number
+abbrev pub printed : CallOutcome → List ℕ → List ℕ → List ℕ → List ℕ → List Task → List ℕ
+printed answered stack memory pool ends table =
+    joined-lines (λ number. call-line answered stack memory pool ends (living-of table) (getD table (slot-shown (values-listed answered) number) blank) number) (line-count (values-listed answered) (length table))
+
 module _ (answered : CallOutcome) (stack memory pool ends : List ℕ) (whole : length stack ≡ 1000) where
   -- no more than a stack has
   within : values-listed answered ≤ length stack
@@ -27,10 +32,8 @@ module _ (answered : CallOutcome) (stack memory pool ends : List ℕ) (whole : l
       values-length (take (answered .machine .memory) (drop 0 memory)) pool ends (answered .machine .entries) (take (values-listed answered) stack)
       ∙ length-take-le (values-listed answered) stack within
 
-  -- each line with the count of living tasks and the task in its slot, from 0 up to their number
-  pub call-listing : (table : List Task)
-      → joined-lines (λ number. call-line answered stack memory pool ends (living-of table) (getD table (slot-shown (values-listed answered) number) blank) number) (line-count (values-listed answered) (length table))
-      ≡ listing (answered .head) (call-values answered stack memory pool ends) table
+  -- they are its listing
+  pub call-listing : (table : List Task) → printed answered stack memory pool ends table ≡ listing (answered .head) (call-values answered stack memory pool ends) table
   unfolding line-at
   call-listing table =
       ap (λ (values : ℕ). joined-lines (λ number. call-line answered stack memory pool ends (living-of table) (getD table (slot-shown values number) blank) number) (line-count values (length table))) (sym as-many)
@@ -39,11 +42,6 @@ module _ (answered : CallOutcome) (stack memory pool ends : List ℕ) (whole : l
 -- what a call came to
 abbrev pub told-of-call : CallOutcome → List ℕ → List ℕ → List ℕ → List ℕ → List Task → Told
 told-of-call answered stack memory pool ends table = told (answered .head) (call-values answered stack memory pool ends) table
-
--- the lines that are printed after it
-abbrev pub printed : CallOutcome → List ℕ → List ℕ → List ℕ → List ℕ → List Task → List ℕ
-printed answered stack memory pool ends table =
-    joined-lines (λ number. call-line answered stack memory pool ends (living-of table) (getD table (slot-shown (values-listed answered) number) blank) number) (line-count (values-listed answered) (length table))
 
 -- any two calls, on any two machines
 pub same-calls : (answered other : CallOutcome) (stack stack′ memory memory′ pool pool′ ends ends′ : List ℕ) (table table′ : List Task)
