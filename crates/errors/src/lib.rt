@@ -1,4 +1,6 @@
 // The refusals (docs/REFERENCE.md, 'Refusals'), under the names of the Rust's errors.rs where it has them.
+#![tactic(auto)]
+
 ghost use Rattle.std.specs.Prelude.{◌≡◌};
 ghost use Rattle.errors.specs.Refusals.{number_of, details_of, listed};
 
