@@ -11,7 +11,7 @@ use errors::Refusal;
 pub const POOL_ENTRIES: usize = 1024;
 
 // Which entry of the pool.
-#[derive(Drop)]
+#[derive(Clone, Copy)]
 pub struct InstructionsRef(pub u32);
 
 // Where an entry stands in the pool.
