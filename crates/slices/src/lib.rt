@@ -1,4 +1,6 @@
 // Slices of bytes: a part, and equality, each total; the laws of lists that they and the writes stand on are in proofs/.
+#![tactic(auto)]
+
 pub mod places;
 pub mod writes;
 
