@@ -8,6 +8,7 @@ use errors::Refusal;
 use listing::Head;
 use listing::lines::{height_of, line_at, line_count, words_of};
 use machine::CreateResult;
+use std::rt::Stdout;
 use storage::Task;
 use text::LineResult;
 
@@ -66,6 +67,7 @@ fn call_line<'a>(
 
 // A line of the listing of a call, by its number, with the count of living tasks and the task in the line's slot.
 pub(crate) fn show_line(
+    out: Stdout,
     stack: &mut [u64; 1000],
     memory: &mut [u8],
     pool: &mut [u8],
@@ -77,31 +79,31 @@ pub(crate) fn show_line(
 )
     ensures { (stack.new ≡ stack.old) × (memory.new ≡ memory.old) × (pool.new ≡ pool.old) × (ends.new ≡ ends.old) }
 {
-    let mut room = io::buffer();
+    let mut room = [0u8; 4096];
     let line = call_line(
         &mut room, stack, memory, pool, ends, answered, living, task, number,
     );
     match line {
         LineResult::Line(_) => {
-            emit(&room, line);
+            emit(out, &room, line);
         }
         LineResult::NoLine(_) => {
             let mut large = value_room();
             let long = call_line(
                 &mut large, stack, memory, pool, ends, answered, living, task, number,
             );
-            emit(&large, long);
+            emit(out, &large, long);
         }
     }
 }
 
 // The listing of a refusal with no values and no tasks.
-fn show_refusal(refusal: Refusal) {
+fn show_refusal(out: Stdout, refusal: Refusal) {
     let words = [0u64; 0];
     let bytes = [0u8; 0];
     let ends = no_ends();
     let blank = storage::task_types::blank();
-    let mut room = io::buffer();
+    let mut room = [0u8; 4096];
     let count = line_count(0, 0);
     let mut number = 0;
     while number < count {
@@ -117,19 +119,19 @@ fn show_refusal(refusal: Refusal) {
             blank,
             number,
         );
-        emit(&room, line);
+        emit(out, &room, line);
         number = number + 1;
     }
 }
 
 // A creation that was refused.
-pub(crate) fn show_creation(creation: CreateResult)
+pub(crate) fn show_creation(out: Stdout, creation: CreateResult)
     ensures { result ≡ tt }
 {
     match creation {
         CreateResult::Created(_) => {}
         CreateResult::NotCreated(refusal) => {
-            show_refusal(refusal);
+            show_refusal(out, refusal);
         }
     }
 }

@@ -3,8 +3,8 @@ ghost use Rattle.std.specs.Prelude.{◌≡◌};
 
 use crate::{CallOutcome, emit, show_report};
 use inlinevec::{Frames, Loops};
-use libc::STDOUT_FILENO;
 use report::{Report, Word};
+use std::rt::Stdout;
 
 // The call that was asked for.
 fn call_of(verb: u8, fuel: u64) -> Report {
@@ -21,54 +21,54 @@ fn call_of(verb: u8, fuel: u64) -> Report {
 }
 
 // Where everything is shown: the call.
-pub(crate) fn show_call(verb: u8, fuel: u64, everything: bool)
+pub(crate) fn show_call(out: Stdout, verb: u8, fuel: u64, everything: bool)
     ensures { result ≡ tt }
 {
     if everything {
-        show_report(call_of(verb, fuel));
+        show_report(out, call_of(verb, fuel));
     }
 }
 
 // A word around bytes in hex.
-fn show_word(word: Word) {
-    let mut room = io::buffer();
+fn show_word(out: Stdout, word: Word) {
+    let mut room = [0u8; 4096];
     let line = report::report_words::put_word(&mut room, word);
-    emit(&room, line);
+    emit(out, &room, line);
 }
 
 // The open loops, the outer one first.
-fn show_loops(loops: Loops) {
+fn show_loops(out: Stdout, loops: Loops) {
     let outer = loops.outer;
     let inner = loops.inner;
     if 0 < loops.count {
-        show_report(Report::Open(outer));
+        show_report(out, Report::Open(outer));
     }
     if 1 < loops.count {
-        show_report(Report::Open(inner));
+        show_report(out, Report::Open(inner));
     }
 }
 
 // The frames, main first.
-fn show_frames(frames: Frames) {
+fn show_frames(out: Stdout, frames: Frames) {
     let main = frames.main;
     let task = frames.task;
-    show_report(Report::Called(main));
+    show_report(out, Report::Called(main));
     if 1 < frames.count {
-        show_report(Report::Called(task));
+        show_report(out, Report::Called(task));
     }
 }
 
 // So many bytes in hex as a room holds.
-fn show_part(room: &mut [u8], bytes: &[u8]) {
+fn show_part(out: Stdout, room: &mut [u8], bytes: &[u8]) {
     let part = text::hex::hex_part(room, bytes, 0);
-    io::write_all(STDOUT_FILENO, slices::part(room, 0, part.length));
+    streams::write(out, slices::part(room, 0, part.length));
 }
 
 // Bytes in hex, 2,048 at a time.
-fn show_hex(room: &mut [u8], bytes: &[u8]) {
+fn show_hex(out: Stdout, room: &mut [u8], bytes: &[u8]) {
     let mut at = 0;
     while at < bytes.len() {
-        show_part(room, slices::part(bytes, at, 2048));
+        show_part(out, room, slices::part(bytes, at, 2048));
         if bytes.len() - at < 2048 {
             return;
         }
@@ -77,22 +77,23 @@ fn show_hex(room: &mut [u8], bytes: &[u8]) {
 }
 
 // A word, and bytes in hex behind it.
-fn show_bytes(word: Word, bytes: &[u8]) {
-    let mut room = io::buffer();
-    show_word(word);
-    show_hex(&mut room, bytes);
-    show_word(Word::LineEnd);
+fn show_bytes(out: Stdout, word: Word, bytes: &[u8]) {
+    let mut room = [0u8; 4096];
+    show_word(out, word);
+    show_hex(out, &mut room, bytes);
+    show_word(out, Word::LineEnd);
 }
 
 // The image that was saved last, if there is one.
-fn show_image(image: &[u8]) {
+fn show_image(out: Stdout, image: &[u8]) {
     if 0 < image.len() {
-        show_bytes(Word::Image, image);
+        show_bytes(out, Word::Image, image);
     }
 }
 
 // Where everything is shown: the machine after a call, its open loops and frames, its memory in use and the image.
 pub(crate) fn show_machine(
+    out: Stdout,
     memory: &mut [u8],
     save: &mut [u8],
     answered: CallOutcome,
@@ -104,10 +105,10 @@ pub(crate) fn show_machine(
         let after = answered.machine;
         let loops = after.loops;
         let frames = after.frames;
-        show_report(Report::After(after));
-        show_loops(loops);
-        show_frames(frames);
-        show_bytes(Word::Memory, slices::part(memory, 0, after.memory));
-        show_image(slices::part(save, 0, after.saved));
+        show_report(out, Report::After(after));
+        show_loops(out, loops);
+        show_frames(out, frames);
+        show_bytes(out, Word::Memory, slices::part(memory, 0, after.memory));
+        show_image(out, slices::part(save, 0, after.saved));
     }
 }

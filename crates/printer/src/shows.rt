@@ -11,10 +11,12 @@ use crate::machine_lines::{show_call, show_machine};
 use listing::lines::{line_count, slot_shown};
 use machine::Machine;
 use machine::new_machines::machine_of;
+use std::rt::Stdout;
 use storage::Task;
 
 // The listing of a call: its lines, one after the other.
 fn show_listing(
+    out: Stdout,
     table: &mut [Task],
     stack: &mut [u64; 1000],
     memory: &mut [u8],
@@ -31,7 +33,9 @@ fn show_listing(
     while number < count {
         let slot = slot_shown(values, number);
         let task = table::get(table, slot);
-        show_line(stack, memory, pool, ends, answered, living, task, number);
+        show_line(
+            out, stack, memory, pool, ends, answered, living, task, number,
+        );
         number = number + 1;
     }
 }
@@ -63,6 +67,7 @@ fn act(
 
 // The call of a number, and its lines: the listing, and where everything is shown the call before it and the machine behind it.
 fn turn(
+    out: Stdout,
     table: &mut [Task],
     stack: &mut [u64; 1000],
     memory: &mut [u8],
@@ -80,14 +85,15 @@ fn turn(
     let verb = verb_at(calls, from, number);
     let fuel = fuel_at(calls, from, number);
     let answered = act(table, stack, memory, pool, ends, save, machine, verb, fuel);
-    show_call(verb, fuel, everything);
-    show_listing(table, stack, memory, pool, ends, answered);
-    show_machine(memory, save, answered, everything);
+    show_call(out, verb, fuel, everything);
+    show_listing(out, table, stack, memory, pool, ends, answered);
+    show_machine(out, memory, save, answered, everything);
     machine_after(answered)
 }
 
 // The first so many calls, one after the other, and the machine after them.
 fn play(
+    out: Stdout,
     table: &mut [Task],
     stack: &mut [u64; 1000],
     memory: &mut [u8],
@@ -106,7 +112,7 @@ fn play(
     let mut number = 0;
     while number < count {
         machine = turn(
-            table, stack, memory, pool, ends, save, calls, machine, from, number, everything,
+            out, table, stack, memory, pool, ends, save, calls, machine, from, number, everything,
         );
         number = number + 1;
     }
@@ -115,6 +121,7 @@ fn play(
 
 // Creates a machine over a blank table, and performs the calls that stand from a place on.
 pub fn own(
+    out: Stdout,
     stack: &mut [u64; 1000],
     memory: &mut [u8],
     pool: &mut [u8],
@@ -132,10 +139,10 @@ pub fn own(
     let blank = storage::task_types::blank();
     let mut table = [blank; 256];
     let creation = vm::creating::create(&mut table, pool, ends, image, program);
-    show_creation(creation);
+    show_creation(out, creation);
     let begun = machine_of(creation);
     let allowed = count_of(creation, count);
     play(
-        &mut table, stack, memory, pool, ends, save, calls, begun, from, allowed, everything,
+        out, &mut table, stack, memory, pool, ends, save, calls, begun, from, allowed, everything,
     );
 }

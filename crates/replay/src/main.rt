@@ -1,9 +1,9 @@
 // Reads a batch of cases from standard input, and prints what each call of each case does.
-ghost use Rattle.std.specs.Prelude.{◌<◌};
-ghost use Rattle.io.specs.Counts.{IsPrefixLen};
+ghost use Rattle.std.specs.Prelude.{◌≡◌, ◌<◌, ◌≤◌, length, take};
 
-use libc::{STDIN_FILENO, STDOUT_FILENO};
 use report::Report;
+use std::io;
+use std::rt::Stdout;
 use text::LineResult;
 
 // A case as it stands in a batch: the places and sizes of its image and its program, the place of its calls and how many of them are whole;
@@ -37,11 +37,11 @@ fn room() -> [u8; 1048576] {
 }
 
 // Writes a line beside the listing.
-fn show_report(report: Report) {
-    let mut line = io::buffer();
+fn show_report(out: Stdout, report: Report) {
+    let mut line = [0u8; 4096];
     match report::report_line(&mut line, report) {
         LineResult::Line(length) => {
-            io::write_all(STDOUT_FILENO, slices::part(&line, 0, length));
+            streams::write(out, slices::part(&line, 0, length));
         }
         LineResult::NoLine(_) => {}
     }
@@ -182,7 +182,7 @@ fn case_at(batch: &[u8], at: usize) -> Case {
 
 // As much of a size as a room holds.
 fn fitting(room: &[u8], size: usize) -> usize
-    ensures { IsPrefixLen result room.now }
+    ensures { (result ≤ length room.now) × (result ≡ length (take result room.now)) }
 {
     if room.len() < size {
         return room.len();
@@ -197,6 +197,7 @@ fn copy(room: &mut [u8], bytes: &[u8]) {
 
 // Performs a case.
 fn perform(
+    out: Stdout,
     stack: &mut [u64; 1000],
     memory: &mut [u8],
     pool: &mut [u8],
@@ -215,6 +216,7 @@ fn perform(
     let image_size = fitting(image, case.image_size);
     let program_size = fitting(program, case.program_size);
     printer::shows::own(
+        out,
         stack,
         memory,
         pool,
@@ -231,6 +233,7 @@ fn perform(
 
 // Performs the case at a place, with so many that may still come, and says where the next one starts: at the end, where the form is broken.
 fn perform_at(
+    out: Stdout,
     stack: &mut [u64; 1000],
     memory: &mut [u8],
     pool: &mut [u8],
@@ -244,14 +247,16 @@ fn perform_at(
 ) -> usize {
     let case = case_at(batch, at);
     if !case.headed {
-        show_report(Report::BadBatch(case.end));
+        show_report(out, Report::BadBatch(case.end));
         return batch.len();
     }
     let number = std::num::wrapping_sub_usize(batch.len(), left);
-    show_report(Report::Case(number));
-    perform(stack, memory, pool, ends, save, image, program, batch, case);
+    show_report(out, Report::Case(number));
+    perform(
+        out, stack, memory, pool, ends, save, image, program, batch, case,
+    );
     if !case.whole {
-        show_report(Report::BadBatch(case.end));
+        show_report(out, Report::BadBatch(case.end));
         return batch.len();
     }
     case.end
@@ -259,6 +264,7 @@ fn perform_at(
 
 // Performs the cases of a batch, of which there are no more than bytes.
 fn replay(
+    out: Stdout,
     stack: &mut [u64; 1000],
     memory: &mut [u8],
     pool: &mut [u8],
@@ -275,23 +281,24 @@ fn replay(
             return;
         }
         at = perform_at(
-            stack, memory, pool, ends, save, image, program, batch, at, left,
+            out, stack, memory, pool, ends, save, image, program, batch, at, left,
         );
         left = left - 1;
     }
 }
 
-fn main() {
+fn main(rt: HostRuntime) -> io::Result<()> {
     let mut batch = room();
-    let length = io::read_full(STDIN_FILENO, &mut batch);
+    let length = streams::read(rt.stdin(), &mut batch)?;
     let mut stack = stack_room();
-    let mut memory = io::large_buffer();
-    let mut pool = io::large_buffer();
+    let mut memory = [0u8; 65536];
+    let mut pool = [0u8; 65536];
     let mut ends = ends_room();
     let mut save = room();
     let mut image = room();
     let mut program = room();
     replay(
+        rt.stdout(),
         &mut stack,
         &mut memory,
         &mut pool,
@@ -301,4 +308,5 @@ fn main() {
         &mut program,
         &mut batch[..length],
     );
+    Ok(())
 }

@@ -1,5 +1,5 @@
 // Reads a program from standard input, runs it fresh, and prints the listing.
-use libc::STDIN_FILENO;
+use std::io;
 
 // Room for the stack.
 fn stack_room() -> [u64; 1000] {
@@ -21,17 +21,18 @@ fn only_call() -> [u8; 9] {
     [0u8, 64u8, 66u8, 15u8, 0u8, 0u8, 0u8, 0u8, 0u8]
 }
 
-fn main() {
-    let mut program = io::large_buffer();
-    let length = io::read_full(STDIN_FILENO, &mut program);
+fn main(rt: HostRuntime) -> io::Result<()> {
+    let mut program = [0u8; 65536];
+    let length = streams::read(rt.stdin(), &mut program)?;
     let mut stack = stack_room();
-    let mut memory = io::large_buffer();
-    let mut pool = io::large_buffer();
+    let mut memory = [0u8; 65536];
+    let mut pool = [0u8; 65536];
     let mut ends = ends_room();
     let mut save = save_room();
     let image = [0u8; 0];
     let mut calls = only_call();
     printer::shows::own(
+        rt.stdout(),
         &mut stack,
         &mut memory,
         &mut pool,
@@ -44,4 +45,5 @@ fn main() {
         1,
         false,
     );
+    Ok(())
 }

@@ -1,9 +1,9 @@
 // Starts and reruns machines whose record, table or pool was forged, one to each condition of refusal 26, and prints what each answers; the first is honest.
 use inlinevec::Frame;
-use libc::STDOUT_FILENO;
 use machine::new_machines::machine_of;
 use machine::{Machine, Outcome, Report, Verb};
 use pools::InstructionsRef;
+use std::rt::Stdout;
 use storage::{Task, TaskId};
 
 // Room for the stack.
@@ -168,49 +168,49 @@ fn fuel_of_a_call() -> u64 {
     9
 }
 
-fn say(text: &[u8]) {
-    io::write_all(STDOUT_FILENO, text);
+fn say(out: Stdout, text: &[u8]) {
+    streams::write(out, text);
 }
 
-fn say_number(number: u64) {
-    say(b" ");
-    io::print_decimal(STDOUT_FILENO, number);
+fn say_number(out: Stdout, number: u64) {
+    let _ = print!(out; " {number}");
 }
 
 // The name of a call.
-fn say_verb(attempt: usize) {
+fn say_verb(out: Stdout, attempt: usize) {
     if is_start(attempt) {
-        say(b", start");
+        say(out, b", start");
         return;
     }
-    say(b", rerun");
+    say(out, b", rerun");
 }
 
 // What a call answers.
-fn show(attempt: usize, report: Report) {
+fn show(out: Stdout, attempt: usize, report: Report) {
     let outcome = report.outcome;
-    say(b"forged");
-    say_number(forgery_of(attempt) as u64);
-    say_verb(attempt);
+    say(out, b"forged");
+    say_number(out, forgery_of(attempt) as u64);
+    say_verb(out, attempt);
     match outcome {
         Outcome::Done => {
-            say(b": done");
-            say_number(report.finished);
+            say(out, b": done");
+            say_number(out, report.finished);
         }
         Outcome::Paused => {
-            say(b": paused");
-            say_number(report.finished);
+            say(out, b": paused");
+            say_number(out, report.finished);
         }
         Outcome::Refused(refusal) => {
-            say(b": refused");
-            say_number(errors::number_of(refusal) as u64);
+            say(out, b": refused");
+            say_number(out, errors::number_of(refusal) as u64);
         }
     }
-    say(b"\n");
+    say(out, b"\n");
 }
 
 // Creates a machine over one task, forges it, and starts or reruns it.
 fn attempt(
+    out: Stdout,
     table: &mut [Task],
     stack: &mut [u64; 1000],
     memory: &mut [u8],
@@ -241,11 +241,12 @@ fn attempt(
         verb_of(number),
         fuel,
     );
-    show(number, report);
+    show(out, number, report);
 }
 
 // The same over a blank table.
 fn own(
+    out: Stdout,
     stack: &mut [u64; 1000],
     memory: &mut [u8],
     pool: &mut [u8],
@@ -258,20 +259,21 @@ fn own(
     let blank = storage::task_types::blank();
     let mut table = [blank; 256];
     attempt(
-        &mut table, stack, memory, pool, ends, save, image, program, number,
+        out, &mut table, stack, memory, pool, ends, save, image, program, number,
     );
 }
 
 // One forgery, over buffers of its own.
-fn forge(number: usize) {
+fn forge(out: Stdout, number: usize) {
     let mut stack = stack_room();
-    let mut memory = io::large_buffer();
-    let mut pool = io::large_buffer();
+    let mut memory = [0u8; 65536];
+    let mut pool = [0u8; 65536];
     let mut ends = ends_room();
-    let mut save = io::buffer();
+    let mut save = [0u8; 4096];
     let image = one_task();
     let program = program();
     own(
+        out,
         &mut stack,
         &mut memory,
         &mut pool,
@@ -283,10 +285,10 @@ fn forge(number: usize) {
     );
 }
 
-fn main() {
+fn main(rt: HostRuntime) {
     let mut number = 0;
     while number < 40 {
-        forge(number);
+        forge(rt.stdout(), number);
         number = number + 1;
     }
 }

@@ -2,9 +2,9 @@
 ghost use Rattle.std.specs.Prelude.{◌<◌};
 
 use errors::Refusal;
-use libc::STDOUT_FILENO;
 use memory::{AllocResult, ChangeResult, ElementIndex};
 use pools::InstructionsRef;
+use std::rt::Stdout;
 use values::{FatPointer, PointerResult, TagResult, ValueResult, ValueType};
 
 // The byte at a place, 0 past the end.
@@ -50,142 +50,157 @@ fn word(case: &[u8], at: usize) -> u64
     low + high * 0x100000000
 }
 
-fn say(text: &[u8]) {
-    io::write_all(STDOUT_FILENO, text);
+fn say(out: Stdout, text: &[u8]) {
+    streams::write(out, text);
 }
 
-fn say_number(n: u64) {
-    say(b" ");
-    io::print_decimal(STDOUT_FILENO, n);
+fn say_number(out: Stdout, n: u64) {
+    say(out, b" ");
+    let _ = print!(out; "{}", n);
 }
 
-fn say_refusal(refusal: Refusal) {
-    say(b"refused");
-    say_number(errors::number_of(refusal) as u64);
+fn say_refusal(out: Stdout, refusal: Refusal) {
+    say(out, b"refused");
+    say_number(out, errors::number_of(refusal) as u64);
     match errors::details_of(refusal) {
-        errors::Details::Nothing => say(b"\n"),
+        errors::Details::Nothing => say(out, b"\n"),
         errors::Details::One(a) => {
-            say_number(a as u64);
-            say(b"\n");
+            say_number(out, a as u64);
+            say(out, b"\n");
         }
         errors::Details::Two(a, b) => {
-            say_number(a as u64);
-            say_number(b as u64);
-            say(b"\n");
+            say_number(out, a as u64);
+            say_number(out, b as u64);
+            say(out, b"\n");
         }
     }
 }
 
-fn say_value(res: ValueResult) {
+fn say_value(out: Stdout, res: ValueResult) {
     match res {
         ValueResult::Value(v) => {
-            say(b"value ");
-            io::print_hex(STDOUT_FILENO, v, 16);
-            say(b"\n");
+            say(out, b"value ");
+            let _ = print!(out; "{:016x}", v);
+            say(out, b"\n");
         }
-        ValueResult::NoValue(refusal) => say_refusal(refusal),
+        ValueResult::NoValue(refusal) => say_refusal(out, refusal),
     }
 }
 
-fn say_bytes(bytes: &[u8]) {
+fn say_bytes(out: Stdout, bytes: &[u8]) {
     let mut i = 0;
     while i < bytes.len() {
-        io::print_hex(STDOUT_FILENO, wide(bytes[i]), 2);
+        let _ = print!(out; "{:02x}", wide(bytes[i]));
         i += 1;
     }
-    say(b"\n");
+    say(out, b"\n");
 }
 
-fn say_bool(b: bool) {
+fn say_bool(out: Stdout, b: bool) {
     if b {
-        say(b"true\n");
+        say(out, b"true\n");
         return;
     }
-    say(b"false\n");
+    say(out, b"false\n");
 }
 
 // u: whether bytes are UTF-8.
-fn case_utf8(case: &[u8]) {
-    say_bool(utf8::is_utf8(slices::part(case, 1, 255)));
+fn case_utf8(out: Stdout, case: &[u8]) {
+    say_bool(out, utf8::is_utf8(slices::part(case, 1, 255)));
 }
 
 // b: boxing a number, calldata, a bool or a vector.
-fn case_box(case: &[u8]) {
+fn case_box(out: Stdout, case: &[u8]) {
     let a = number(case, 2) as u32;
     let op = byte(case, 1);
     match op {
-        0 => say_value(ValueResult::Value(values::boxing::to_u32_val(a))),
-        1 => say_value(ValueResult::Value(values::boxing::to_calldata_val(InstructionsRef(a)))),
-        2 => say_value(ValueResult::Value(values::boxing::to_bool_val(a == 1))),
-        3 => say_value(values::boxing::to_vec_val(a as usize, half(case, 6) as u16, 4)),
-        _ => say_value(values::boxing::to_vec_val(a as usize, half(case, 6) as u16, 6)),
+        0 => say_value(out, ValueResult::Value(values::boxing::to_u32_val(a))),
+        1 => say_value(
+            out,
+            ValueResult::Value(values::boxing::to_calldata_val(InstructionsRef(a))),
+        ),
+        2 => say_value(out, ValueResult::Value(values::boxing::to_bool_val(a == 1))),
+        3 => say_value(
+            out,
+            values::boxing::to_vec_val(a as usize, half(case, 6) as u16, 4),
+        ),
+        _ => say_value(
+            out,
+            values::boxing::to_vec_val(a as usize, half(case, 6) as u16, 6),
+        ),
     }
 }
 
-fn say_type(kind: ValueType) {
+fn say_type(out: Stdout, kind: ValueType) {
     match kind {
-        ValueType::U32 => say(b"U32\n"),
-        ValueType::String => say(b"String\n"),
-        ValueType::CallData => say(b"CallData\n"),
-        ValueType::Boolean => say(b"Bool\n"),
-        ValueType::VecU32 => say(b"VecU32\n"),
-        ValueType::Null => say(b"Null\n"),
-        ValueType::NoType => say_refusal(Refusal::InvalidType),
+        ValueType::U32 => say(out, b"U32\n"),
+        ValueType::String => say(out, b"String\n"),
+        ValueType::CallData => say(out, b"CallData\n"),
+        ValueType::Boolean => say(out, b"Bool\n"),
+        ValueType::VecU32 => say(out, b"VecU32\n"),
+        ValueType::Null => say(out, b"Null\n"),
+        ValueType::NoType => say_refusal(out, Refusal::InvalidType),
     }
 }
 
 // w: what a word is: as a number, its tag, its pointer, its type.
-fn case_word(case: &[u8]) {
+fn case_word(out: Stdout, case: &[u8]) {
     let v = word(case, 1);
-    say(b"number");
-    say_number(values::to_u32(v) as u64);
-    say(b"\ntag ");
+    say(out, b"number");
+    say_number(out, values::to_u32(v) as u64);
+    say(out, b"\ntag ");
     match values::tag_of(v) {
         TagResult::Tag(tag) => {
-            io::print_decimal(STDOUT_FILENO, tag);
-            say(b"\n");
+            let _ = print!(out; "{}", tag);
+            say(out, b"\n");
         }
-        TagResult::NoTag(refusal) => say_refusal(refusal),
+        TagResult::NoTag(refusal) => say_refusal(out, refusal),
     }
-    say(b"pointer ");
+    say(out, b"pointer ");
     match values::to_fat_pointer(v) {
         PointerResult::Pointer(pointer) => {
-            io::print_decimal(STDOUT_FILENO, pointer.offset as u64);
-            say_number(pointer.size as u64);
-            say(b"\n");
+            let _ = print!(out; "{}", pointer.offset as u64);
+            say_number(out, pointer.size as u64);
+            say(out, b"\n");
         }
-        PointerResult::NoPointer(refusal) => say_refusal(refusal),
+        PointerResult::NoPointer(refusal) => say_refusal(out, refusal),
     }
-    say(b"type ");
-    say_type(values::kinds::get_value_type(v));
+    say(out, b"type ");
+    say_type(out, values::kinds::get_value_type(v));
 }
 
 // c: two words calculated with.
-fn case_pair(case: &[u8]) {
+fn case_pair(out: Stdout, case: &[u8]) {
     let a = word(case, 1);
     let b = word(case, 9);
-    say(b"mul ");
-    say_value(values::calculations::mul_checked(a, b));
-    say(b"muli ");
-    say_value(values::calculations::mul_checked_i(a, values::to_u32(b)));
-    say(b"eq ");
-    say_value(values::comparison::value_eq(a, b));
-    say(b"neq ");
-    say_value(values::comparison::value_neq(a, b));
-    say(b"lt ");
-    say_value(values::comparison::value_cmp(a, b, true));
-    say(b"gt ");
-    say_value(values::comparison::value_cmp(a, b, false));
+    say(out, b"mul ");
+    say_value(out, values::calculations::mul_checked(a, b));
+    say(out, b"muli ");
+    say_value(
+        out,
+        values::calculations::mul_checked_i(a, values::to_u32(b)),
+    );
+    say(out, b"eq ");
+    say_value(out, values::comparison::value_eq(a, b));
+    say(out, b"neq ");
+    say_value(out, values::comparison::value_neq(a, b));
+    say(out, b"lt ");
+    say_value(out, values::comparison::value_cmp(a, b, true));
+    say(out, b"gt ");
+    say_value(out, values::comparison::value_cmp(a, b, false));
 }
 
 // p: where an allocation would go, at any length in use.
-fn case_place(case: &[u8]) {
+fn case_place(out: Stdout, case: &[u8]) {
     let used = number(case, 2) as usize;
-    say_value(memory::allocation::vector(used, half(case, 6) as u16, byte(case, 1)));
+    say_value(
+        out,
+        memory::allocation::vector(used, half(case, 6) as u16, byte(case, 1)),
+    );
 }
 
 // a: an allocation in a memory of 32 bytes that held EE.
-fn case_alloc(case: &[u8]) {
+fn case_alloc(out: Stdout, case: &[u8]) {
     let mut bytes = [0xEEu8; 32];
     let used = wide(byte(case, 2)) as usize;
     match memory::allocation::alloc(
@@ -196,18 +211,18 @@ fn case_alloc(case: &[u8]) {
         byte(case, 1),
     ) {
         AllocResult::Allocated { value, used: end } => {
-            say(b"used");
-            say_number(end as u64);
-            say(b" ");
-            say_value(ValueResult::Value(value));
+            say(out, b"used");
+            say_number(out, end as u64);
+            say(out, b" ");
+            say_value(out, ValueResult::Value(value));
         }
-        AllocResult::NotAllocated(refusal) => say_refusal(refusal),
+        AllocResult::NotAllocated(refusal) => say_refusal(out, refusal),
     }
-    say_bytes(&bytes);
+    say_bytes(out, &bytes);
 }
 
 // m: a change in a memory of 16 bytes that holds EE.
-fn case_change(case: &[u8]) {
+fn case_change(out: Stdout, case: &[u8]) {
     let mut bytes = [0xEEu8; 16];
     let pointer = FatPointer {
         offset: wide(byte(case, 2)) as u32,
@@ -221,22 +236,22 @@ fn case_change(case: &[u8]) {
         number(case, 9) as u32,
         wide(byte(case, 1)),
     ) {
-        ChangeResult::Changed => say(b"changed\n"),
-        ChangeResult::NotChanged(refusal) => say_refusal(refusal),
+        ChangeResult::Changed => say(out, b"changed\n"),
+        ChangeResult::NotChanged(refusal) => say_refusal(out, refusal),
     }
-    say_bytes(&bytes);
+    say_bytes(out, &bytes);
 }
 
-pub(crate) fn case(case: &[u8]) {
+pub(crate) fn case(out: Stdout, case: &[u8]) {
     let op = byte(case, 0);
     match op {
-        b'u' => case_utf8(case),
-        b'b' => case_box(case),
-        b'w' => case_word(case),
-        b'c' => case_pair(case),
-        b'p' => case_place(case),
-        b'a' => case_alloc(case),
-        b'm' => case_change(case),
-        _ => say(b"no such case\n"),
+        b'u' => case_utf8(out, case),
+        b'b' => case_box(out, case),
+        b'w' => case_word(out, case),
+        b'c' => case_pair(out, case),
+        b'p' => case_place(out, case),
+        b'a' => case_alloc(out, case),
+        b'm' => case_change(out, case),
+        _ => say(out, b"no such case\n"),
     }
 }

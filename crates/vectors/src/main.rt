@@ -3,7 +3,8 @@ mod cases;
 
 ghost use Rattle.std.specs.Prelude.{◌≤◌, ◌<◌, length};
 
-use libc::STDIN_FILENO;
+use std::io;
+use std::rt::Stdout;
 
 // A byte as a size.
 fn wide(byte: u8) -> usize
@@ -13,19 +14,20 @@ fn wide(byte: u8) -> usize
 }
 
 // A case is one byte that counts the bytes behind it; cases follow each other to the end.
-fn run(input: &[u8])
+fn run(out: Stdout, input: &[u8])
     requires { length input.now ≤ 65536 }
 {
     let mut at = 0;
     while at < input.len() {
         let size = wide(input[at]);
-        cases::case(slices::part(input, at + 1, size));
+        cases::case(out, slices::part(input, at + 1, size));
         at = at + 1 + size;
     }
 }
 
-fn main() {
-    let mut input = io::large_buffer();
-    let n = io::read_full(STDIN_FILENO, &mut input);
-    run(&input[..n]);
+fn main(rt: HostRuntime) -> io::Result<()> {
+    let mut input = [0u8; 65536];
+    let n = streams::read(rt.stdin(), &mut input)?;
+    run(rt.stdout(), &input[..n]);
+    Ok(())
 }
