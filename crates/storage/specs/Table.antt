@@ -1,5 +1,5 @@
 -- The table of tasks: a state set in a slot, how many slots are living, and when a table is sound.
-use Rattle.std.specs.Prelude.{ℕ, ◌+◌, Bool, true, cond, ◌&&◌, List, [], ◌∷◌, length, set, ◌==◌, nat_le, nat_lt, slice_index_or, slice_set}
+use Rattle.std.specs.Prelude.{ℕ, ◌+◌, Bool, true, cond, ◌&&◌, List, [], ◌∷◌, length, ◌==◌, nat_le, nat_lt, slice_index_or, slice_set}
 use Rattle.storage.specs.declared.Task.{Task}
 use Rattle.storage.specs.declared.StateResult.{StateResult}
 use Rattle.storage.specs.Tasks.{blank, After, after, set_state}

@@ -6,6 +6,7 @@ use crate::{FindResult, RoomResult, Task, TaskId};
 use errors::Refusal;
 
 // The slot of a task: its id.
+#[tactic(auto, unfolding(crate::specs::Storage::slot_of))]
 pub fn slot_of(id: TaskId) -> usize
     ensures { result ≡ slot_of id }
 {
@@ -13,6 +14,7 @@ pub fn slot_of(id: TaskId) -> usize
 }
 
 // Whether the record of an id's slot is a task.
+#[tactic(auto, unfolding(crate::specs::Storage::find))]
 pub fn find(task: Task, id: TaskId) -> FindResult
     ensures { result ≡ find task id }
 {
@@ -23,6 +25,7 @@ pub fn find(task: Task, id: TaskId) -> FindResult
 }
 
 // Whether one more task has room: a slot first, then its title.
+#[tactic(auto, unfolding(crate::specs::Storage::room))]
 pub fn room(next_id: TaskId, title_len: usize) -> RoomResult
     ensures { result ≡ room next_id.0 title_len }
 {
@@ -36,6 +39,7 @@ pub fn room(next_id: TaskId, title_len: usize) -> RoomResult
 }
 
 // What S_LEN pushes once a task with this id was held.
+#[tactic(auto, unfolding(crate::specs::Storage::len_after))]
 pub fn len_after(count: u32, id: TaskId) -> u32
     ensures { result ≡ len_after count id.0 }
 {

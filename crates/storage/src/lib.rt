@@ -1,4 +1,6 @@
 // Tasks: the record, its state, and its id.
+#![tactic(auto)]
+
 pub mod ids;
 pub mod states;
 pub mod task_types;
@@ -7,11 +9,11 @@ use errors::Refusal;
 use pools::InstructionsRef;
 
 // Which task: never a pool reference, never an element's index.
-#[derive(Drop)]
+#[derive(Clone, Copy)]
 pub struct TaskId(pub u32);
 
 // How many states a task has, and which of them it is in.
-#[derive(Drop)]
+#[derive(Clone, Copy)]
 pub struct TaskState {
     pub len: u8,
     pub state: u8,
@@ -19,7 +21,7 @@ pub struct TaskState {
 
 // A slot of the table. One that is not living is the blank record; bytes past the title are 0. The fields go from wide to narrow, so that no byte between two
 // of them is nobody's: a record is then written in whole words.
-#[derive(Drop)]
+#[derive(Clone, Copy)]
 pub struct Task {
     pub title: [u8; 128],
     pub title_len: usize,

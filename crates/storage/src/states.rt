@@ -6,6 +6,7 @@ use crate::{DefaultResult, StateChange, StateResult, Task, TaskState};
 use errors::Refusal;
 
 // The first of so many states.
+#[tactic(auto, unfolding(crate::specs::Tasks::default_state))]
 pub fn default_state(len: u8) -> DefaultResult
     ensures { result ≡ default_state len }
 {
@@ -23,6 +24,7 @@ pub fn no_such_state(new_state: u32) -> StateResult
 }
 
 // The state byte that a task has after it was put into a state, and the answer.
+#[tactic(auto, unfolding(crate::specs::Tasks::with_state))]
 pub fn with_state(state: TaskState, new_state: u32) -> StateChange
     ensures { result ≡ with_state state new_state }
 {
@@ -43,6 +45,7 @@ pub fn with_state(state: TaskState, new_state: u32) -> StateChange
 }
 
 // A task that is lent is put into a state: its state byte is written, and nothing else.
+#[tactic(auto, unfolding(crate::specs::Tasks::set_state))]
 pub fn set_state(task: &mut Task, new_state: u32) -> StateResult
     ensures { after result task.new ≡ set_state task.old new_state }
 {

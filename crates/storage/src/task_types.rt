@@ -6,6 +6,7 @@ use crate::{Task, TaskId, TaskState};
 use pools::InstructionsRef;
 
 // The record of a slot that is not living.
+#[tactic(auto, unfolding(crate::specs::Tasks::blank, crate::specs::Tasks::no_title))]
 pub fn blank() -> Task
     ensures { result ≡ blank }
 {
@@ -30,6 +31,7 @@ fn title_len(length: usize) -> usize
 }
 
 // A title as a record holds it: its first 128 bytes, zeros behind.
+#[tactic(auto, using(crate::proofs::Titles::title_written))]
 pub(crate) fn title_of(bytes: &[u8]) -> [u8; 128]
     ensures { result ≡ title_of bytes.now }
 {
@@ -39,6 +41,7 @@ pub(crate) fn title_of(bytes: &[u8]) -> [u8; 128]
 }
 
 // A living task with a title.
+#[tactic(auto, unfolding(crate::specs::Tasks::new_task))]
 pub fn new_task(
     id: TaskId,
     title: &[u8],
