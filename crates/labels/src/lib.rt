@@ -1,4 +1,5 @@
 // The admission rules (docs/REFERENCE.md, 'Admission'): the kinds, the elements of a program, the labels, and when a program is admitted.
+#![tactic(auto)]
 
 // The kinds, whose letters are N, C, B, S and V.
 #[derive(Drop)]
