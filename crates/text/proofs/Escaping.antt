@@ -18,10 +18,12 @@ as_they_are high [] plain = refl
 as_they_are high (byte ∷ more) plain =
     rw (plain 0 (omega arith)) (ap (λ (l : List ℕ). byte ∷ l) (as_they_are high more (λ k inside. plain (suc k) (omega arith))))
 
--- a byte from 32 up that is not 127 and no backslash is not escaped
-pub plain_byte : (byte : ℕ) → 32 ≤ byte → (byte ≡ 127 → ⊥) → (byte ≡ 92 → ⊥) → is_escaped false byte ≡ false
+-- a byte from 32 to 126 that is no backslash is not escaped
+pub plain_byte : (byte : ℕ) → 32 ≤ byte → byte ≤ 126 → (byte ≡ 92 → ⊥) → is_escaped false byte ≡ false
 unfolding is_escaped
-plain_byte byte low not_last other = rw (le-ltb byte 32 low, ne_eqb byte 127 not_last, ne_eqb byte 92 other)
+plain_byte byte low high other =
+    let not_last : byte ≡ 127 → ⊥ = λ is. omega arith in
+    rw (le-ltb byte 32 low, ne_eqb byte 127 not_last, ne_eqb byte 92 other)
 
 -- a byte takes at most three characters
 shown_short : (high : Bool) (byte : ℕ) → length (shown high byte) ≤ 3

@@ -59,39 +59,85 @@ pub(crate) fn put_escape(out: &mut [u8], at: usize, byte: u8) -> usize
     at + 3
 }
 
-// 255 for 127 and for a backslash, else 0.
-fn mark(byte: u8) -> u8
-    ensures { result ≡ 0 → (byte ≡ 127 → ⊥) × (byte ≡ 92 → ⊥) }
+// 1 for a backslash, else 0.
+fn backslash(byte: u8) -> u8
+    ensures { result ≡ 0 → byte ≡ 92 → ⊥ }
 {
-    if byte == 127 {
-        return 255;
-    }
     if byte == b'\\' {
-        return 255;
+        return 1;
     }
     0
 }
 
-// Where it is true, no byte of UTF-8 is escaped: each is from 32 up, and none is marked. The common text is such a one, and this sees it fast.
-pub(crate) fn is_plain(bytes: &[u8]) -> bool
+// Where it is true, no byte is escaped: each is from 32 to 126 and no backslash. The common text is such a one, and this sees it fast.
+fn is_plain_ascii(bytes: &[u8]) -> bool
     ensures { result ≡ true → (k : ℕ) → k < length bytes.now → is_escaped false (get_or bytes.now k 0) ≡ false }
 {
     let mut lowest: u8 = 255;
-    let mut marked: u8 = 0;
+    let mut highest: u8 = 0;
+    let mut slash: u8 = 0;
     let mut i = 0;
     while i < bytes.len() {
         let byte = bytes[i];
-        let here = mark(byte);
+        let here = backslash(byte);
         if byte < lowest {
             lowest = byte;
         }
-        if marked < here {
-            marked = here;
+        if highest < byte {
+            highest = byte;
+        }
+        if slash < here {
+            slash = here;
         }
         i += 1;
     }
     if lowest < 32 {
         return false;
     }
-    marked == 0
+    if 126 < highest {
+        return false;
+    }
+    slash == 0
+}
+
+// 1 for a byte of UTF-8 that is escaped, else 0.
+fn mark(byte: u8) -> u8
+    ensures { result ≡ 0 → is_escaped false byte ≡ false }
+{
+    if byte < 32 {
+        return 1;
+    }
+    if byte == 127 {
+        return 1;
+    }
+    if byte == b'\\' {
+        return 1;
+    }
+    0
+}
+
+// Where it is 0, no byte of UTF-8 is escaped.
+fn highest_mark(bytes: &[u8]) -> u8
+    ensures { result ≡ 0 → (k : ℕ) → k < length bytes.now → is_escaped false (get_or bytes.now k 0) ≡ false }
+{
+    let mut highest: u8 = 0;
+    let mut i = 0;
+    while i < bytes.len() {
+        let here = mark(bytes[i]);
+        if highest < here {
+            highest = here;
+        }
+        i += 1;
+    }
+    highest
+}
+
+// Where it is true, no byte of UTF-8 is escaped.
+pub(crate) fn is_plain(bytes: &[u8]) -> bool
+    ensures { result ≡ true → (k : ℕ) → k < length bytes.now → is_escaped false (get_or bytes.now k 0) ≡ false }
+{
+    if is_plain_ascii(bytes) {
+        return true;
+    }
+    highest_mark(bytes) == 0
 }

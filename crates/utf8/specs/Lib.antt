@@ -1,3 +1,3 @@
 pub mod Grammar
 pub mod Utf8
-pub mod Characters
+pub mod Steps

@@ -1,119 +1,47 @@
-// UTF-8 by RFC 3629: one test, a character at a time.
-ghost use Rattle.std.specs.Prelude.{◌≡◌, [], ◌∷◌, ℕ, ◌+◌, ◌<◌, ◌≤◌, length, get_or, drop};
-ghost use Rattle.utf8.specs.Grammar.{%x, UTF8_tail};
-ghost use Rattle.utf8.specs.Utf8.{holds, from, valid};
-ghost use Rattle.utf8.specs.Characters.{second_low, second_high, valid_behind};
+// UTF-8 by RFC 3629: one test, an octet at a time.
+ghost use Rattle.std.specs.Prelude.{◌≡◌, List, [], ◌∷◌, ℕ, ◌<◌, ◌≤◌, length, get_or};
+ghost use Rattle.utf8.specs.Utf8.{from, valid};
+ghost use Rattle.utf8.specs.Steps.{due, valid_after};
 
-// The octet at a place; past the last one 0, which is no tail.
-fn octet(s: &[u8], at: usize) -> u8
-    ensures { result ≡ get_or s.now at 0 }
-{
-    if at < s.len() {
-        return s[at];
-    }
-    0
+// What may follow: nothing, or `Due(more, low, high)`: `more` octets, the first from `low` to `high`, the others tails.
+#[derive(Drop)]
+enum Step {
+    Bad,
+    Due(u8, u8, u8),
 }
 
-// Whether an octet lies in a range.
-fn is_in(low: u8, high: u8, b: u8) -> bool
-    ensures { result ≡ holds (%x low high) b }
+// What may follow a first octet, by the alternatives of UTF8-char.
+fn lead_of(b: u8) -> Step
+    ensures { (s : List ℕ) → valid_after result s ≡ from (b ∷ s) [] }
 {
+    match b {
+        0x00..=0x7F => Step::Due(0, 0x80, 0xBF),
+        0xC2..=0xDF => Step::Due(1, 0x80, 0xBF),
+        0xE0 => Step::Due(2, 0xA0, 0xBF),
+        0xE1..=0xEC => Step::Due(2, 0x80, 0xBF),
+        0xED => Step::Due(2, 0x80, 0x9F),
+        0xEE..=0xEF => Step::Due(2, 0x80, 0xBF),
+        0xF0 => Step::Due(3, 0x90, 0xBF),
+        0xF1..=0xF3 => Step::Due(3, 0x80, 0xBF),
+        0xF4 => Step::Due(3, 0x80, 0x8F),
+        _ => Step::Bad,
+    }
+}
+
+// What may follow one octet more.
+fn step_of(more: u8, low: u8, high: u8, b: u8) -> Step
+    ensures { (s : List ℕ) → valid_after result s ≡ from (b ∷ s) (due more low high) }
+{
+    if more == 0 {
+        return lead_of(b);
+    }
     if b < low {
-        return false;
+        return Step::Bad;
     }
-    b <= high
-}
-
-// Whether a tail stands at a place.
-fn is_tail_at(s: &[u8], at: usize) -> bool
-    ensures { result ≡ holds UTF8_tail (get_or s.now at 0) }
-{
-    is_in(0x80, 0xBF, octet(s, at))
-}
-
-// The lowest second octet behind a first one of a character of three octets or four.
-fn second_low(b: u8) -> u8
-    ensures { result ≡ second_low b }
-{
-    if b == 0xE0 {
-        return 0xA0;
+    if high < b {
+        return Step::Bad;
     }
-    if b == 0xF0 {
-        return 0x90;
-    }
-    0x80
-}
-
-// The highest one.
-fn second_high(b: u8) -> u8
-    ensures { result ≡ second_high b }
-{
-    if b == 0xED {
-        return 0x9F;
-    }
-    if b == 0xF4 {
-        return 0x8F;
-    }
-    0xBF
-}
-
-// Whether the second octet of a character stands behind its first one, b.
-fn is_second_at(s: &[u8], at: usize, b: u8) -> bool
-    ensures { result ≡ holds (%x (second_low b) (second_high b)) (get_or s.now at 0) }
-{
-    is_in(second_low(b), second_high(b), octet(s, at))
-}
-
-// 2, where what is due behind the first of two octets stands there; else 0.
-fn size_of_two(s: &[u8], at: usize) -> usize
-    requires { at < length s.now }
-    ensures { (at + result ≤ length s.now) × (from (drop (at + 1) s.now) (UTF8_tail ∷ []) ≡ valid_behind s.now at result) }
-{
-    if is_tail_at(s, at + 1) {
-        return 2;
-    }
-    0
-}
-
-// 3 or 4, by the first octet, b, where what is due behind it stands there; else 0.
-fn size_of_more(s: &[u8], at: usize, b: u8) -> usize
-    requires { (at < length s.now) × (0xE0 ≤ b) × (b < 0xF5) }
-    ensures { (at + result ≤ length s.now) × (from (b ∷ drop (at + 1) s.now) [] ≡ valid_behind s.now at result) }
-{
-    if !is_second_at(s, at + 1, b) {
-        return 0;
-    }
-    if !is_tail_at(s, at + 2) {
-        return 0;
-    }
-    if b < 0xF0 {
-        return 3;
-    }
-    if is_tail_at(s, at + 3) {
-        return 4;
-    }
-    0
-}
-
-// How many octets the character at a place has; 0 where none stands there.
-fn size_at(s: &[u8], at: usize) -> usize
-    requires { at < length s.now }
-    ensures { (at + result ≤ length s.now) × (from (drop at s.now) [] ≡ valid_behind s.now at result) }
-{
-    let b = s[at];
-    if b < 0x80 {
-        return 1;
-    }
-    if b < 0xC2 {
-        return 0;
-    }
-    if b < 0xE0 {
-        return size_of_two(s, at);
-    }
-    if b < 0xF5 {
-        return size_of_more(s, at, b);
-    }
-    0
+    Step::Due(more - 1, 0x80, 0xBF)
 }
 
 // No octet is higher than the answer.
@@ -139,13 +67,18 @@ pub fn is_utf8(s: &[u8]) -> bool
     if highest(s) < 0x80 {
         return true;
     }
+    let mut more: u8 = 0;
+    let mut low: u8 = 0;
+    let mut high: u8 = 0;
     let mut i = 0;
     while i < s.len() {
-        let size = size_at(s, i);
-        if size == 0 {
+        let Step::Due(m, l, h) = step_of(more, low, high, s[i]) else {
             return false;
-        }
-        i += size;
+        };
+        more = m;
+        low = l;
+        high = h;
+        i += 1;
     }
-    true
+    more == 0
 }

@@ -30,7 +30,7 @@ size-of-requires c κs = search rules
 
 returns : tie.Need-returns invariant-loop decreases-loop
 returns c =
-    measured_short _ _ _ c.before.before.turn.ensures c.before.size_of.ensures c.before.before.before.before.loop.invariant c.if1.true
+    measured_short _ _ _ c.before.before.turn.ensures c.before.type_size.ensures c.before.before.before.before.loop.invariant c.if1.true
 
 loop-less : tie.Need-loop-smaller invariant-loop decreases-loop
 loop-less c =
@@ -38,7 +38,7 @@ loop-less c =
 
 loop-again : tie.Need-loop-preserved invariant-loop decreases-loop
 loop-again c =
-    measured_turn _ _ _ c.before.before.turn.ensures c.before.size_of.ensures c.before.before.before.before.loop.invariant c.if1.false
+    measured_turn _ _ _ c.before.before.turn.ensures c.before.type_size.ensures c.before.before.before.before.loop.invariant c.if1.false
 
 returns-2 : tie.Need-returns-2 invariant-loop decreases-loop
 returns-2 c =
