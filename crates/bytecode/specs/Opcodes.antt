@@ -1,5 +1,5 @@
 -- The opcodes under the Rust's names, and the operand rule (docs/REFERENCE.md, 'Instruction set').
-use Rattle.std.specs.Prelude.{ℕ, Bool, true, false, cond, ◌||◌, eqb}
+use Rattle.std.specs.Prelude.{ℕ, cond, ◌||◌, eqb}
 
 abbrev pub PUSH_U32 : ℕ
 PUSH_U32 = 0x01

@@ -1,5 +1,5 @@
 -- Operands in the code: big_endian numbers, and how far an instruction reaches.
-use Rattle.std.specs.Prelude.{ℕ, zero, suc, ◌+◌, ◌*◌, ◌<◌, Bool, cond, List, ◌≡◌, get_or, length, eqb, leb}
+use Rattle.std.specs.Prelude.{ℕ, zero, suc, ◌+◌, ◌*◌, ◌<◌, cond, List, ◌≡◌, get_or, length, eqb, leb}
 use Rattle.bytecode.specs.Opcodes.{operand_size, PUSH_CALLDATA, M_STI}
 use Rattle.bytecode.specs.declared.OperandResult.{OperandResult}
 use Rattle.bytecode.specs.declared.OperandResult.TheVariants.{Operand, NoOperand}
