@@ -3,7 +3,7 @@ use Prim.Native.Nat.{ℕ}
 use mathlib.Core.Bool.{Bool, true, false}
 use mathlib.Core.List.{List, [], ◌∷◌}
 use seplogic.Ra.Ura.{Ura}
-use mir.Syntax.{Name, Place, Opd as Operand, Body, seq, call}
+use mir.Syntax.{Callee, Place, Opd as Operand, Body, seq, call}
 use mir.Val.{Val}
 use base.Logic.{ent, sep, emp, fst∗}
 use base.Fml.{Fml, ftrue, fsep}
@@ -121,7 +121,7 @@ module _ (n : ℕ) (ts : List Thing) (ms : Marks ts) (places : Places n 0 (chose
   abbrev ys : Nows Us
   ys = chosen_values ts ms xs
 
-  module _ {𝓛 : Logic 𝓤} {K : Type 0} {Γ : List (Item 𝓤)} {E : Env 𝓤 𝓛.H} {C : Calls 𝓤 𝓛.H} {Λ : Loops 𝓤 𝓛.H} {f : Name} {os : List Operand} {d : Place} {rest : Body} {Q : Post 𝓤 𝓛.H} where
+  module _ {𝓛 : Logic 𝓤} {K : Type 0} {Γ : List (Item 𝓤)} {E : Env 𝓤 𝓛.H} {C : Calls 𝓤 𝓛.H} {Λ : Loops 𝓤 𝓛.H} {f : Callee} {os : List Operand} {d : Place} {rest : Body} {Q : Post 𝓤 𝓛.H} where
     open 𝓛 use {H}
 
     pub lent_some : K → FmC 𝓤 H 𝓛.laws C → Triple 𝓤 (C f) (Con n Us places Ps D 𝓤 c 𝓛) → AllFits Us → AllFit Us ys → Free 𝓛 Ps ps vps

@@ -3,9 +3,9 @@
 use mathlib.Core.Path.{◌≡◌, ap, sym, subst}
 use mathlib.Core.List.{List, [], ◌∷◌}
 use seplogic.Ra.Ura.{Ura}
-use seplogic.Ra.TreeShare.{full_share}
+use base.Fraction.{full_share}
 use base.Logic.{ent, id⊢, via, mono∗}
-use base.Fml.{Fml, Share, ftrue, ffalse, feq, flt, fsep, fand, for, fwand, fex, fall, fupd, fat, froom, fdies, flft, fdead, fobs, fauth, fres, fbor, fobor, flent, fshr_bor}
+use base.Fml.{Fml, Share, ftrue, ffalse, feq, flt, fsep, fand, for, fwand, fex, fall, fupd, fat, froom, fdies, flft, fdead, fobs, fauth, fres, fbor, fobor, flent, fshr_bor, fhide, fleft, fown, finv, fnamed, ftok, fkid, fme, fsent}
 use types.Logic.{Logic, sem}
 use types.Kit.{Goal, Item, ‵, raw, some, given, later, ◌⊛◌, Step, step, mean, ⋆, push, pop}
 
@@ -34,6 +34,15 @@ room (fbor κ F) = fbor κ F
 room (fobor κ q F) = fobor κ q F
 room (flent κ F) = flent κ F
 room (fshr_bor κ F) = fshr_bor κ F
+room (fhide F) = fhide F
+room (fleft q τ τs b o) = fleft q τ τs b o
+room (fown R γ x) = fown R γ x
+room (finv F) = finv F
+room (fnamed n F) = fnamed n F
+room (ftok m) = ftok m
+room (fkid h a) = fkid h a
+room (fme h) = fme h
+room (fsent h) = fsent h
 
 -- the share of a cell that is held; the whole of anything else
 abbrev pub share : Fml → Share
@@ -60,6 +69,15 @@ share (fbor κ F) = full_share
 share (fobor κ q F) = full_share
 share (flent κ F) = full_share
 share (fshr_bor κ F) = full_share
+share (fhide F) = full_share
+share (fleft q τ τs b o) = full_share
+share (fown R γ x) = full_share
+share (finv F) = full_share
+share (fnamed n F) = full_share
+share (ftok m) = full_share
+share (fkid h a) = full_share
+share (fme h) = full_share
+share (fsent h) = full_share
 
 module _ {M : Type 1} (𝓤 : Ura M) where
   abbrev pub room_item : Item 𝓤 → Item 𝓤
@@ -126,6 +144,15 @@ module _ {M : Type 1} {𝓤 : Ura M} (𝓛 : Logic 𝓤) where
   one (fobor κ q F) e = id⊢ 𝓤 _
   one (flent κ F) e = id⊢ 𝓤 _
   one (fshr_bor κ F) e = id⊢ 𝓤 _
+  one (fhide F) e = id⊢ 𝓤 _
+  one (fleft q τ τs b o) e = id⊢ 𝓤 _
+  one (fown R γ x) e = id⊢ 𝓤 _
+  one (finv F) e = id⊢ 𝓤 _
+  one (fnamed n F) e = id⊢ 𝓤 _
+  one (ftok m) e = id⊢ 𝓤 _
+  one (fkid h a) e = id⊢ 𝓤 _
+  one (fme h) e = id⊢ 𝓤 _
+  one (fsent h) e = id⊢ 𝓤 _
 
   one_item : (i : Item 𝓤) → share_item 𝓤 i ≡ full_share → ent 𝓤 (mean 𝓛 i) (mean 𝓛 (room_item 𝓤 i))
   one_item (‵ F) e = one F e

@@ -7,7 +7,7 @@ use base.Logic.{SProp, ent, sep, emp, via, comm∗, assoc∗, assoc', mono_l, mo
 use base.Fml.{froom, fdies}
 use prog.Wp.{Heap, Env, release}
 use types.Logic.{Logic}
-use types.Kit.{Goal, Item, ‵, Seq, Step, step, frees, aim, mean, ⋆, push, pop}
+use types.Kit.{Goal, Item, ‵, Step, step, frees, aim, mean, ⋆, pop}
 
 module _ {M : Type 1} (𝓤 : Ura M) (H : Heap 𝓤) where
   -- the rooms of the locals before a context, the last first

@@ -6,15 +6,15 @@ use mathlib.Core.Path.{◌≡◌, ◌∙◌, sym, subst}
 use mathlib.Core.List.{List, [], ◌∷◌}
 use lib.ListN.{length}
 use seplogic.Ra.Ura.{Ura}
-use seplogic.Ra.TreeShare.{full_share}
-use mir.Syntax.{Name, Place, named, Opd as Operand, Body, seq, call}
+use base.Fraction.{full_share}
+use mir.Syntax.{Callee, Place, named, Opd as Operand, Body, seq, call}
 use mir.Val.{Val, vptr}
 use base.Logic.{ent, sep, ex, emp, id⊢, via, fst∗, snd∗, guard}
 use base.Fml.{Lft, GName, Share, Fml, ftrue, fsep, flft, fdead}
 use prog.Wp.{Env, Calls, Loops}
 use types.Logic.{Logic, sem}
 use contract.Lifetimes.{Lfts, Shares, Within, lft_at, toks}
-use types.Kit.{Item, ‵, raw, given, ◌⊛◌, some, later, Post, runs, lands, Seq, ◌$◌, ◌∵◌, !, qed, move, keep, use0, use1, use2, use3, split, join, pick, fsplit, fjoin, feq_l, learn, check, await, updating, now as at_once, show, done}
+use types.Kit.{Item, ‵, raw, given, ◌⊛◌, some, later, Post, runs, lands, Seq, ◌$◌, ◌∵◌, !, qed, move, drop, keep, use0, use1, use2, use3, split, join, pick, fsplit, fjoin, feq_l, learn, check, await, updating, now as at_once, show, done}
 use types.Run.{Opds}
 use types.Tokens.{lft_new, lft_end}
 use sound.WpLaws.{FmC}
@@ -36,73 +36,73 @@ use Rattle.lent.proofs.Seen.{SeenAgain, seen_again, seen_back}
 
 -- ---- one lent thing
 
--- what is held: where it lies, its count (of a slice), and the lifetime, share and name at which it is held
+-- what is held: where it lies, its count (of a slice), and the lifetime, share and (of a `&mut`) name at which it is held
 pub data Thing : Type 2 where
   part : (X : RattleType) (b o n : ℕ) (κ : Lft) (q : Share) (γ : GName) → Thing  -- a `&κ mut [X]` of n elements
   whole : (R : RattleType) (b o : ℕ) (κ : Lft) (q : Share) (γ : GName) → Thing  -- a `&κ mut R`
-  seen : (b o n : ℕ) (κ : Lft) (q : Share) (γ : GName) → Thing  -- a `&κ [u8]` of n bytes
+  seen : (b o n : ℕ) (κ : Lft) (q : Share) → Thing  -- a `&κ [u8]` of n bytes
 
 -- its value
 abbrev pub Now : Thing → Type 0
 Now (part X b o n κ q γ) = List X.Denot
 Now (whole R b o κ q γ) = R.Denot
-Now (seen b o n κ q γ) = List ℕ
+Now (seen b o n κ q) = List ℕ
 
 -- what is known of it for good
 abbrev pub Fits : Thing → Type 0
 Fits (part X b o n κ q γ) = Room X n
 Fits (whole R b o κ q γ) = Unit {0}
-Fits (seen b o n κ q γ) = Unit {0}
+Fits (seen b o n κ q) = Unit {0}
 
 -- what is known of its value
 abbrev pub Fit : (t : Thing) → Now t → Type 0
 Fit (part X b o n κ q γ) ys = length ys ≡ n
 Fit (whole R b o κ q γ) x = Unit {0}
-Fit (seen b o n κ q γ) ys = length ys ≡ n
+Fit (seen b o n κ q) ys = length ys ≡ n
 
 -- its machine value
 abbrev pub val : Thing → Val
 val (part X b o n κ q γ) = slice_val (b, o) n
 val (whole R b o κ q γ) = vptr b o
-val (seen b o n κ q γ) = slice_val (b, o) n
+val (seen b o n κ q) = slice_val (b, o) n
 
 -- what its holder owns
 abbrev pub has : (t : Thing) → Now t → Fml
 has (part X b o n κ q γ) ys = (MutSlice (named 0) κ X).own_val (record { ref_ptr = (b, o); ghost_name = γ; now = ys }) (slice_val (b, o) n ∷ [])
 has (whole R b o κ q γ) x = (MutRef (named 0) κ R).own_val (record { ref_ptr = (b, o); ghost_name = γ; now = x }) (vptr b o ∷ [])
-has (seen b o n κ q γ) ys = (ShrSlice (named 0) κ u8).own_val (record { ref_ptr = (b, o); ghost_name = γ; now = ys }) (slice_val (b, o) n ∷ [])
+has (seen b o n κ q) ys = (ShrSlice (named 0) κ u8).own_val (record { ref_ptr = (b, o); now = ys }) (slice_val (b, o) n ∷ [])
 
 -- a share of its lifetime
 abbrev pub token : Thing → Fml
 token (part X b o n κ q γ) = flft κ q
 token (whole R b o κ q γ) = flft κ q
-token (seen b o n κ q γ) = flft κ q
+token (seen b o n κ q) = flft κ q
 
 -- what its holder keeps while it is lent again
 abbrev pub kept : (t : Thing) → Lft → GName → Now t → Fml
 kept (part X b o n κ q γ) κ' δ ys = LentAgain X κ κ' q γ b o δ ys
 kept (whole R b o κ q γ) κ' δ x = LentRefAgain R κ κ' q γ b o δ x
-kept (seen b o n κ q γ) κ' δ ys = SeenAgain κ κ' q γ b o ys
+kept (seen b o n κ q) κ' δ ys = SeenAgain κ κ' q b o ys
 
 module _ (n : ℕ) where
   -- its parameter, at the j-th of n lifetimes
   abbrev pub slot : Thing → (j : ℕ) → Within n j → Slot n
   slot (part X b o m κ q γ) j ok = mut_slice j ok (λ _. X)
   slot (whole R b o κ q γ) j ok = mut_ref j ok (λ _. R)
-  slot (seen b o m κ q γ) j ok = shr_slice j ok (λ _. u8)
+  slot (seen b o m κ q) j ok = shr_slice j ok (λ _. u8)
 
   module _ (κs : Lfts n) where
     -- its argument, under a new name
     abbrev pub arg : (t : Thing) (j : ℕ) (ok : Within n j) → GName → Now t → ((slot t j ok).row κs).Denot
     arg (part X b o m κ q γ) j ok δ ys = record { ref_ptr = (b, o); ghost_name = δ; now = ys }
     arg (whole R b o κ q γ) j ok δ x = record { ref_ptr = (b, o); ghost_name = δ; now = x }
-    arg (seen b o m κ q γ) j ok δ ys = record { ref_ptr = (b, o); ghost_name = δ; now = ys }
+    arg (seen b o m κ q) j ok δ ys = record { ref_ptr = (b, o); now = ys }
 
     -- its last value, of what the contract binds
     abbrev pub new : (t : Thing) (j : ℕ) (ok : Within n j) (δ : GName) (x : Now t) → Last (((slot t j ok).row κs).exit yes) (arg t j ok δ x) → Now t
     new (part X b o m κ q γ) j ok δ ys w = w
     new (whole R b o κ q γ) j ok δ x w = w
-    new (seen b o m κ q γ) j ok δ ys w = ys
+    new (seen b o m κ q) j ok δ ys w = ys
 
     module _ {M : Type 1} {𝓤 : Ura M} (𝓛 : Logic 𝓤) where
       -- it is lent again
@@ -115,9 +115,12 @@ module _ (n : ℕ) where
           (H.⇛ (ex 𝓤 (λ (δ : GName). sep 𝓤 (sem 𝓛 ((MutSlice (named j) (lft_at n j ok κs) X).own_val (record { ref_ptr = (b, o); ghost_name = δ; now = ys }) (slice_val (b, o) i ∷ []))) (sem 𝓛 (LentAgain X κ (lft_at n j ok κs) q γ b o δ ys)))))) e
           (lends_again X κ (lft_at n j ok κs) q γ b o 𝓛 (named 0) (named j) ys)
       lends (whole R b o κ q γ) j ok x e = lends-ref-again 𝓛 R (named 0) κ (lft_at n j ok κs) q γ b o (named j) x
-      lends (seen b o m κ q γ) j ok ys e = subst (λ (i : ℕ). ent 𝓤 (sep 𝓤 (sem 𝓛 ((ShrSlice (named 0) κ u8).own_val (record { ref_ptr = (b, o); ghost_name = γ; now = ys }) (slice_val (b, o) i ∷ []))) (A.lft κ q))
-          (H.⇛ (ex 𝓤 (λ (δ : GName). sep 𝓤 (sem 𝓛 ((ShrSlice (named j) (lft_at n j ok κs) u8).own_val (record { ref_ptr = (b, o); ghost_name = δ; now = ys }) (slice_val (b, o) i ∷ []))) (sem 𝓛 (SeenAgain κ (lft_at n j ok κs) q γ b o ys)))))) e
-          (seen_again κ (lft_at n j ok κs) q γ b o 𝓛 ys (named j))
+      lends (seen b o m κ q) j ok ys e = subst (λ (i : ℕ). ent 𝓤 (sep 𝓤 (sem 𝓛 ((ShrSlice (named 0) κ u8).own_val (record { ref_ptr = (b, o); now = ys }) (slice_val (b, o) i ∷ []))) (A.lft κ q))
+          (H.⇛ (ex 𝓤 (λ (δ : GName). sep 𝓤 (sem 𝓛 ((ShrSlice (named j) (lft_at n j ok κs) u8).own_val (record { ref_ptr = (b, o); now = ys }) (slice_val (b, o) i ∷ []))) (sem 𝓛 (SeenAgain κ (lft_at n j ok κs) q b o ys)))))) e
+          (qed 𝓛 (‵ ((ShrSlice (named 0) κ u8).own_val (record { ref_ptr = (b, o); now = ys }) (slice_val (b, o) (length ys) ∷ [])) ∷ ‵ (flft κ q) ∷ []) ∵ updating ! $
+          use2 𝓛 (later (‵ ((ShrSlice (named j) (lft_at n j ok κs) u8).own_val (record { ref_ptr = (b, o); now = ys }) (slice_val (b, o) (length ys) ∷ [])) ⊛ ‵ (SeenAgain κ (lft_at n j ok κs) q b o ys))) (seen_again κ (lft_at n j ok κs) q b o 𝓛 ys (named j)) $
+          await ! tt $ split ! $ at_once ! $
+          show ! (λ (δ : GName). sep 𝓤 (sem 𝓛 ((ShrSlice (named j) (lft_at n j ok κs) u8).own_val (record { ref_ptr = (b, o); now = ys }) (slice_val (b, o) (length ys) ∷ []))) (sem 𝓛 (SeenAgain κ (lft_at n j ok κs) q b o ys))) 0 $ done !)
 
       -- it comes back
       backs : (t : Thing) (j : ℕ) (ok : Within n j) (δ : GName) (x : Now t) (w : Last (((slot t j ok).row κs).exit yes) (arg t j ok δ x)) → Fits t → Fit t x
@@ -125,7 +128,7 @@ module _ (n : ℕ) where
           (H.⇛ (guard 𝓤 (Fit t (new t j ok δ x w)) (sep 𝓤 (sem 𝓛 (has t (new t j ok δ x w))) (sem 𝓛 (token t)))))
       backs (part X b o m κ q γ) j ok δ ys zs room e =
           qed 𝓛 (‵ (fdead (lft_at n j ok κs)) ∷ ‵ (LentAgain X κ (lft_at n j ok κs) q γ b o δ ys) ∷ ‵ (left (((mut_slice {n = n} j ok (λ _. X)).row κs).exit yes) (record { ref_ptr = (b, o); ghost_name = δ; now = ys }) zs) ∷ []) ∵ updating ! $
-          move ! (2 ∷ []) $ fsplit ! $ move ! (1 ∷ []) $ feq_l ! (λ l. move ! (1 ∷ 2 ∷ 0 ∷ []) $
+          move ! (2 ∷ []) $ fsplit ! $ move ! (1 ∷ []) $ drop ! $ fsplit ! $ move ! (1 ∷ []) $ feq_l ! (λ l. move ! (1 ∷ 2 ∷ 0 ∷ []) $
           use3 𝓛 (later (‵ ((MutSlice (named 0) κ X).own_val (record { ref_ptr = (b, o); ghost_name = γ; now = zs }) (slice_val (b, o) m ∷ [])) ⊛ ‵ (flft κ q))) (at_count l) $ await ! tt $ split ! $ at_once ! $ check ! (l ∙ e) $ done !)
         where
           at_count : length zs ≡ length ys → ent 𝓤 (sep 𝓤 (A.dead (lft_at n j ok κs)) (sep 𝓤 (sem 𝓛 (LentAgain X κ (lft_at n j ok κs) q γ b o δ ys)) (sem 𝓛 (finally X δ zs))))
@@ -134,18 +137,18 @@ module _ (n : ℕ) where
               (H.⇛ (sep 𝓤 (sem 𝓛 ((MutSlice (named 0) κ X).own_val (record { ref_ptr = (b, o); ghost_name = γ; now = zs }) (slice_val (b, o) i ∷ []))) (A.lft κ q)))) e
               (comes_back X κ (lft_at n j ok κs) q γ b o 𝓛 (named 0) (named j) ys δ zs (subst (Room X) (sym e) room) l)
       backs (whole R b o κ q γ) j ok δ x y room e =
-          qed 𝓛 (‵ (fdead (lft_at n j ok κs)) ∷ ‵ (LentRefAgain R κ (lft_at n j ok κs) q γ b o δ x) ∷ ‵ (left (((mut_ref {n = n} j ok (λ _. R)).row κs).exit yes) (record { ref_ptr = (b, o); ghost_name = δ; now = x }) y) ∷ []) ∵ updating ! $
+          qed 𝓛 (‵ (fdead (lft_at n j ok κs)) ∷ ‵ (LentRefAgain R κ (lft_at n j ok κs) q γ b o δ x) ∷ ‵ (left (((mut_ref {n = n} j ok (λ _. R)).row κs).exit yes) (record { ref_ptr = (b, o); ghost_name = δ; now = x }) y) ∷ []) ∵ updating ! $ move ! (2 ∷ []) $ fsplit ! $ move ! (1 ∷ []) $ drop ! $ move ! (1 ∷ 2 ∷ 0 ∷ []) $
           use3 𝓛 (later (‵ ((MutRef (named 0) κ R).own_val (record { ref_ptr = (b, o); ghost_name = γ; now = y }) (vptr b o ∷ [])) ⊛ ‵ (flft κ q))) (ref-comes-back 𝓛 R (named 0) κ (lft_at n j ok κs) q γ b o δ x y) $
           await ! tt $ split ! $ at_once ! $ check ! tt $ done !
-      backs (seen b o m κ q γ) j ok δ ys w room e =
-          qed 𝓛 (‵ (fdead (lft_at n j ok κs)) ∷ ‵ (SeenAgain κ (lft_at n j ok κs) q γ b o ys) ∷ ‵ ftrue ∷ []) ∵ updating ! $
-          use2 𝓛 (later (‵ ((ShrSlice (named 0) κ u8).own_val (record { ref_ptr = (b, o); ghost_name = γ; now = ys }) (slice_val (b, o) m ∷ [])) ⊛ ‵ (flft κ q))) at_count $ await ! tt $ split ! $ at_once ! $ check ! e $ keep ! (0 ∷ 1 ∷ []) $ done !
+      backs (seen b o m κ q) j ok δ ys w room e =
+          qed 𝓛 (‵ (fdead (lft_at n j ok κs)) ∷ ‵ (SeenAgain κ (lft_at n j ok κs) q b o ys) ∷ ‵ ftrue ∷ []) ∵ updating ! $
+          use2 𝓛 (later (‵ ((ShrSlice (named 0) κ u8).own_val (record { ref_ptr = (b, o); now = ys }) (slice_val (b, o) m ∷ [])) ⊛ ‵ (flft κ q))) at_count $ await ! tt $ split ! $ at_once ! $ check ! e $ keep ! (0 ∷ 1 ∷ []) $ done !
         where
-          at_count : ent 𝓤 (sep 𝓤 (A.dead (lft_at n j ok κs)) (sem 𝓛 (SeenAgain κ (lft_at n j ok κs) q γ b o ys)))
-              (H.⇛ (sep 𝓤 (sem 𝓛 ((ShrSlice (named 0) κ u8).own_val (record { ref_ptr = (b, o); ghost_name = γ; now = ys }) (slice_val (b, o) m ∷ []))) (A.lft κ q)))
-          at_count = subst (λ (i : ℕ). ent 𝓤 (sep 𝓤 (A.dead (lft_at n j ok κs)) (sem 𝓛 (SeenAgain κ (lft_at n j ok κs) q γ b o ys)))
-              (H.⇛ (sep 𝓤 (sem 𝓛 ((ShrSlice (named 0) κ u8).own_val (record { ref_ptr = (b, o); ghost_name = γ; now = ys }) (slice_val (b, o) i ∷ []))) (A.lft κ q)))) e
-              (seen_back κ (lft_at n j ok κs) q γ b o 𝓛 ys)
+          at_count : ent 𝓤 (sep 𝓤 (A.dead (lft_at n j ok κs)) (sem 𝓛 (SeenAgain κ (lft_at n j ok κs) q b o ys)))
+              (H.⇛ (sep 𝓤 (sem 𝓛 ((ShrSlice (named 0) κ u8).own_val (record { ref_ptr = (b, o); now = ys }) (slice_val (b, o) m ∷ []))) (A.lft κ q)))
+          at_count = subst (λ (i : ℕ). ent 𝓤 (sep 𝓤 (A.dead (lft_at n j ok κs)) (sem 𝓛 (SeenAgain κ (lft_at n j ok κs) q b o ys)))
+              (H.⇛ (sep 𝓤 (sem 𝓛 ((ShrSlice (named 0) κ u8).own_val (record { ref_ptr = (b, o); now = ys }) (slice_val (b, o) i ∷ []))) (A.lft κ q)))) e
+              (seen_back κ (lft_at n j ok κs) q b o 𝓛 ys)
 
 -- ---- a list of them
 
@@ -378,7 +381,7 @@ module _ (n : ℕ) (ts : List Thing) (places : Places n 0 ts) (Ps : List RattleT
       abbrev pub after : (αs : Numbers n) (δs : Names ts) → Lasts End (fresh n αs) (passed αs δs) → Nows ts
       after αs δs ws = news n (fresh n αs) Ps ps 0 ts places δs xs ws
 
-      module _ {𝓛 : Logic 𝓤} {K : Type 0} {Γ : List (Item 𝓤)} {E : Env 𝓤 𝓛.H} {C : Calls 𝓤 𝓛.H} {Λ : Loops 𝓤 𝓛.H} {f : Name} {os : List Operand} {d : Place} {rest : Body} {Q : Post 𝓤 𝓛.H} where
+      module _ {𝓛 : Logic 𝓤} {K : Type 0} {Γ : List (Item 𝓤)} {E : Env 𝓤 𝓛.H} {C : Calls 𝓤 𝓛.H} {Λ : Loops 𝓤 𝓛.H} {f : Callee} {os : List Operand} {d : Place} {rest : Body} {Q : Post 𝓤 𝓛.H} where
         -- the call; its operands are read with the callee's needs and what is kept in front of the context
         open 𝓛 use {H}
 

@@ -5,7 +5,7 @@ use mathlib.Core.Path.{◌≡◌, sym, ap, subst}
 use mathlib.Core.List.{List, [], ◌∷◌}
 use lib.ListN.{length}
 use seplogic.Ra.Ura.{Ura}
-use seplogic.Ra.TreeShare.{full_share}
+use base.Fraction.{full_share}
 use base.Fml.{Lft, GName, Share, fobor, fobs, fauth}
 use types.Logic.{Logic}
 use types.Kit.{Item, ‵, Goal, Soaks, Step, step, ◌$◌, move, drop, fsplit, fjoin}
