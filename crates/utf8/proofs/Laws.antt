@@ -36,12 +36,12 @@ due_in zero low high b s h p = absurd (omega arith)
 due_in (suc n) low high b s h p = let less : suc n - 1 ≡ n = omega arith in rw (in_holds p, less)
 
 -- an octet that is not due ends the test
-pub due-out :
+pub due_out :
     (more low high b : ℕ) (s : List ℕ) → 0 < more → (In (%x low high) b → ⊥) →
     valid_after Bad s ≡ from (b ∷ s) (due more low high)
 unfolding valid_after from due
-due-out zero low high b s h out = absurd (omega arith)
-due-out (suc n) low high b s h out = rw (out_fails (%x low high) b out)
+due_out zero low high b s h out = absurd (omega arith)
+due_out (suc n) low high b s h out = rw (out_fails (%x low high) b out)
 
 -- a turn of the loop keeps its invariant
 pub turn :

@@ -1,4 +1,6 @@
 // UTF-8 by RFC 3629: one test, an octet at a time.
+#![tactic(auto)]
+
 ghost use Rattle.std.specs.Prelude.{◌≡◌, List, [], ◌∷◌, ℕ, ◌<◌, ◌≤◌, length, get_or};
 ghost use Rattle.utf8.specs.Utf8.{from, valid};
 ghost use Rattle.utf8.specs.Steps.{due, valid_after};
