@@ -1,24 +1,19 @@
--- A state set in the record of a slot, and in a table: the walks' equations.
-use Rattle.std.proofs.Common.{◌≡◌, ℕ, ◌≤◌, List, length, get_or, set, sym, ap, ◌∙◌, arith, le-leb}
+-- A state set in a table: inside it, and past the last slot.
+use Rattle.std.proofs.Common.{◌≡◌, ℕ, ◌<◌, ◌≤◌, List, length, get_or, set, sym, ap, ◌∙◌, arith, le-leb}
 use lib.ListN.{get_or-eq_default}
+use Rattle.std.proofs.lemmas.List.{get_or_default}
 use lib.Seq.{set_out}
 use Rattle.storage.specs.declared.Task.{Task}
-use Rattle.storage.specs.declared.StateChange.{StateChange}
 use Rattle.storage.specs.declared.StateResult.{StateResult}
-use Rattle.storage.specs.Tasks.{blank, no_such_state, with_state, restated, After, after, set_state}
+use Rattle.storage.specs.Tasks.{blank, no_such_state, with_state, After, after, set_state}
 use Rattle.storage.specs.Table.{set_state_at}
 
--- what `with_state` says, stored
-pub set_as : (task : Task) (new_state : ℕ) (r : StateChange) → r ≡ with_state task.state new_state
-    → after r.answer (restated task r.state) ≡ set_state task new_state
-unfolding set_state
-set_as task new_state r e = ap (λ (s : StateChange). after s.answer (restated task s.state)) e
-
 -- a slot put into a state
-pub set_inside : (table : List Task) (slot new_state : ℕ) (r : StateResult) (task : Task) → after r task ≡ set_state (get_or table slot blank) new_state
+pub set_inside : (table : List Task) (slot new_state : ℕ) (r : StateResult) (task other : Task) → slot < length table → after r task ≡ set_state (get_or table slot other) new_state
     → after r (set table slot task) ≡ set_state_at table slot new_state
 unfolding set_state_at
-set_inside table slot new_state r task e = ap (λ (s : After StateResult Task). after s.answer (set table slot s.lent)) e
+set_inside table slot new_state r task other within e =
+    ap (λ (s : After StateResult Task). after s.answer (set table slot s.lent)) (e ∙ ap (λ (t : Task). set_state t new_state) (get_or_default table slot other blank within))
 
 -- the blank record has no state to take
 blank_refuses : (new_state : ℕ) → (set_state blank new_state).answer ≡ no_such_state new_state

@@ -1,7 +1,7 @@
 -- Loops over all slots: what a turn adds to what was counted, found sound or cleared so far.
-use Prim.Native.Nat.{ℕ, ◌+◌, ◌<◌, ◌≤◌, ◌^◌}
+use Prim.Native.Nat.{ℕ, ◌+◌, ◌<◌, ◌≤◌}
 use mathlib.Core.Bool.{Bool, true, false, cond, ◌&&◌}
-use mathlib.Core.List.{List, [], ◌∷◌, ◌++◌, append-nil, append_assoc}
+use mathlib.Core.List.{List, [], ◌∷◌, ◌++◌, append_assoc}
 use mathlib.Core.Path.{◌≡◌, refl, sym, ap, ◌∙◌}
 use native.Mathlib.Numerals.{add-one}
 use native.Mathlib.Omega.{arith}
@@ -29,10 +29,6 @@ lives_most task = most task.living
     most true = omega arith
     most false = omega arith
 
--- at the first slot
-pub counting : (ys : List Task) → 0 + living_of (drop 0 ys) ≡ living_of ys
-counting ys = omega arith
-
 -- the first slot and the others
 living_cons : (t : Task) (table : List Task) → living_of (t ∷ table) ≡ lives t + living_of table
 unfolding living_of
@@ -56,10 +52,6 @@ pub counted_all : (ys : List Task) (i k : ℕ) → length ys ≤ i → k + livin
 counted_all ys i k ended so_far =
     let none : living_of (drop i ys) ≡ 0 = ap living_of (drop_of_length-le ys ended) ∙ living_none in
     omega arith
-
--- the count fits, a turn on too
-pub one_more_fits : {k i n : ℕ} → k ≤ i → i < n → n < 2 ^ 64 → k + 1 < 2 ^ 64
-one_more_fits few more fits = omega arith
 
 -- it is at most the slots passed
 pub still_few : {k r l i : ℕ} → k ≤ i → r ≡ k + l → l ≤ 1 → r ≤ i + 1
@@ -105,9 +97,3 @@ clears ys zs ts i more so_far e =
     ∙ set_at (replicate i blank) (get_or ys i blank) (drop (i + 1) ys) blank i (length-replicate i blank)
     ∙ sym (append_assoc (replicate i blank) (blank ∷ []) (drop (i + 1) ys))
     ∙ ap (λ (l : List Task). l ++ drop (i + 1) ys) (replicate-append-replicate i 1 blank)
-
--- past the last slot
-pub cleared : (ys ts : List Task) (i : ℕ) → i ≡ length ys → ts ≡ replicate i blank ++ drop i ys → ts ≡ replicate (length ys) blank
-cleared ys ts i ended so_far =
-    let past : length ys ≤ i = omega arith in
-    so_far ∙ ap (λ (l : List Task). replicate i blank ++ l) (drop_of_length-le ys past) ∙ append-nil (replicate i blank) ∙ ap (λ (k : ℕ). replicate k blank) ended

@@ -1,4 +1,6 @@
 // The lent table of tasks: one slot read, written, cleared, or put into a state.
+#![tactic(auto)]
+
 pub mod slots;
 
 ghost use Rattle.std.specs.Prelude.{◌≡◌, get_or, set};
@@ -34,6 +36,7 @@ pub fn clear(table: &mut [Task], slot: usize)
 }
 
 // The task of a slot put into a state; past the last slot there is no state to take.
+#[tactic(auto, using(storage::proofs::Setting::set_past))]
 pub fn set_state_at(table: &mut [Task], slot: usize, new_state: u32) -> StateResult
     ensures { after result table.new ≡ set_state_at table.old slot new_state }
 {

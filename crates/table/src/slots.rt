@@ -17,6 +17,7 @@ pub fn clear_all(table: &mut [Task])
 }
 
 // One more, if a task is living.
+#[tactic(auto, unfolding(storage::specs::Table::lives))]
 fn counted(count: usize, task: Task) -> usize
     requires { count + 1 < 2 ^ 64 }
     ensures { result ≡ count + lives task }
@@ -42,6 +43,7 @@ pub fn living(table: &mut [Task]) -> usize
 }
 
 // Whether a slot is within its limits.
+#[tactic(auto, unfolding(storage::specs::Table::sound_slot))]
 fn sound_slot(task: Task, slot: usize, count: u32) -> bool
     ensures { result ≡ sound_slot task slot count }
 {
@@ -68,6 +70,7 @@ fn still_sound(good: bool, task: Task, slot: usize, count: u32) -> bool
 }
 
 // Whether the numbers beside a table are within their limits.
+#[tactic(auto, unfolding(storage::specs::Table::sound_counts))]
 fn sound_counts(slots: usize, next_id: TaskId, count: u32) -> bool
     ensures { result ≡ sound_counts slots next_id.0 count }
 {
