@@ -1,4 +1,6 @@
 // The pool of instructions: entries end to end in lent bytes, told apart by their ends.
+#![tactic(auto)]
+
 pub mod capacity;
 pub mod interning;
 

@@ -5,11 +5,9 @@ use mathlib.Core.Path.{◌≡◌}
 use native.Mathlib.Decide.{dec_le}
 use native.Mathlib.Omega.{arith}
 use lib.Dec.{leb}
-use borrow.Author.Rules.{rules}
 use borrow.Author.Tests.{lt-ltb, le-ltb, le-leb, lt-leb}
-use Rattle.pools.proofs.capacity.has_room.Statement.{statement}
 use Rattle.pools.specs.Pool.{has_room}
-use Rattle.pools.proofs.capacity.has_room.Tie as tie
+use Rattle.pools.proofs.capacity.has_room.Goals as goal
 
 module _ (lent bytes entries size room : ℕ) (is-room : room ≡ min 65536 lent) (few : entries < 1024) where
   -- the bytes in use alone are too many
@@ -26,18 +24,12 @@ module _ (lent bytes entries size room : ℕ) (is-room : room ≡ min 65536 lent
       by (yes p) = rw (le-leb size (room - bytes) p, le-leb (bytes + size) room (omega arith))
       by (no p) = rw (lt-leb size (room - bytes) (omega arith), lt-leb (bytes + size) room (omega arith))
 
-smaller-requires : tie.Need-smaller-requires
-smaller-requires c κs = search rules
-
-returns : tie.Need-returns
+pub returns-then-entries-ge-POOL_ENTRIES : goal.returns-then-entries-ge-POOL_ENTRIES
 unfolding has_room
-returns c = simp (le-ltb _ _ c.if1.true)
+returns-then-entries-ge-POOL_ENTRIES c = simp (le-ltb _ _ c.if-entries-ge-POOL_ENTRIES.true)
 
-returns-2 : tie.Need-returns-2
-returns-2 c = over _ _ _ _ _ c.before.before.smaller.ensures c.before.if1.false c.if2.true
+pub returns-then-room-bytes : goal.returns-then-room-bytes
+returns-then-room-bytes c = over _ _ _ _ _ c.smaller-room.ensures c.if-entries-ge-POOL_ENTRIES.false c.if-room-bytes.true
 
-returns-3 : tie.Need-returns-3
-returns-3 c = left _ _ _ _ _ c.before.before.smaller.ensures c.before.if1.false c.if2.false
-
-pub has-room-spec : {M : Type 1} → statement M
-has-room-spec = tie.close (tie.spec smaller-requires returns returns-2 returns-3)
+pub returns : goal.returns
+returns c = left _ _ _ _ _ c.smaller-room.ensures c.if-entries-ge-POOL_ENTRIES.false c.if-room-bytes.false
