@@ -1,4 +1,6 @@
 // Bounded stacks: what an open loop, a frame and at most two of them are, and the values in a lent array.
+#![tactic(auto)]
+
 ghost use Rattle.std.specs.Prelude.{◌≡◌};
 ghost use Rattle.inlinevec.specs.Stacks.{stacked, push, pop, last};
 ghost use Rattle.inlinevec.specs.Stacks.{push_loop, pop_loop, last_loop};
@@ -11,7 +13,7 @@ use pools::InstructionsRef;
 const STACK_VALUES: usize = 1000;
 
 // An open loop: the place after its DO, its index and its limit.
-#[derive(Drop)]
+#[derive(Clone, Copy)]
 pub struct Loop {
     pub place: usize,
     pub index: u32,
@@ -19,7 +21,7 @@ pub struct Loop {
 }
 
 // The open loops.
-#[derive(Drop)]
+#[derive(Clone, Copy)]
 pub struct Loops {
     pub count: usize,
     pub outer: Loop,
@@ -27,14 +29,14 @@ pub struct Loops {
 }
 
 // Where a run stands: a place in an entry of the pool.
-#[derive(Drop)]
+#[derive(Clone, Copy)]
 pub struct Frame {
     pub entry: InstructionsRef,
     pub place: usize,
 }
 
 // The frames.
-#[derive(Drop)]
+#[derive(Clone, Copy)]
 pub struct Frames {
     pub count: usize,
     pub main: Frame,
