@@ -14,6 +14,8 @@
 //
 // A field begins at 2^k if its lowest bit has number k, and is 2^w wide if it has w bits. A box is the sum of its fields, each multiplied by where it
 // begins. A field is read by dividing the word by where the field begins, and taking of that the remainder by the field's width.
+#![tactic(auto)]
+
 pub mod boxing;
 pub mod calculations;
 pub mod comparison;
@@ -64,7 +66,7 @@ pub const TAG_CALLDATA: u64 = 5;
 pub const TAG_U32: u64 = 6;
 
 // Where a vector lies in memory: its first byte, and its size in bytes.
-#[derive(Drop)]
+#[derive(Clone, Copy)]
 pub struct FatPointer {
     pub offset: u32,
     pub size: u16,
@@ -92,7 +94,7 @@ pub enum PointerResult {
 }
 
 // The type of a value, by its box.
-#[derive(Drop)]
+#[derive(Clone, Copy)]
 pub enum ValueType {
     U32,
     String,
