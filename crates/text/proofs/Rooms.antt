@@ -7,7 +7,6 @@ use native.Mathlib.Omega.{arith}
 use lib.Dec.{leb}
 use lib.ListN.{length, length-append}
 use borrow.Author.Tests.{leb-true, leb-false}
-use Rattle.text.specs.declared.Room.{Room}
 use Rattle.text.specs.declared.Room.TheVariants.{Left, Short}
 use Rattle.text.specs.declared.Form.{Form}
 use Rattle.text.specs.Numbers.{filled}

@@ -1,5 +1,5 @@
 -- Pieces of a text: what each is, and what of the text is left behind it.
-use Rattle.std.specs.Prelude.{ℕ, ◌+◌, ◌-◌, ◌≤◌, ◌<◌, true, false, cond, List, [], ◌∷◌, ◌++◌, ◌≡◌, length, drop, leb}
+use Rattle.std.specs.Prelude.{ℕ, ◌-◌, ◌≤◌, ◌<◌, true, false, cond, List, [], ◌∷◌, ◌++◌, ◌≡◌, length, drop, leb}
 use Rattle.text.specs.declared.Cut.{Cut}
 use Rattle.text.specs.declared.Cut.TheVariants as cut
 use Rattle.text.specs.declared.Piece.{Piece}

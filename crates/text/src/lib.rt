@@ -1,4 +1,6 @@
 // Lines of text in a lent buffer: templates filled with numbers, and bytes as they are, escaped, in hex, or as numbers.
+#![tactic(auto)]
+
 mod escapes;
 pub mod hex;
 pub mod lines;
@@ -7,7 +9,7 @@ mod pieces;
 use errors::Refusal;
 
 // How bytes are shown: as they are, in hex, as numbers of 4 bytes with a space before each, as a template, or escaped: as UTF-8, or as ASCII alone.
-#[derive(Drop)]
+#[derive(Clone, Copy)]
 pub enum Form {
     Plain,
     Hex,
@@ -32,7 +34,7 @@ pub struct HexPart {
 }
 
 // How a text is cut into pieces: numbers of 4 bytes, a template, or bytes that are escaped: as UTF-8, or as ASCII alone.
-#[derive(Drop)]
+#[derive(Clone, Copy)]
 enum Cut {
     Spaced,
     Filled,
