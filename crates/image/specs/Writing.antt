@@ -1,5 +1,5 @@
 -- How the code measures and writes the record of a slot. Nobody has to believe it: what is saved is said in Table, and table_image proves that it is this.
-use Rattle.std.specs.Prelude.{ℕ, ◌+◌, cond, List, length}
+use Rattle.std.specs.Prelude.{ℕ, cond, List, length}
 use Rattle.std.proofs.lemmas.List.Edits.{sets}
 use Rattle.errors.specs.declared.Refusal.TheVariants.{BytesToStringConversionError}
 use Rattle.pools.specs.declared.BoundsResult.{BoundsResult}

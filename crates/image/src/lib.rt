@@ -1,4 +1,6 @@
 // The task image: tested, and read a record at a time.
+#![tactic(auto)]
+
 pub mod numbers;
 pub mod reading;
 pub mod sizes;
