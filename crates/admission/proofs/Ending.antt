@@ -114,6 +114,7 @@ word_closed : {cells nodes : List ℕ} {at word : ℕ} (loops : List Open) → O
 word_closed [] (no_loop e) f = refl
 word_closed (opened a r ∷ []) (one_loop e l) f = absurd (omega (arith, l.some_place))
 word_closed (opened a r ∷ opened b s ∷ []) (two_loops e l m) f = absurd (omega (arith, m.some_place))
+word_closed (opened a r ∷ (opened b s ∷ (_ ∷ _))) x f = elim x [ ]
 
 module _ {code cells nodes loops : List ℕ} {height : ℕ} where
   pub ended_of : Swept code cells nodes loops (EndedWith height) → Ended code

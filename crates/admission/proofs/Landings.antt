@@ -1,7 +1,7 @@
 -- The jumps of a program whose labels are noted: the code's test of a jump, and the loop over all elements.
 use Prim.Native.Nat.{ℕ, ◌+◌, ◌*◌, ◌-◌, ◌≤◌, ◌<◌}
 use mathlib.Core.Path.{◌≡◌, refl, sym, ◌∙◌, ap₂, subst}
-use mathlib.Core.Bool.{not, Bool, true, false, cond, false≢true, true≢false}
+use mathlib.Core.Bool.{Bool, true, false, cond, false≢true, true≢false}
 use mathlib.Core.List.{List, [], ◌∷◌}
 use mathlib.Core.Option.{some}
 use native.Mathlib.Omega.{arith}
@@ -36,15 +36,6 @@ unfolding same_label
 by_nodes cells nodes loops place other x y seen words ex ey =
     ap₂ (λ a b. same (stacked cells a) (stacked cells b)) ex ey
     ∙ sym (cond_false (eqb (get_or nodes place 0) 0) _ _ (ne_eqb _ _ seen) ∙ cond_true (eqb (get_or loops place 0) (get_or loops other 0)) _ _ (eq-eqb _ _ words))
-
--- a test that is turned round
-pub negated : (b : Bool) → not b ≡ true → b ≡ false
-negated true e = absurd (false≢true e)
-negated false e = refl
-
-pub affirmed : (b : Bool) → not b ≡ false → b ≡ true
-affirmed true e = refl
-affirmed false e = absurd (true≢false e)
 
 -- the word of open loops
 word_of : List Open → ℕ
@@ -81,6 +72,10 @@ module _ {cells nodes : List ℕ} where
       let lefts : r ≡ s = same_left r s l (subst (λ z. LoopAt cells nodes other z s) (sym inner) m) in
       let firsts : q ≡ t = same_left q t k (subst (λ z. LoopAt cells nodes other z t) (sym outer) n) in
       cc
+  opens_same [] (opened b s ∷ (opened d t ∷ (_ ∷ _))) _ x = elim x [ ]
+  opens_same (opened a r ∷ []) (opened b s ∷ (opened d t ∷ (_ ∷ _))) _ x = elim x [ ]
+  opens_same (opened a r ∷ (opened c q ∷ [])) (opened b s ∷ (opened d t ∷ (_ ∷ _))) _ x = elim x [ ]
+  opens_same (opened a r ∷ (opened c q ∷ (_ ∷ _))) y x _ = elim x [ ]
 
 label_by : (l k : Label) → kinds_of l ≡ kinds_of k → open_loops l ≡ open_loops k → l ≡ k
 label_by (label kinds loops) (label others more) e f = cc

@@ -61,6 +61,7 @@ module _ (cells nodes : List ℕ) (at next node word : ℕ) (kinds left : List K
       (can refl (omega arith) (fresh (one_loop e l) (omega (arith, l.small)) (let f : word * 65536 + next % 65536 ≡ word * 65536 + next = omega arith in f) refl))
   opening (opened inner first ∷ opened outer second ∷ []) (two_loops e l m) =
       decided (ltb word 65536) false _ _ (le-ltb word 65536 (omega (arith, m.some_place))) (cannot (third left _ (omega arith)))
+  opening (opened inner first ∷ (opened outer second ∷ (_ ∷ _))) x = elim x [ ]
 
   -- LOOP compares the kinds that it finds with those that the DO left
   compared : {place : ℕ} {first : List Kind} → LoopAt cells nodes at place first → word % 65536 ≡ place → kinds ≡ left
@@ -84,6 +85,7 @@ module _ (cells nodes : List ℕ) (at next node word : ℕ) (kinds left : List K
       by : (b : Bool) → same (letters left) (letters first) ≡ b → Told cells nodes Loop at next left (opened inner first ∷ opened outer second ∷ []) (cond b (Loops (word / 65536)) NoLoops)
       by true t = can {word = word / 65536} (cond_true _ _ _ t) (omega arith) (kept (one_loop {inner = outer} {left = second} (omega (arith, l.small)) m))
       by false t = cannot (ap (λ o. and_then o (bounded left)) (cond_false _ _ _ t))
+  closing (opened inner first ∷ (opened outer second ∷ (_ ∷ _))) x f = elim x [ ]
 
   indexing : (loops : List Open) → Opens cells nodes at word loops → Told cells nodes LoopIndex at next left loops (word_after cells nodes LoopIndex next node word)
   unfolding word_after loops_after
@@ -92,6 +94,7 @@ module _ (cells nodes : List ℕ) (at next node word : ℕ) (kinds left : List K
       decided (eqb (word % 65536) 0) false _ _ (ne_eqb (word % 65536) 0 (λ z. omega (arith, l.small, l.some_place))) (can refl (omega arith) (kept (one_loop e l)))
   indexing (opened inner first ∷ opened outer second ∷ []) (two_loops e l m) =
       decided (eqb (word % 65536) 0) false _ _ (ne_eqb (word % 65536) 0 (λ z. omega (arith, l.small, l.some_place))) (can refl (omega arith) (kept (two_loops e l m)))
+  indexing (opened inner first ∷ (opened outer second ∷ (_ ∷ _))) x = elim x [ ]
 
   pub loops_told : (element : Element) (loops : List Open) → Opens cells nodes at word loops → kinds_after element kinds ≡ some left
       → Told cells nodes element at next left loops (word_after cells nodes element next node word)

@@ -15,7 +15,7 @@ use Rattle.labels.specs.declared.Element.{Element}
 use Rattle.labels.specs.declared.Element.TheVariants.{NoRule}
 use Rattle.labels.specs.Elements.{element_end, whole_element, element}
 use Rattle.labels.specs.Labels.{letter, letters, Open, opened, Label, label, kinds_of, open_loops, empty, and_then, kinds_after, loops_after, bounded, rule, next_label}
-use Rattle.labels.specs.Faults.{here, on, Reached, WithoutRule}
+use Rattle.labels.specs.Faults.{here, Reached, WithoutRule}
 use Rattle.labels.proofs.Ways.{cond_true, cond_false, further, snoc, no_back, fits, through}
 use Rattle.admission.specs.declared.elements.Change.{Change}
 use Rattle.admission.specs.declared.elements.Change.TheVariants as changes
@@ -294,6 +294,7 @@ module _ (places : ℕ) (code cells nodes loops : List ℕ) (at height free : �
     add_loop (opened inner first ∷ []) (one_loop e l) few =
         two_loops {inner = next} {outer = inner} (omega arith) this_loop (loop_held cells cells₂ nodes marks loops words at same_letters same_nodes same_words (omega arith) (omega (arith, far)) l)
     add_loop (opened inner first ∷ opened outer second ∷ []) (two_loops e l m) few = absurd (omega (arith, m.some_place))
+    add_loop (opened inner first ∷ (opened outer second ∷ (_ ∷ _))) x few = elim x [ ]
 
     opens_next : Later cells nodes at next word left list → Opens cells₂ marks next word list
     opens_next (kept o) = wider o

@@ -20,6 +20,7 @@ fn letter(kind: Kind) -> u32
 }
 
 // Takes one kind, and gives one or nothing.
+#[tactic(auto, unfolding(crate::specs::Changes::take_one))]
 fn take_one(wanted: u32, first: u32, given: u32) -> Change
     ensures { result ≡ take_one wanted first given }
 {
@@ -34,6 +35,7 @@ fn take_one(wanted: u32, first: u32, given: u32) -> Change
 }
 
 // Takes N and another kind below it, and gives one or nothing.
+#[tactic(auto, unfolding(crate::specs::Changes::take_two))]
 fn take_two(wanted: u32, first: u32, second: u32, given: u32) -> Change
     ensures { result ≡ take_two wanted first second given }
 {
@@ -51,6 +53,7 @@ fn take_two(wanted: u32, first: u32, second: u32, given: u32) -> Change
 }
 
 // T_CREATE takes S N C.
+#[tactic(auto, unfolding(crate::specs::Changes::create))]
 fn create(first: u32, second: u32, third: u32) -> Change
     ensures { result ≡ create first second third }
 {
@@ -71,6 +74,7 @@ fn create(first: u32, second: u32, third: u32) -> Change
 }
 
 // EQ and NEQ: two alike, to B.
+#[tactic(auto, unfolding(crate::specs::Changes::compare))]
 fn compare(first: u32, second: u32) -> Change
     ensures { result ≡ compare first second }
 {
@@ -88,6 +92,7 @@ fn compare(first: u32, second: u32) -> Change
 }
 
 // M_MUTA: S or V, N, N; the vector stays.
+#[tactic(auto, unfolding(crate::specs::Changes::change_vector))]
 fn change_vector(first: u32, second: u32, third: u32) -> Change
     ensures { result ≡ change_vector first second third }
 {
@@ -101,6 +106,7 @@ fn change_vector(first: u32, second: u32, third: u32) -> Change
 }
 
 // So many kinds are taken and two are given, if there is this one.
+#[tactic(auto, unfolding(crate::specs::Changes::move_kinds))]
 fn move_kinds(needed: u32, taken: usize, low: u32, top: u32) -> Change
     ensures { result ≡ move_kinds needed taken low top }
 {
@@ -111,6 +117,7 @@ fn move_kinds(needed: u32, taken: usize, low: u32, top: u32) -> Change
 }
 
 // An exchange of kinds, of which there are so many.
+#[tactic(auto, unfolding(crate::specs::Changes::exchange_change))]
 fn exchange_change(exchange: Exchange, height: usize, first: u32, second: u32, third: u32) -> Change
     ensures { result ≡ exchange_change exchange height first second third }
 {
@@ -150,6 +157,7 @@ fn exchange_change(exchange: Exchange, height: usize, first: u32, second: u32, t
 }
 
 // An element of a program.
+#[tactic(auto, unfolding(crate::specs::Changes::element_change))]
 pub(crate) fn element_change(
     element: Element,
     height: usize,

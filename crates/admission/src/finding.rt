@@ -24,6 +24,7 @@ fn byte_at(code: &[u8], at: usize) -> u8
 }
 
 // The kind of a vector's tag.
+#[tactic(auto, unfolding(labels::specs::Elements::tag_kind))]
 fn tag_kind(tag: u8) -> KindResult
     ensures { result ≡ tag_kind tag }
 {
@@ -35,6 +36,7 @@ fn tag_kind(tag: u8) -> KindResult
 }
 
 // The kind of a task's field.
+#[tactic(auto, unfolding(labels::specs::Elements::field_kind))]
 fn field_kind(field: u8) -> KindResult
     ensures { result ≡ field_kind field }
 {
@@ -47,6 +49,7 @@ fn field_kind(field: u8) -> KindResult
 }
 
 // M_STI.
+#[tactic(auto, unfolding(labels::specs::Elements::with_kind))]
 fn m_sti_element(tag: u8) -> Element
     ensures { result ≡ with_kind Adds (tag_kind tag) }
 {
@@ -57,6 +60,7 @@ fn m_sti_element(tag: u8) -> Element
 }
 
 // M_ST.
+#[tactic(auto, unfolding(labels::specs::Elements::with_kind))]
 fn m_st_element(tag: u8) -> Element
     ensures { result ≡ with_kind (Turns Number) (tag_kind tag) }
 {
@@ -70,6 +74,7 @@ fn m_st_element(tag: u8) -> Element
 }
 
 // PUSH_TASK_FIELD joined to T_GET_FIELD.
+#[tactic(auto, unfolding(labels::specs::Elements::with_kind))]
 fn get_element(field: u8) -> Element
     ensures { result ≡ with_kind Gets (field_kind field) }
 {
@@ -80,6 +85,7 @@ fn get_element(field: u8) -> Element
 }
 
 // PUSH_TASK_FIELD joined to T_SET_FIELD.
+#[tactic(auto, unfolding(labels::specs::Elements::with_kind))]
 fn set_element(field: u8) -> Element
     ensures { result ≡ with_kind Sets (field_kind field) }
 {
@@ -90,6 +96,7 @@ fn set_element(field: u8) -> Element
 }
 
 // PUSH_TASK_FIELD, joined or lone.
+#[tactic(auto, unfolding(labels::specs::Elements::field_element))]
 fn field_element(code: &[u8], at: usize) -> Element
     requires { at < length code.now }
     ensures { result ≡ field_element code.now at }
@@ -103,6 +110,7 @@ fn field_element(code: &[u8], at: usize) -> Element
 }
 
 // JUMP_IF_FALSE.
+#[tactic(auto, unfolding(labels::specs::Elements::jump_element))]
 fn jump_element(code: &[u8], at: usize) -> Element
     ensures { result ≡ jump_element (operand 4 code.now at) }
 {
@@ -113,6 +121,7 @@ fn jump_element(code: &[u8], at: usize) -> Element
 }
 
 // An opcode that moves kinds or loops about, or does nothing here.
+#[tactic(auto, unfolding(labels::specs::Elements::moving_element))]
 fn moving_element(op: u8) -> Element
     ensures { result ≡ moving_element op }
 {
@@ -131,6 +140,7 @@ fn moving_element(op: u8) -> Element
 }
 
 // An opcode without operands.
+#[tactic(auto, unfolding(labels::specs::Elements::plain_element))]
 fn plain_element(op: u8) -> Element
     ensures { result ≡ plain_element op }
 {
@@ -149,6 +159,7 @@ fn plain_element(op: u8) -> Element
 }
 
 // The element at a place where it is whole.
+#[tactic(auto, unfolding(labels::specs::Elements::whole_element))]
 fn whole_element(code: &[u8], at: usize, op: u8) -> Element
     requires { at < length code.now }
     ensures { result ≡ whole_element code.now at op }
@@ -171,6 +182,7 @@ fn whole_element(code: &[u8], at: usize, op: u8) -> Element
 }
 
 // Whether PUSH_TASK_FIELD stands at a place, directly followed by T_GET_FIELD or T_SET_FIELD.
+#[tactic(auto, unfolding(labels::specs::Elements::joined))]
 fn joined(code: &[u8], at: usize, op: u8) -> bool
     requires { (at < length code.now) × (op ≡ get_or code.now at 0) }
     ensures { result ≡ joined code.now at }
@@ -186,6 +198,7 @@ fn joined(code: &[u8], at: usize, op: u8) -> bool
 }
 
 // The element at a place, by a table of operand sizes.
+#[tactic(auto, unfolding(crate::specs::Found::found_by, crate::specs::Found::found_extent))]
 pub(crate) fn find(sizes: &[u8; 256], code: &[u8], at: usize) -> Found
     ensures { result ≡ found_by sizes.now code.now at }
 {

@@ -13,6 +13,7 @@ use crate::sweep::{element_at, node_at};
 use labels::Element;
 
 // Whether an element starts at a place and has the label of another. Then the nodes of both are merged.
+#[tactic(auto, unfolding(crate::specs::Jumps::same_label))]
 fn same_label(cells: &mut [u32], nodes: &[u32], loops: &[u32], place: usize, other: usize) -> bool
     ensures { (result ≡ same_label cells.old nodes.now loops.now place other) × Kept cells.old cells.new }
 {
@@ -26,6 +27,7 @@ fn same_label(cells: &mut [u32], nodes: &[u32], loops: &[u32], place: usize, oth
 }
 
 // Whether an element is no jump, or a jump whose target has the label of the place behind it.
+#[tactic(auto, unfolding(crate::specs::Jumps::right_jump))]
 fn right_jump(
     cells: &mut [u32],
     nodes: &[u32],

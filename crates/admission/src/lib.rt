@@ -1,4 +1,6 @@
 // The admission check: the admission rules (docs/REFERENCE.md, 'Admission') in code, in time that grows with the program's length.
+#![tactic(auto)]
+
 pub mod changes;
 mod decision;
 pub mod elements;

@@ -23,6 +23,7 @@ pub(crate) fn put(numbers: &mut [u32], at: usize, number: u32)
 }
 
 // The letter that a node's cell says, 0 for the empty stack.
+#[tactic(auto, unfolding(crate::specs::Nodes::letter_of))]
 fn letter_of(cell: u32, node: usize) -> u32
     ensures { result ≡ letter_of cell node }
 {
@@ -33,6 +34,7 @@ fn letter_of(cell: u32, node: usize) -> u32
 }
 
 // The letter on top of a node.
+#[tactic(auto, unfolding(crate::specs::Nodes::top))]
 pub(crate) fn top(cells: &[u32], node: usize) -> u32
     ensures { result ≡ top cells.now node }
 {
@@ -40,6 +42,7 @@ pub(crate) fn top(cells: &[u32], node: usize) -> u32
 }
 
 // The node below a node.
+#[tactic(auto, unfolding(crate::specs::Nodes::below))]
 pub(crate) fn below(cells: &[u32], node: usize) -> usize
     ensures { result ≡ below cells.now node }
 {
@@ -85,6 +88,7 @@ pub(crate) fn same(cells: &[u32], one: usize, other: usize) -> bool
 }
 
 // Of the cells of two nodes the lower replaces the other: with the same letter, that is the one with the lower node below it.
+#[tactic(auto, unfolding(crate::specs::Nodes::replaced))]
 fn replace(cells: &mut [u32], left: usize, right: usize, one: u32, other: u32)
     ensures { cells.new ≡ replaced cells.old left right one other }
 {
@@ -126,6 +130,7 @@ pub(crate) fn compare_and_merge(cells: &mut [u32], one: usize, other: usize) -> 
 }
 
 // The cell of a letter on a node.
+#[tactic(auto, unfolding(crate::specs::Nodes::cell_of))]
 fn cell_of(node: usize, letter: u32) -> u32
     ensures { result ≡ cell_of node letter }
 {
@@ -133,6 +138,7 @@ fn cell_of(node: usize, letter: u32) -> u32
 }
 
 // A letter put on a node, as the node `at`; nothing for 0.
+#[tactic(auto, unfolding(crate::specs::Nodes::given_node, crate::specs::Nodes::given_cells))]
 pub(crate) fn give(cells: &mut [u32], at: usize, node: usize, letter: u32) -> usize
     ensures { (result ≡ given_node at node letter) × (cells.new ≡ given_cells cells.old at node letter) }
 {

@@ -32,6 +32,7 @@ pub(crate) fn node_at(nodes: &[u32], at: usize) -> usize
 }
 
 // The open loops after an element.
+#[tactic(auto, unfolding(crate::specs::Sweep::word_after))]
 fn word_after(
     cells: &[u32],
     nodes: &[u32],
@@ -71,6 +72,7 @@ fn word_after(
 }
 
 // How many kinds a letter is.
+#[tactic(auto, unfolding(crate::specs::Sweep::count))]
 fn count(letter: u32) -> usize
     ensures { (result ≡ count letter) × (result ≤ 1) }
 {
@@ -81,6 +83,7 @@ fn count(letter: u32) -> usize
 }
 
 // How many kinds there are after a change.
+#[tactic(auto, unfolding(crate::specs::Sweep::height_after))]
 fn height_after(height: usize, taken: usize, low: u32, high: u32) -> usize
     requires { height ≤ 1000 }
     ensures { result ≡ height_after height taken low high }
@@ -93,6 +96,7 @@ fn height_after(height: usize, taken: usize, low: u32, high: u32) -> usize
 }
 
 // What is to be noted behind an element that changes the kinds so.
+#[tactic(auto, unfolding(crate::specs::Sweep::plan_change, crate::specs::Sweep::plan_loops))]
 fn plan_change(
     cells: &[u32],
     nodes: &[u32],
@@ -128,6 +132,7 @@ fn plan_change(
 }
 
 // What is to be noted behind an element.
+#[tactic(auto, unfolding(crate::specs::Sweep::plan))]
 fn plan(
     cells: &[u32],
     nodes: &[u32],
@@ -157,6 +162,7 @@ fn plan(
 }
 
 // A label noted at a place, its letters as the nodes from `free` on.
+#[tactic(auto, unfolding(crate::specs::Sweep::noted_cells, crate::specs::Sweep::noted_nodes, crate::specs::Sweep::noted_node))]
 fn note(
     cells: &mut [u32],
     nodes: &mut [u32],
@@ -178,6 +184,7 @@ fn note(
 }
 
 // What was planned for an element is noted behind it.
+#[tactic(auto, unfolding(crate::specs::Sweep::step_plan))]
 fn step_plan(
     cells: &mut [u32],
     nodes: &mut [u32],
@@ -209,6 +216,7 @@ fn step_plan(
 }
 
 // The element at a place: the label that it gives the next is noted there.
+#[tactic(auto, unfolding(crate::specs::Sweep::step, crate::specs::Sweep::step_found))]
 fn step(
     cells: &mut [u32],
     nodes: &mut [u32],

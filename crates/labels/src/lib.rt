@@ -2,7 +2,7 @@
 #![tactic(auto)]
 
 // The kinds, whose letters are N, C, B, S and V.
-#[derive(Drop)]
+#[derive(Clone, Copy)]
 pub enum Kind {
     Number,
     Calldata,
@@ -12,14 +12,14 @@ pub enum Kind {
 }
 
 // The kind that a vector's tag or a task's field stands for.
-#[derive(Drop)]
+#[derive(Clone, Copy)]
 pub enum KindResult {
     Known(Kind),
     Unknown,
 }
 
 // What an element does to the kinds alone.
-#[derive(Drop)]
+#[derive(Clone, Copy)]
 pub enum Exchange {
     Unchanged,
     Adds(Kind),
@@ -37,7 +37,7 @@ pub enum Exchange {
 }
 
 // An element by its rule.
-#[derive(Drop)]
+#[derive(Clone, Copy)]
 pub enum Element {
     NoRule,
     Kinds(Exchange),
