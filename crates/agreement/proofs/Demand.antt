@@ -40,7 +40,7 @@ use Rattle.agreement.specs.Exceptions.{excepted, comes_to_excepted, permitted_co
 use Rattle.agreement.proofs.Aligned.{empty, Given, given}
 use Rattle.agreement.proofs.Exceptions.{answers_excepted, rust_answers_excepted, comes_before}
 use Rattle.agreement.proofs.Calls.{Told, told_end, told_pause, told_err, told_panic, told_met, done_if_any, read_alike, answers}
-use Rattle.agreement.proofs.Histories.{Related, both_rest, both_run, it_failed, is_met, told_call, given_call, refused_call, sound_related, history_related}
+use Rattle.agreement.proofs.Histories.{Related, both_rest, both_run, it_failed, it_panicked, is_met, told_call, given_call, refused_call, sound_related, history_related}
 use Rattle.agreement.proofs.SameMachines as same
 use Rattle.agreement.proofs.Creation.{FromCreation, created_agrees, ok_is, sound_is}
 
@@ -90,6 +90,7 @@ unfolding view
 machine_same {w} (both_rest ready done lined values-are is) it_rests = subst (λ (v : VM). SameMachine w v) is (same.same_machine w ready.is_sound (at_rest w) refl refl refl)
 machine_same {w} (both_run stale s bytes phase lined is) in_a_run = subst (λ (v : VM). SameMachine w v) is (same.same_machine w s (view stale w) refl refl refl)
 machine_same {w} (it_failed stale s phase is) before_failing = subst (λ (v : VM). SameMachine w v) is (same.same_machine w s (view stale w) refl refl refl)
+machine_same (it_panicked s phase) has = elim has [ ]
 
 values_same : {w : World} {values : List ℕ} {vm : VM} → Related w (returned values vm) → SameValues w values vm
 values_same {w} (both_rest ready done lined values-are is) = record { same = values-are; read_alike = subst (λ (v : VM). ReadAlike w v) is (read_alike w ready.is_sound done lined) }
@@ -99,6 +100,8 @@ unfolding view
 equal {r} (told_end e leaves) (given _ _ lined) none-met it_returns =
     same_end e (record { same = refl; read_alike = read_alike (world_after r) leaves.is_sound (done_if_any r e leaves) lined }) (same.same_machine (world_after r) leaves.is_sound (at_rest (world_after r)) refl refl refl)
 equal {r} (told_err stale error e leaves f) g none-met it_fails = same_refusal e (same.same_machine (world_after r) leaves.is_sound (view stale (world_after r)) refl refl refl)
+equal (told_pause stale e leaves) g none-met ends = elim ends [ ]
+equal (told_panic stale e leaves f) g none-met ends = elim ends [ ]
 equal {r} (told_met stale number vm e f over ran) g none-met ends = is_met r.report.outcome e over none-met
 
 -- ---- up to the first instruction that is left out

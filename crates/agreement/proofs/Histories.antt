@@ -247,7 +247,7 @@ left_by_related (reads_task id) related main none-met common = related
 -- main is the program all along
 pub history_related : {w : World} {ran : Ran} (calls : List HostCall) → NoneMet calls w → w.machine.frames.main.entry.0 ≡ 0 → Related w ran → Related (history calls w) (rust_history calls ran)
 unfolding history rust_history
-history_related [] no_call main related = related
-history_related {w} (one ∷ others) (not_met none-met common later) main related =
+history_related {w = w} [] no_call main related = related
+history_related {w = w} (one ∷ others) (not_met none-met common later) main related =
     let s = sound_related related in
-    history_related others later (left_main one w (record { tested = s.tested; ends_lent = s.ends_lent }) ∙ main) (left_by_related one related main none-met common)
+    history_related {w = left_by one w} others later (left_main one w (record { tested = s.tested; ends_lent = s.ends_lent }) ∙ main) (left_by_related one related main none-met common)

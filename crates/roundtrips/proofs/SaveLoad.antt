@@ -96,7 +96,7 @@ read_back : {next_id low : ℕ} {tasks : List ImageTask} → Rising next_id low 
 unfolding read_from records task_before
 read_back r few zero place h = absurd (omega arith)
 read_back none few (suc bound) place h = refl
-read_back (more {low} {task} {tasks} fine r) few (suc bound) place h =
+read_back {low = low} (more {task = task} {tasks = tasks} fine r) few (suc bound) place h =
     let l = length_is task (records tasks) in
     let i = id_is task (records tasks) (omega (arith, fine.below)) in
     rw (
@@ -105,7 +105,7 @@ read_back (more {low} {task} {tasks} fine r) few (suc bound) place h =
       past_is task (records tasks) fine few,
       i,
       task_is task (records tasks) fine few,
-      read_back r few bound _ (omega arith),
+      read_back {low = task.id + 1} r few bound _ (omega arith),
     )
 
 -- ids that rise below the next id are at most so many
