@@ -1,5 +1,5 @@
 -- Reads of memory in use: a vector's part, whether it can be read, and whether two vectors are equal.
-use Rattle.std.specs.Prelude.{ℕ, ◌%◌, Bool, true, false, cond, List, take, drop, ◌==◌}
+use Rattle.std.specs.Prelude.{ℕ, ◌%◌, true, false, cond, List, take, drop, ◌==◌}
 use Rattle.errors.specs.declared.Refusal.{Refusal}
 use Rattle.errors.specs.declared.Refusal.TheVariants.{MSliceOutOfBounds, BytesToStringConversionError, AlignmentMismatch, SliceSizeMismatch}
 use Rattle.values.specs.declared.FatPointer.{FatPointer}

@@ -2,7 +2,6 @@
 use Rattle.std.specs.Prelude.{ℕ, true, List, [], ◌==◌}
 use Rattle.errors.specs.declared.Refusal.TheVariants.{InvalidType}
 use Rattle.values.specs.Values.{to_u32, to_bool_val, to_fat_pointer, get_value_type}
-use Rattle.values.specs.declared.FatPointer.{FatPointer}
 use Rattle.values.specs.declared.PointerResult.{PointerResult}
 use Rattle.values.specs.declared.PointerResult.TheVariants.{Pointer, NoPointer}
 use Rattle.values.specs.declared.ValueType.{ValueType}

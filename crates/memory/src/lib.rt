@@ -1,4 +1,6 @@
 // Linear memory: what allocation, change and reads answer; a vector's part, and whether it lies in the memory in use.
+#![tactic(auto)]
+
 pub mod allocation;
 pub mod change;
 pub mod reads;
@@ -8,7 +10,7 @@ pub mod unbox;
 use errors::Refusal;
 
 // Which element of a vector: never a task's id, never a pool reference.
-#[derive(Drop)]
+#[derive(Clone, Copy)]
 pub struct ElementIndex(pub u32);
 
 // Where a vector would start.
