@@ -8,7 +8,7 @@ use pools::{BoundsResult, InstructionsRef};
 use values::{FatPointer, PointerResult, ValueType};
 
 // What a value is read as; a kind that has a part says where it lies.
-#[derive(Drop)]
+#[derive(Clone, Copy)]
 pub enum Return {
     U32(u32),
     Boolean(bool),
