@@ -3,13 +3,13 @@ use Prim.Native.Nat.{ℕ, zero, suc, ◌+◌, ◌≤◌, ◌<◌, min}
 use mathlib.Core.Bool.{Bool, true, false, cond, true≢false}
 use mathlib.Core.List.{List, [], ◌∷◌, map}
 use mathlib.Core.Option.{Option, none, some}
-use mathlib.Core.Path.{◌≡◌, refl, ap, sym, ◌∙◌, subst}
+use mathlib.Core.Path.{◌≡◌, refl, ap, sym, ◌∙◌}
 use native.Mathlib.Numerals.{add-one}
 use native.Mathlib.Omega.{arith}
 use lib.Dec.{leb}
 use lib.ListN.{length, get_or, length-append}
 use lib.Seq.{sets, length-sets}
-use borrow.Author.Tests.{le-leb, lt-leb, leb-true, leb-false}
+use borrow.Author.Tests.{lt-leb, leb-true, leb-false}
 use Rattle.errors.specs.declared.Refusal.{Refusal}
 use Rattle.errors.specs.declared.Refusal.TheVariants.{BytesToStringConversionError, SaveBufferTooShort}
 use Rattle.image.proofs.Puts.{puts_puts}
@@ -17,8 +17,8 @@ use Rattle.image.specs.Image.{ImageTask, Image, record_of, body, header, records
 use Rattle.slices.specs.Numbers.{little_endian}
 use Rattle.image.specs.Walking.{on}
 use Rattle.image.specs.Slots.{saved_task, title_in, task_in}
-use Rattle.image.specs.Table.{living_tasks, refusal_by, task_refusal, or_else, first_refusal, image_of_tasks, SavedTable, saved_table, saved_over, saved_unless, save_tasks, save_table}
-use Rattle.image.specs.Writing.{Put, put, puts, size_of, sized, measure, added, measure_slot, save_slot}
+use Rattle.image.specs.Table.{living_tasks, refusal_by, task_refusal, or_else, first_refusal, image_of_tasks, saved_table, saved_over, saved_unless, save_tasks, save_table}
+use Rattle.image.specs.Writing.{put, puts, size_of, sized, measure, added, measure_slot, save_slot}
 use Rattle.image.specs.declared.SaveResult.TheVariants.{Saved, NotSaved}
 use Rattle.image.specs.declared.SizeResult.{SizeResult}
 use Rattle.image.specs.declared.SizeResult.TheVariants.{Size, NoSize}

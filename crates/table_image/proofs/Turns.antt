@@ -1,5 +1,5 @@
 -- One turn of each loop over the table, and what is left at its end.
-use Prim.Native.Nat.{ℕ, suc, ◌+◌, ◌-◌, ◌<◌, ◌≤◌, ◌^◌, ◌*◌}
+use Prim.Native.Nat.{ℕ, suc, ◌+◌, ◌-◌, ◌<◌, ◌≤◌}
 use mathlib.Core.Bool.{Bool, true, false, cond}
 use mathlib.Core.List.{List}
 use mathlib.Core.Path.{◌≡◌, refl, ap, sym, ◌∙◌}
@@ -51,29 +51,7 @@ step_is {A} e = (ap (λ (a : Stepped A). a.answer) e, (ap (λ (a : Stepped A). a
 pub held_is : {A : Type 0} {r q : A} {ts us : List Task} {zs ys ws vs : List ℕ} → held r ts zs ws ≡ held q us ys vs → (r ≡ q) × ((ts ≡ us) × ((zs ≡ ys) × (ws ≡ vs)))
 held_is {A} e = (ap (λ (a : Held A). a.answer) e, (ap (λ (a : Held A). a.table) e, (ap (λ (a : Held A). a.pool) e, ap (λ (a : Held A). a.ends) e)))
 
--- the place behind the header fits
-pub header_fits : 14 < 2 ^ 64
-header_fits = omega arith
-
--- the count of records fits
-pub none_fits : 0 < 2 ^ 32
-none_fits = omega arith
-
--- and after a turn
-pub one_fits : {n i : ℕ} → n < 2 ^ 32 → i < n → i + 1 < 2 ^ 32
-one_fits fits more = omega arith
-
 -- ---- counting
--- a living slot
-pub counts_one : (t : Task) (count : ℕ) → t.living ≡ true → count + 1 ≡ count_slot t count
-unfolding count_slot
-counts_one t count living = rw living
-
--- one that is not
-pub counts_none : (t : Task) (count : ℕ) → t.living ≡ false → count ≡ count_slot t count
-unfolding count_slot
-counts_none t count dead = rw dead
-
 -- a slot counts at most once
 counts_most : (t : Task) (count : ℕ) → count_slot t count ≤ count + 1
 unfolding count_slot
@@ -148,10 +126,6 @@ pub none_counted : {m : MeasuredTable} → m ≡ measuring → m.count ≤ 0
 unfolding measuring
 none_counted {m} e = let same : m.count ≡ 0 = ap (λ (x : MeasuredTable). x.count) e in omega arith
 
--- one more can be counted
-pub more_counted : {count i n : ℕ} → count ≤ i → i < n → n < 2 ^ 64 → count + 1 < 2 ^ 64
-more_counted few more fits = omega arith
-
 -- ---- saving
 module _ (next_id slots : ℕ) (save : List ℕ) (m : MeasuredTable) where
   -- a refusal
@@ -209,10 +183,6 @@ module _ (table : List Task) (pool ends : List ℕ) where
   pub save_ends : (answer : SaveResult) (n i k : ℕ) (save : List ℕ) {whole : SavedTable} → n ≤ i → to_save answer (n - i) i table pool ends (put k save) ≡ whole → saved_table answer save ≡ whole
   unfolding save_slots
   save_ends answer n i k save ended so_far = ap (λ (l : ℕ). to_save answer l i table pool ends (put k save)) (sym (none_left ended)) ∙ so_far
-
--- a sum that fits: a slice's bytes fit an isize
-pub past_fits : (n : ℕ) → n * 1 < 2 ^ 63 → n + 1 < 2 ^ 64
-past_fits n room = omega arith
 
 -- ---- loading
 -- a record that was loaded, with its slot

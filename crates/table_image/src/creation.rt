@@ -20,6 +20,7 @@ pub enum CreationResult {
 }
 
 // Tests a table's slots, a lent pool's length, a program and an image: 26, then 1, 28, 25, 22.
+#[tactic(auto, unfolding(crate::specs::Creation::creation_tests, crate::specs::Creation::image_tests))]
 pub fn creation_tests(
     slots: usize,
     pool_lent: usize,

@@ -1,4 +1,6 @@
 // The loops that carry the lent table of tasks: it is measured and saved, a slot to a turn.
+#![tactic(auto)]
+
 pub mod creation;
 pub mod loading;
 
@@ -44,6 +46,7 @@ pub struct NextRecord {
 }
 
 // Before the first slot: the header alone.
+#[tactic(auto, unfolding(crate::specs::Tables::measuring))]
 fn measuring() -> MeasuredTable
     ensures { result ≡ measuring }
 {
@@ -54,6 +57,7 @@ fn measuring() -> MeasuredTable
 }
 
 // One more, if a task is living.
+#[tactic(auto, unfolding(crate::specs::Loops::count_slot))]
 fn counted(task: Task, count: usize) -> usize
     requires { count + 1 < 2 ^ 64 }
     ensures { result ≡ count_slot task count }
