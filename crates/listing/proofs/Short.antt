@@ -1,5 +1,5 @@
 -- How long the lines beside the values are: the first one, the counts, and those of the tasks.
-use Rattle.std.proofs.Common.{◌≡◌, ℕ, suc, ◌*◌, ◌<◌, ◌≤◌, Bool, true, false, cond, ltb, List, [], ◌∷◌, ◌++◌, length, get_or, take, refl, arith, length-append, length-take}
+use Rattle.std.proofs.Common.{◌≡◌, ℕ, suc, ◌*◌, ◌<◌, ◌≤◌, Bool, true, false, cond, ltb, List, [], ◌∷◌, ◌++◌, length, get_or, refl, arith, length-append, length-take}
 use Rattle.errors.specs.Refusals.{number_of, details_of}
 use Rattle.storage.specs.declared.Task.{Task}
 use Rattle.storage.specs.Table.{lives, living_of}

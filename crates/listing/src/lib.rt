@@ -1,4 +1,6 @@
 // The listing (docs/REFERENCE.md, 'The listing'): what its first line tells, and its counts, a line at a time, put into a lent buffer or only measured.
+#![tactic(auto)]
+
 pub mod head_line;
 pub mod lines;
 pub mod task_line;
