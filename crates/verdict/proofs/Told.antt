@@ -1,7 +1,7 @@
 -- What the check answers, as its line tells it.
 use Prim.Native.Nat.{ℕ, ◌+◌, ◌≤◌, ◌<◌}
 use mathlib.Core.Bool.{Bool, true, false}
-use mathlib.Core.List.{List, [], ◌∷◌, ◌++◌, reverse}
+use mathlib.Core.List.{List, reverse}
 use mathlib.Core.Path.{◌≡◌, refl, sym, ap, ◌∙◌}
 use native.Mathlib.Omega.{arith}
 use lib.Dec.{leb}
@@ -10,7 +10,6 @@ use lib.Seq.{sets, sets-eq, take_all, take_at, length-take-le}
 use borrow.Author.Tests.{leb-true, leb-false}
 use Rattle.slices.proofs.SlicesWrites.{sets_whole, sets_cut}
 use Rattle.errors.specs.declared.Refusal.{Refusal}
-use Rattle.labels.specs.declared.Kind.{Kind}
 use Rattle.labels.specs.Labels.{letter, letters}
 use Rattle.labels.specs.Check.{Verdict, admitted, refused}
 use Rattle.admission.specs.Answer.{Answer, answer, answered}

@@ -1,4 +1,6 @@
 // The line that tells whether a program is admitted: the kinds at its end, or the refusal.
+#![tactic(auto)]
+
 ghost use Rattle.std.specs.Prelude.{◌≡◌, take};
 ghost use Rattle.labels.specs.Check.{admission};
 ghost use Rattle.text.specs.Lines.{lined, put_line};
