@@ -1,4 +1,6 @@
 // The machine: its record, what its calls are asked and answer, and in specs/ what all of it means.
+#![tactic(auto)]
+
 pub mod new_machines;
 
 use errors::Refusal;
@@ -7,7 +9,7 @@ use inlinevec::{Frames, Loops};
 use storage::{Task, TaskId};
 
 // Where a machine stands between two calls.
-#[derive(Drop)]
+#[derive(Clone, Copy)]
 pub enum Phase {
     New,
     Paused,
@@ -16,7 +18,7 @@ pub enum Phase {
 }
 
 // The machine by value. Lent at each call, in this order: the table of tasks, the stack, memory, the pool, its ends, the save buffer.
-#[derive(Drop)]
+#[derive(Clone, Copy)]
 pub struct Machine {
     pub phase: Phase,
     pub height: usize,
@@ -31,7 +33,7 @@ pub struct Machine {
 }
 
 // How a run ends: at its code's end, without fuel, or at a refused instruction.
-#[derive(Drop)]
+#[derive(Clone, Copy)]
 pub enum Outcome {
     Done,
     Paused,
@@ -39,7 +41,7 @@ pub enum Outcome {
 }
 
 // A machine at the end of a run, the fuel that is left, and how the run ended.
-#[derive(Drop)]
+#[derive(Clone, Copy)]
 pub struct RunEnd {
     pub machine: Machine,
     pub left: u64,
@@ -47,14 +49,14 @@ pub struct RunEnd {
 }
 
 // What a creation answers: a new machine, or why there is none.
-#[derive(Drop)]
+#[derive(Clone, Copy)]
 pub enum CreateResult {
     Created(Machine),
     NotCreated(Refusal),
 }
 
 // What a host asks of a run: to start at main, to rerun from where the run before ended, or to continue where it paused.
-#[derive(Drop)]
+#[derive(Clone, Copy)]
 pub enum Verb {
     Start,
     Rerun,
@@ -62,7 +64,7 @@ pub enum Verb {
 }
 
 // What start, rerun and continue answer: the machine, the instructions that were finished, and how the run ended.
-#[derive(Drop)]
+#[derive(Clone, Copy)]
 pub struct Report {
     pub machine: Machine,
     pub finished: u64,
@@ -70,7 +72,7 @@ pub struct Report {
 }
 
 // Whether a task can be read.
-#[derive(Drop)]
+#[derive(Clone, Copy)]
 pub enum TaskResult {
     Readable,
     NotReadable(Refusal),

@@ -1,4 +1,5 @@
 // How the code takes an instruction apart: by what it changes of the registers, of a task's slot, of the frames and the pool. That this is the machine's step is shown in proofs/.
+#![tactic(auto)]
 pub mod changes;
 pub mod machines;
 pub mod stack;
@@ -11,7 +12,7 @@ use storage::Task;
 
 // What an instruction that needs no task, frame or pool changes of the machine: the length of memory in use, the place in the current code, the height of
 // the stack, the open loops. The length that fewest change comes first, where a refusal lies in `RegistersResult`: what lies there goes through memory.
-#[derive(Drop)]
+#[derive(Clone, Copy)]
 pub struct Registers {
     pub memory: usize,
     pub place: usize,
@@ -20,7 +21,7 @@ pub struct Registers {
 }
 
 // What such an instruction answers.
-#[derive(Drop)]
+#[derive(Clone, Copy)]
 pub enum RegistersResult {
     Next(Registers),
     Refused(Refusal),
