@@ -19,7 +19,7 @@ use Rattle.machine.specs.declared.Machine.{Machine}
 use Rattle.machine.specs.declared.Phase.{Phase}
 use Rattle.machine.specs.declared.Phase.TheVariants.{New, Paused, Done, Stopped}
 use Rattle.machine.specs.Machines.{with_saved}
-use Rattle.machine.specs.World.{World, world}
+use Rattle.machine.specs.World.{World}
 use Rattle.machine.specs.Calls.{is_sound}
 use Rattle.machine.specs.declared.TaskResult.{TaskResult}
 use Rattle.machine.specs.declared.TaskResult.TheVariants.{Readable, NotReadable}

@@ -11,7 +11,6 @@ use Rattle.bytecode.specs.declared.Extent.TheVariants.{Next, Cut}
 use Rattle.bytecode.specs.declared.OperandResult.{OperandResult}
 use Rattle.bytecode.specs.declared.OperandResult.TheVariants.{Operand, NoOperand}
 use Rattle.pools.specs.Pool.{Pooled, pooled, has_room, interned}
-use Rattle.pools.specs.declared.InternResult.{InternResult}
 use Rattle.pools.specs.declared.InternResult.TheVariants.{Interned, NotInterned}
 use Rattle.pools.specs.declared.InstructionsRef.{InstructionsRef}
 use Rattle.storage.specs.declared.Task.{Task}
@@ -21,7 +20,7 @@ use Rattle.mechanism.specs.declared.Change.{Change}
 use Rattle.mechanism.specs.declared.RegistersAndChange.{RegistersAndChange}
 use Rattle.machine.specs.declared.Machine.{Machine}
 use Rattle.machine.specs.Machines.{current, code_of}
-use Rattle.mechanism.specs.Frames.{OnPool, on_pool, intern_sized, intern_calldata, calldata_pushed, push_calldata}
+use Rattle.mechanism.specs.Frames.{OnPool, intern_sized, intern_calldata, calldata_pushed, push_calldata}
 use Rattle.mechanism.specs.Act.{acted, OnAll, on_all, settled_by, created, tasked_by, created_by, on_task, after_pool, after_memory, on_frames, act_by, act_at, act}
 use Rattle.mechanism.specs.declared.MachineResult.{MachineResult}
 use Rattle.mechanism.specs.declared.MachineResult.TheVariants.{Onto, Refused}

@@ -3,7 +3,6 @@ use Prim.Native.Nat.{ℕ}
 use mathlib.Core.List.{List}
 use mathlib.Core.Path.{◌≡◌, refl, ap}
 use lib.ListN.{length}
-use Rattle.image.specs.Table.{Loading}
 use Rattle.pools.specs.Pool.{interned}
 use Rattle.pools.specs.declared.InternResult.{InternResult}
 use Rattle.pools.specs.declared.InternResult.TheVariants.{Interned, NotInterned}

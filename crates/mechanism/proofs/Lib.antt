@@ -1,10 +1,6 @@
 pub mod Pops
 pub mod Settled
-pub mod Values
-pub mod Fields
 pub mod Measured
-pub mod VmValues
-pub mod VmFields
 pub mod Answers
 pub mod Either
 pub mod RefusalsStack

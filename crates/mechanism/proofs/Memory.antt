@@ -1,6 +1,5 @@
 -- A refused instruction over memory leaves the stack and memory as they were.
 use Prim.Native.Nat.{ℕ, zero, suc, ◌+◌, ◌/◌}
-use mathlib.Core.Bool.{Bool, true, false, cond}
 use mathlib.Core.List.{List, [], ◌∷◌, ◌++◌}
 use mathlib.Core.Path.{◌≡◌, refl, sym, ap, subst}
 use lib.Dec.{ltb, leb}
@@ -17,12 +16,10 @@ use Rattle.memory.specs.Allocation.{vector, offset_aligned, vector_stored, alloc
 use Rattle.memory.specs.declared.AllocResult.TheVariants.{Allocated, NotAllocated}
 use Rattle.memory.specs.Change as change
 use Rattle.memory.specs.Change.{element_size_bytes, changed, mut_vec, inside}
-use Rattle.memory.specs.declared.ChangeResult.{ChangeResult}
 use Rattle.memory.specs.declared.ChangeResult.TheVariants.{Changed, NotChanged}
 use Rattle.memory.specs.declared.SizeResult.{SizeResult}
 use Rattle.memory.specs.declared.SizeResult.TheVariants.{Size, NoSize}
 use Rattle.memory.specs.declared.ElementIndex.{ElementIndex}
-use Rattle.inlinevec.specs.Stacks.{pop, last}
 use Rattle.inlinevec.specs.declared.LastResult.{LastResult}
 use Rattle.inlinevec.specs.declared.LastResult.TheVariants.{Last, NoLast}
 use Rattle.inlinevec.specs.declared.PopResult.{PopResult}
@@ -30,7 +27,6 @@ use Rattle.inlinevec.specs.declared.PopResult.TheVariants.{Popped, NotPopped}
 use Rattle.mechanism.specs.Registers.{OnStack, OnMemory, on_memory}
 use Rattle.mechanism.specs.Store.{ChangedIn, changed_in, placed, store, sized, op_m_st, mut_in_use, ChangedTo, changed_to, mutated, mutate_at, mutate, mutate_last, mutate_two, op_m_muta}
 use Rattle.mechanism.specs.declared.Registers.{Registers}
-use Rattle.mechanism.specs.declared.RegistersResult.{RegistersResult}
 use Rattle.mechanism.specs.declared.RegistersResult.TheVariants.{Next, Refused}
 use Rattle.mechanism.specs.declared.PopTwoResult.{PopTwoResult}
 use Rattle.mechanism.specs.declared.PopTwoResult.TheVariants.{PoppedTwo, NotPoppedTwo}

@@ -37,7 +37,7 @@ use Rattle.memory.specs.declared.ChangeResult.{ChangeResult}
 use Rattle.memory.specs.declared.ChangeResult.TheVariants.{Changed, NotChanged}
 use Rattle.machine.specs.Machines.{placed}
 use Rattle.machine.specs.World.{World, code, place, height, memory_in_use, moved, looping, with_memory}
-use Rattle.machine.specs.Words.{StepResult, next, refused, test, pop, popped, last, looked_at, push, calculated, pointed, allocated, store, element_changed, loop_pushed, loop_popped, loop_looked_at, operand_found, push_loop, next_round}
+use Rattle.machine.specs.Words.{StepResult, next, refused, test, pop, popped, looked_at, push, calculated, pointed, allocated, store, element_changed, loop_pushed, loop_popped, loop_looked_at, operand_found, push_loop, next_round}
 use Rattle.machine.specs.Opcodes as opcodes
 use Rattle.mechanism.specs.Registers.{on_memory, registers_of, settled}
 use Rattle.mechanism.specs.Stack.{pop_two, pop_first, pop_second, pushed_to, push_value, finish, on_one, on_two, op_push, op_mul, op_compare, op_muli, op_dup, dup_last, op_swap, swapped, op_drop, dropped}

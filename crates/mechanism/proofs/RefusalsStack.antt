@@ -8,7 +8,7 @@ use Rattle.errors.specs.declared.Refusal.{Refusal}
 use Rattle.errors.specs.declared.Refusal.TheVariants.{StackOverflow}
 use Rattle.values.specs.declared.ValueResult.{ValueResult}
 use Rattle.values.specs.declared.ValueResult.TheVariants.{Value, NoValue}
-use Rattle.inlinevec.specs.Stacks.{Stacked, stacked, if_room, push, pop, last, last_loop}
+use Rattle.inlinevec.specs.Stacks.{Stacked, stacked, if_room, push, last}
 use Rattle.inlinevec.specs.declared.HeightResult.TheVariants.{NewHeight, NoNewHeight}
 use Rattle.inlinevec.specs.declared.PopResult.{PopResult}
 use Rattle.inlinevec.specs.declared.PopResult.TheVariants.{Popped, NotPopped}
@@ -17,7 +17,7 @@ use Rattle.inlinevec.specs.declared.LastResult.TheVariants.{Last, NoLast}
 use Rattle.inlinevec.specs.declared.LastLoopResult.{LastLoopResult}
 use Rattle.inlinevec.specs.declared.LastLoopResult.TheVariants.{LastLoop, NoLastLoop}
 use Rattle.mechanism.specs.Registers.{OnStack, on_stack}
-use Rattle.mechanism.specs.Stack.{pop_two, pushed_to, push_value, finish, op_push, on_two, op_mul, op_compare, on_one, op_muli, dup_last, op_dup, swapped, op_swap}
+use Rattle.mechanism.specs.Stack.{pushed_to, push_value, finish, op_push, on_two, op_mul, op_compare, on_one, op_muli, dup_last, op_dup, swapped, op_swap}
 use Rattle.mechanism.specs.Control.{index_of, op_loop_index}
 use Rattle.mechanism.specs.Equality.{op_eq}
 use Rattle.mechanism.specs.declared.Registers.{Registers}

@@ -1,18 +1,17 @@
 -- An instruction that needs a task, a frame or the pool, as the code goes about it, is what its opcode does.
-use Prim.Native.Nat.{ℕ, zero, suc, ◌+◌, ◌-◌, ◌%◌, ◌^◌, ◌<◌, ◌≤◌}
-use mathlib.Core.Bool.{Bool, true, false, cond}
-use mathlib.Core.List.{List, []}
-use mathlib.Core.Path.{◌≡◌, refl, sym, ap, ◌∙◌}
+use Prim.Native.Nat.{ℕ, ◌+◌, ◌-◌, ◌%◌, ◌^◌, ◌<◌, ◌≤◌}
+use mathlib.Core.Bool.{cond}
+use mathlib.Core.List.{List}
+use mathlib.Core.Path.{◌≡◌, refl, ◌∙◌}
 use native.Mathlib.Omega.{arith}
 use lib.Dec.{eqb, ltb, leb}
-use lib.ListN.{length, get_or, take, drop, set}
+use lib.ListN.{length, get_or, set}
 use borrow.Author.Tests.{leb-true, leb-false, ltb-true, ltb-false, le-leb, lt-leb, lt-ltb, le-ltb, ne_eqb}
 use Rattle.errors.specs.declared.Refusal.{Refusal}
-use Rattle.errors.specs.declared.Refusal.TheVariants.{UnexpectedEOB, StackOverflow, InvalidTaskField, TitleTooLong}
-use Rattle.bytecode.specs.Opcodes.{T_CREATE, T_GET_FIELD, T_SET_FIELD, T_DELETE, CALL, END_CALL, PUSH_CALLDATA}
+use Rattle.errors.specs.declared.Refusal.TheVariants.{UnexpectedEOB, InvalidTaskField, TitleTooLong}
+use Rattle.bytecode.specs.Opcodes.{PUSH_CALLDATA}
 use Rattle.bytecode.specs.Operands as operands
-use Rattle.bytecode.specs.declared.Extent.{Extent}
-use Rattle.bytecode.specs.declared.OperandResult.TheVariants.{Operand, NoOperand}
+use Rattle.bytecode.specs.declared.OperandResult.TheVariants.{Operand}
 use Rattle.inlinevec.specs.Stacks as stacks
 use Rattle.inlinevec.specs.declared.PopResult.{PopResult}
 use Rattle.inlinevec.specs.declared.PopResult.TheVariants.{Popped, NotPopped}
@@ -25,7 +24,7 @@ use Rattle.values.specs.declared.FatPointer.{FatPointer}
 use Rattle.values.specs.declared.PointerResult.{PointerResult}
 use Rattle.values.specs.declared.PointerResult.TheVariants.{Pointer, NoPointer}
 use Rattle.memory.specs.Change.{inside}
-use Rattle.memory.specs.Reads.{get_slice_bytes, outside}
+use Rattle.memory.specs.Reads.{get_slice_bytes}
 use Rattle.pools.specs.Pool as pools
 use Rattle.pools.specs.declared.InstructionsRef.{InstructionsRef}
 use Rattle.pools.specs.declared.BoundsResult.{BoundsResult}
@@ -37,7 +36,6 @@ use Rattle.storage.specs.Table.{set_state_at}
 use Rattle.storage.specs.Tasks as tasks
 use Rattle.storage.specs.Tasks.{blank, new_task, restated}
 use Rattle.storage.specs.declared.Task.{Task}
-use Rattle.storage.specs.declared.TaskId.{TaskId}
 use Rattle.storage.specs.declared.TaskState.{TaskState}
 use Rattle.storage.specs.declared.DefaultResult.{DefaultResult}
 use Rattle.storage.specs.declared.DefaultResult.TheVariants.{State, NoState}
@@ -45,35 +43,31 @@ use Rattle.storage.specs.declared.FindResult.{FindResult}
 use Rattle.storage.specs.declared.FindResult.TheVariants.{Found, NotFound}
 use Rattle.image.specs.declared.SaveResult.{SaveResult}
 use Rattle.image.specs.declared.SaveResult.TheVariants.{Saved, NotSaved}
-use Rattle.machine.specs.declared.Machine.{Machine}
 use Rattle.machine.specs.Machines.{placed}
-use Rattle.machine.specs.Titles.{within, title_length, title_bytes, retitled, retargeted}
+use Rattle.machine.specs.Titles.{within, title_length, title_bytes, retitled}
 use Rattle.machine.specs.World.{World, code, place, height, memory_in_use, moved, with_stack, with_task, with_save, framed as with-frame}
-use Rattle.machine.specs.Words.{StepResult, next, refused, test, pop, popped, push, pointed, bytes_of, store, operand_found, frame_pushed, frame_popped, bounds_found, interned, task_of, found, first_state, has_state, with_room, saved}
+use Rattle.machine.specs.Words.{StepResult, next, refused, test, pop, popped, pointed, bytes_of, operand_found, frame_pushed, frame_popped, bounds_found, interned, found, first_state, has_state, with_room, saved}
 use Rattle.machine.specs.Opcodes as opcodes
 use Rattle.mechanism.specs.Registers.{OnMemory, on_memory, registers_of, settled, machine_at}
 use Rattle.mechanism.specs.Registers as registers
-use Rattle.mechanism.specs.Stack.{pop_two, push_value}
-use Rattle.mechanism.specs.Changes.{applied, put, restate, keep, tasked, refused as not-tasked}
+use Rattle.mechanism.specs.Changes.{applied, keep}
 use Rattle.mechanism.specs.Create as creating
 use Rattle.mechanism.specs.Create.{op_t_create, with_two, with_state, titled, with_title, if_vector, if_within, op_t_delete, delete_popped, delete_found}
 use Rattle.mechanism.specs.Fields as fields
 use Rattle.mechanism.specs.Fields.{op_t_get_field, op_t_set_field, field_of, field_popped, owner, owner_popped, get_found, set_found, set_popped, set_title, title_within, title_vector, state_answered, set_instructions}
 use Rattle.mechanism.specs.Frames as framing
 use Rattle.mechanism.specs.Frames.{op_call, call_popped, enter_bounded, framed, op_end_call, left_frame, intern_calldata, intern_sized, with_entry, calldata_pushed}
-use Rattle.mechanism.specs.Advance.{named, named_by, wanted}
+use Rattle.mechanism.specs.Advance.{named, named_by}
 use Rattle.mechanism.specs.Turns.{save_result}
-use Rattle.mechanism.specs.Act.{OnAll, acted, on_all, settled_by, created, tasked_by, created_by, after_pool, after_memory, on_frames, act_by, cut}
+use Rattle.mechanism.specs.Act.{acted, on_all, settled_by, created, tasked_by, created_by, after_pool, after_memory, on_frames, act_by}
 use Rattle.mechanism.specs.Step.{inner_result, on_registers, acts_result, on_record, saves_result, saves}
 use Rattle.mechanism.specs.declared.Registers.{Registers}
 use Rattle.mechanism.specs.declared.RegistersResult.{RegistersResult}
 use Rattle.mechanism.specs.declared.RegistersResult.TheVariants as registers-result
 use Rattle.mechanism.specs.declared.MachineResult.{MachineResult}
-use Rattle.mechanism.specs.declared.MachineResult.TheVariants.{Onto, Refused}
 use Rattle.mechanism.specs.declared.RegistersAndChange.{RegistersAndChange}
 use Rattle.mechanism.specs.declared.FieldResult.{FieldResult}
 use Rattle.mechanism.specs.declared.FieldResult.TheVariants.{Field, NoField}
-use Rattle.mechanism.specs.declared.PopTwoResult.{PopTwoResult}
 use Rattle.mechanism.proofs.Pops.{popped_one}
 use Rattle.mechanism.proofs.Settled.{on_bool}
 use Rattle.mechanism.proofs.Operands.{up_to}

@@ -1,10 +1,8 @@
 -- A refused instruction on a task leaves its slot, the stack and memory as they were.
-use Prim.Native.Nat.{ℕ, ◌%◌}
-use mathlib.Core.Bool.{Bool, true, false, cond}
+use Prim.Native.Nat.{ℕ}
 use mathlib.Core.List.{List}
 use lib.Dec.{eqb, ltb}
 use Rattle.errors.specs.declared.Refusal.{Refusal}
-use Rattle.values.specs.Values.{to_u32, to_fat_pointer}
 use Rattle.values.specs.declared.FatPointer.{FatPointer}
 use Rattle.values.specs.declared.PointerResult.{PointerResult}
 use Rattle.values.specs.declared.PointerResult.TheVariants.{Pointer, NoPointer}
@@ -25,7 +23,7 @@ use Rattle.storage.specs.declared.RoomResult.TheVariants.{Room, NoRoom}
 use Rattle.storage.specs.declared.StateResult.{StateResult}
 use Rattle.storage.specs.declared.StateResult.TheVariants.{Set, NotSet}
 use Rattle.mechanism.specs.declared.Registers.{Registers}
-use Rattle.mechanism.specs.declared.RegistersResult.TheVariants.{Next, Refused}
+use Rattle.mechanism.specs.declared.RegistersResult.TheVariants.{Next}
 use Rattle.mechanism.specs.declared.PopTwoResult.{PopTwoResult}
 use Rattle.mechanism.specs.declared.PopTwoResult.TheVariants.{PoppedTwo, NotPoppedTwo}
 use Rattle.mechanism.specs.Changes.{tasked, refused}

@@ -13,7 +13,6 @@ use Rattle.bytecode.specs.Operands.{data_size, behind, extent}
 use Rattle.bytecode.specs.declared.Extent.{Extent}
 use Rattle.bytecode.specs.declared.Extent.TheVariants as extents
 use Rattle.storage.specs.Tasks.{blank}
-use Rattle.machine.specs.declared.Machine.{Machine}
 use Rattle.machine.specs.Machines.{op_at, placed}
 use Rattle.machine.specs.World.{World, code, place, height, op, at_end}
 use Rattle.machine.specs.Words.{StepResult, next, refused}
@@ -29,7 +28,7 @@ use Rattle.mechanism.specs.Act.{on_task, on_frames, act_by, act_at, act}
 use Rattle.mechanism.specs.Step.{inner_result, on_registers, inner, on_record, acts, outer, step_by_parts}
 use Rattle.mechanism.specs.declared.Registers.{Registers}
 use Rattle.mechanism.proofs.Settled.{on_bool}
-use Rattle.mechanism.proofs.Operands.{up_to, reaches, reaches_next, reaches_sti, reaches_calldata}
+use Rattle.mechanism.proofs.Operands.{reaches, reaches_next, reaches_sti, reaches_calldata}
 use Rattle.mechanism.proofs.Parts as parts
 use Rattle.mechanism.proofs.TaskParts as task-parts
 

@@ -1,6 +1,6 @@
 -- The run of the current code, up to an instruction that needs a task, a frame or the pool.
-use Rattle.std.specs.Prelude.{ℕ, ◌-◌, Bool, true, false, cond, List, eqb, get_or}
-use Rattle.bytecode.specs.Opcodes.{T_CREATE, T_GET_FIELD, T_SET_FIELD, S_SAVE}
+use Rattle.std.specs.Prelude.{ℕ, ◌-◌, true, false, cond, List, eqb, get_or}
+use Rattle.bytecode.specs.Opcodes.{T_CREATE, T_GET_FIELD, T_SET_FIELD}
 use Rattle.inlinevec.specs.Stacks.{pop}
 use Rattle.inlinevec.specs.declared.PopResult.{PopResult}
 use Rattle.inlinevec.specs.declared.PopResult.TheVariants.{Popped, NotPopped}

@@ -1,9 +1,8 @@
 -- What an instruction changes in the slot that it names.
 use Rattle.std.specs.Prelude.{ℕ, true, false, cond, List, set}
 use Rattle.errors.specs.declared.Refusal.{Refusal}
-use Rattle.mechanism.specs.declared.Registers.{Registers}
 use Rattle.mechanism.specs.declared.RegistersResult.{RegistersResult}
-use Rattle.mechanism.specs.declared.RegistersResult.TheVariants.{Next, Refused}
+use Rattle.mechanism.specs.declared.RegistersResult.TheVariants.{Refused}
 use Rattle.storage.specs.declared.Task.{Task}
 use Rattle.storage.specs.Table.{set_state_at}
 use Rattle.mechanism.specs.declared.Change.{Change}

@@ -1,7 +1,6 @@
 -- Opcodes that choose where the run goes on, each a chain of tests in the order of docs/REFERENCE.md, 'Instruction set'.
-use Rattle.std.specs.Prelude.{ℕ, ◌+◌, Bool, false, cond, List, eqb, ltb}
+use Rattle.std.specs.Prelude.{ℕ, ◌+◌, false, cond, List, eqb, ltb}
 use Rattle.inlinevec.specs.Stacks.{pop, push_loop, pop_loop, last_loop}
-use Rattle.inlinevec.specs.declared.Loop.{Loop}
 use Rattle.inlinevec.specs.declared.Loops.{Loops}
 use Rattle.inlinevec.specs.declared.LoopsResult.{LoopsResult}
 use Rattle.inlinevec.specs.declared.LoopsResult.TheVariants.{NewLoops, NoNewLoops}

@@ -1,5 +1,5 @@
 -- An instruction that the code's end cuts: 2, after the pops and tests that stand before it in docs/REFERENCE.md, 'Instruction set'.
-use Rattle.std.specs.Prelude.{ℕ, ◌+◌, Bool, false, cond, List, eqb, ltb}
+use Rattle.std.specs.Prelude.{ℕ, ◌+◌, false, cond, List, eqb, ltb}
 use Rattle.errors.specs.declared.Refusal.TheVariants.{UnexpectedEOB, MSliceParamOverflow}
 use Rattle.bytecode.specs.Opcodes.{MULI, M_ST, JUMP_IF_FALSE}
 use Rattle.inlinevec.specs.Stacks.{pop}

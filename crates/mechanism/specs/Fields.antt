@@ -18,7 +18,7 @@ use Rattle.storage.specs.declared.FindResult.TheVariants.{Found, NotFound}
 use Rattle.storage.specs.declared.StateResult.{StateResult}
 use Rattle.storage.specs.declared.StateResult.TheVariants.{Set, NotSet}
 use Rattle.storage.specs.Storage.{find}
-use Rattle.storage.specs.Tasks.{new_task, with_state}
+use Rattle.storage.specs.Tasks.{with_state}
 use Rattle.mechanism.specs.Registers.{OnStack, OnMemory, on_memory, in_use, moved}
 use Rattle.mechanism.specs.Stack.{push_value}
 use Rattle.mechanism.specs.Store.{store}

@@ -1,5 +1,5 @@
 -- PUSH_CALLDATA, CALL and END_CALL, each a chain of tests in the order of docs/REFERENCE.md, 'Instruction set'.
-use Rattle.std.specs.Prelude.{ℕ, ◌+◌, Bool, true, false, cond, List, leb, set}
+use Rattle.std.specs.Prelude.{ℕ, ◌+◌, cond, List, leb, set}
 use Rattle.errors.specs.declared.Refusal.TheVariants.{StackOverflow}
 use Rattle.bytecode.specs.Operands.{operand}
 use Rattle.bytecode.specs.declared.OperandResult.{OperandResult}
@@ -19,10 +19,9 @@ use Rattle.pools.specs.declared.InternResult.{InternResult}
 use Rattle.pools.specs.declared.InternResult.TheVariants.{Interned, NotInterned}
 use Rattle.values.specs.Values.{to_calldata_val}
 use Rattle.storage.specs.declared.Task.{Task}
-use Rattle.mechanism.specs.Registers.{moved}
 use Rattle.machine.specs.declared.Machine.{Machine}
 use Rattle.machine.specs.Machines.{current, code_of, with_pool, with_frames}
-use Rattle.mechanism.specs.Registers.{registers_of, machine_at}
+use Rattle.mechanism.specs.Registers.{machine_at}
 use Rattle.mechanism.specs.declared.MachineResult.{MachineResult}
 use Rattle.mechanism.specs.declared.MachineResult.TheVariants.{Onto, Refused}
 

@@ -1,5 +1,5 @@
 -- Opcodes with operands: each reads its operand, which stands behind the opcode.
-use Rattle.std.specs.Prelude.{ℕ, ◌+◌, ◌%◌, Bool, cond, List, [], eqb, take, drop}
+use Rattle.std.specs.Prelude.{ℕ, ◌+◌, ◌%◌, cond, List, [], eqb, take, drop}
 use Rattle.errors.specs.declared.Refusal.{Refusal}
 use Rattle.bytecode.specs.Operands.{operand}
 use Rattle.bytecode.specs.declared.OperandResult.{OperandResult}

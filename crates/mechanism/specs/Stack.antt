@@ -1,6 +1,6 @@
 -- Opcodes over the stack alone, each a chain of tests in the order of docs/REFERENCE.md, 'Instruction set'; `next` is the place behind the instruction.
 use Rattle.std.specs.Prelude.{ℕ, ◌+◌, Bool, List, set}
-use Rattle.inlinevec.specs.Stacks.{Stacked, push, pop, last}
+use Rattle.inlinevec.specs.Stacks.{push, pop, last}
 use Rattle.inlinevec.specs.declared.HeightResult.{HeightResult}
 use Rattle.inlinevec.specs.declared.HeightResult.TheVariants.{NewHeight, NoNewHeight}
 use Rattle.inlinevec.specs.declared.PopResult.{PopResult}

@@ -1,22 +1,15 @@
 -- One instruction, as the code goes about it: one on the registers alone, one on the record of the slot that it names, or a save.
 use Rattle.std.specs.Prelude.{ℕ, Bool, cond, List, eqb, get_or}
-use Rattle.errors.specs.declared.Refusal.{Refusal}
 use Rattle.bytecode.specs.Opcodes.{S_SAVE}
-use Rattle.storage.specs.declared.Task.{Task}
 use Rattle.storage.specs.Tasks.{blank}
 use Rattle.mechanism.specs.Changes.{applied}
-use Rattle.mechanism.specs.declared.Change.{Change}
-use Rattle.image.specs.Table.{SavedTable, save_table}
-use Rattle.mechanism.specs.declared.Registers.{Registers}
 use Rattle.mechanism.specs.declared.RegistersResult.{RegistersResult}
 use Rattle.mechanism.specs.declared.RegistersResult.TheVariants as registers-result
 use Rattle.mechanism.specs.Registers.{OnMemory}
 use Rattle.mechanism.specs.Execute.{instruct}
 use Rattle.mechanism.specs.Steps.{is_outer}
-use Rattle.machine.specs.declared.Machine.{Machine}
 use Rattle.mechanism.specs.Registers.{registers_of, settled}
 use Rattle.mechanism.specs.Act.{OnAll, act}
-use Rattle.machine.specs.Machines.{op_at}
 use Rattle.mechanism.specs.Advance.{wanted}
 use Rattle.mechanism.specs.Turns.{save_result}
 use Rattle.mechanism.specs.declared.MachineResult.{MachineResult}

@@ -1,7 +1,6 @@
 -- Instructions one after the other, up to the code's end, the fuel's end, a refusal, or one that needs a task, a frame or the pool.
-use Rattle.std.specs.Prelude.{ℕ, zero, suc, Bool, true, false, cond, ◌||◌, List, eqb, ltb, length, get_or}
+use Rattle.std.specs.Prelude.{ℕ, zero, suc, Bool, cond, ◌||◌, List, eqb, ltb, length, get_or}
 use Rattle.bytecode.specs.Opcodes.{PUSH_CALLDATA, T_CREATE, T_GET_FIELD, T_SET_FIELD, T_DELETE, S_SAVE, CALL, END_CALL}
-use Rattle.mechanism.specs.Registers.{OnMemory}
 use Rattle.mechanism.specs.declared.Registers.{Registers}
 use Rattle.mechanism.specs.declared.RegistersResult.{RegistersResult}
 use Rattle.mechanism.specs.declared.RegistersResult.TheVariants.{Next, Refused}

@@ -1,5 +1,5 @@
 -- Opcodes that write memory, each a chain of tests in the order of docs/REFERENCE.md, 'Instruction set'.
-use Rattle.std.specs.Prelude.{ℕ, ◌+◌, Bool, cond, List, ◌++◌, ltb, leb, set, take, drop}
+use Rattle.std.specs.Prelude.{ℕ, ◌+◌, cond, List, ◌++◌, ltb, leb, set, take, drop}
 use Rattle.errors.specs.declared.Refusal.{Refusal}
 use Rattle.errors.specs.declared.Refusal.TheVariants.{StackOverflow, MSliceParamOverflow}
 use Rattle.inlinevec.specs.Stacks.{pop, last}

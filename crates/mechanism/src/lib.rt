@@ -1,5 +1,6 @@
 // How the code takes an instruction apart: by what it changes of the registers, of a task's slot, of the frames and the pool. That this is the machine's step is shown in proofs/.
 #![tactic(auto)]
+
 pub mod changes;
 pub mod machines;
 pub mod stack;

@@ -1,5 +1,4 @@
 -- `machine::new_machines::machine_of` meets its contract.
-use borrow.Author.Rules.{rules}
 use Rattle.machine.specs.Creation.{machine_of}
 use Rattle.machine.proofs.new_machines.machine_of.Goals as goal
 
