@@ -13,7 +13,7 @@ use Rattle.bytecode.specs.declared.Extent.{Extent}
 use Rattle.bytecode.specs.declared.Extent.TheVariants as extents
 use Rattle.errors.specs.declared.Refusal.TheVariants as refusal
 use Rattle.slices.specs.Numbers.{Bytes}
-use Rattle.inlinevec.specs.Stacks.{if_room, if_some, pop, values_of, Two, two_of, push_two, pop_two, last_two, of_loops, to_loops, loops_of, push_loop, pop_loop, last_loop}
+use Rattle.inlinevec.specs.Stacks.{if_room, if_some, values_of, Two, two_of, push_two, pop_two, last_two, of_loops, to_loops, loops_of, push_loop, pop_loop, last_loop}
 use Rattle.inlinevec.specs.declared.Loop.{Loop}
 use Rattle.inlinevec.specs.declared.Loops.{Loops}
 use Rattle.inlinevec.specs.declared.LoopsResult.{LoopsResult}

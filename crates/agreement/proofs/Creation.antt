@@ -3,7 +3,7 @@ use Prim.Native.Nat.{ℕ, zero, suc, ◌+◌, ◌-◌, ◌≤◌, ◌<◌, min, 
 use mathlib.Core.Bool.{Bool, true, false, cond}
 use mathlib.Core.Path.{◌≡◌, refl, sym, ap, subst, ◌∙◌}
 use mathlib.Core.List.{List, [], ◌∷◌, ◌++◌, map}
-use mathlib.Core.Option.{Option, none, some}
+use mathlib.Core.Option.{Option}
 use native.Mathlib.Omega.{arith}
 use native.Mathlib.Numerals.{add-one}
 use lib.ListN.{length, get_or, take, set, replicate, length-set, length-replicate}
@@ -54,7 +54,7 @@ use Rattle.rust.specs.InlineVec as inlinevec
 use Rattle.rust.specs.Instructions as instructions
 use Rattle.rust.specs.TaskTypes.{TaskVM}
 use Rattle.rust.specs.Storage as storage
-use Rattle.rust.specs.Vm.{VM, at}
+use Rattle.rust.specs.Vm.{VM}
 use Rattle.rust.specs.Run.{init}
 use Rattle.agreement.specs.View.{callers, held, task_in_slot, storage_of, view}
 use Rattle.agreement.specs.Runs.{at_rest}

@@ -3,7 +3,6 @@ use Prim.Native.Nat.{ℕ, zero, suc, ◌+◌, ◌-◌, ◌≤◌, ◌<◌, min}
 use mathlib.Core.Bool.{Bool, true, false, cond, ◌&&◌}
 use mathlib.Core.Path.{◌≡◌, refl, ap, ◌∙◌}
 use mathlib.Core.List.{List, [], ◌∷◌, ◌++◌}
-use mathlib.Core.Option.{none}
 use native.Mathlib.Omega.{arith}
 use lib.Dec.{eqb, ltb, leb}
 use lib.ListN.{length, get_or, take, drop, set, length-append}
@@ -15,7 +14,7 @@ use Rattle.errors.specs.declared.Refusal.TheVariants as refusal
 use Rattle.slices.specs.Numbers as numbers
 use Rattle.slices.specs.Numbers.{Bytes}
 use Rattle.image.proofs.Endian.{bytes_drop}
-use Rattle.inlinevec.specs.Stacks.{if_room, if_some, pop, values_of, last_two, push_two, pop_two, change_two, of_frames, to_frames, push_frame, pop_frame}
+use Rattle.inlinevec.specs.Stacks.{if_room, if_some, values_of, last_two, push_two, pop_two, change_two, of_frames, to_frames, push_frame, pop_frame}
 use Rattle.inlinevec.specs.declared.Frames.{Frames}
 use Rattle.inlinevec.specs.declared.PopResult.{PopResult}
 use Rattle.inlinevec.proofs.Lists.{pushed_values, length_values}

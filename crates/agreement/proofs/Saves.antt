@@ -1,5 +1,5 @@
 -- S_SAVE beside the Rust's arm.
-use Prim.Native.Nat.{ℕ, zero, suc, ◌+◌, ◌%◌, ◌^◌, ◌≤◌, ◌<◌}
+use Prim.Native.Nat.{ℕ, zero, suc, ◌+◌, ◌≤◌, ◌<◌}
 use mathlib.Core.Bool.{Bool, true, false, cond}
 use mathlib.Core.Path.{◌≡◌, refl, ap, ◌∙◌}
 use mathlib.Core.List.{List, [], ◌∷◌, ◌++◌, map}
@@ -23,8 +23,8 @@ use Rattle.image.specs.declared.SizeResult.{SizeResult}
 use Rattle.image.specs.declared.SizeResult.TheVariants.{Size}
 use Rattle.table_image.proofs.Saves.{header_length, save_table_is}
 use Rattle.inlinevec.specs.Stacks.{values_of}
-use Rattle.pools.specs.Pool.{end_of, entries_of}
-use Rattle.pools.proofs.Laws.{getD_entries, found, found_within, not_found}
+use Rattle.pools.specs.Pool.{entries_of}
+use Rattle.pools.proofs.Laws.{getD_entries, found, not_found}
 use Rattle.storage.specs.declared.Task.{Task}
 use Rattle.storage.specs.Tasks.{blank}
 use Rattle.machine.specs.declared.Machine.{Machine}
@@ -47,7 +47,7 @@ use Rattle.agreement.proofs.Facts.{Facts}
 use Rattle.agreement.proofs.Laws.{goes_by, same}
 use Rattle.agreement.proofs.Views.{current_is, callers_are}
 use Rattle.agreement.proofs.Slots.{a_task, no_task, get_is, count_length}
-use Rattle.agreement.proofs.Frames.{entries_length, code_length}
+use Rattle.agreement.proofs.Frames.{entries_length}
 
 module _ (w : World) (stale : ℕ) (h : Facts w) (bytes : Bytes w.pool) where
   abbrev m : Machine

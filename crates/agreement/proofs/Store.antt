@@ -15,7 +15,7 @@ use Rattle.bytecode.specs.declared.Extent.TheVariants as extents
 use Rattle.slices.specs.Numbers as numbers
 use Rattle.slices.specs.Numbers.{Bytes}
 use Rattle.image.proofs.Endian.{bytes_drop, byte_at}
-use Rattle.inlinevec.specs.Stacks.{pop, values_of}
+use Rattle.inlinevec.specs.Stacks.{values_of}
 use Rattle.inlinevec.specs.declared.PopResult.{PopResult}
 use Rattle.inlinevec.specs.declared.LastResult.{LastResult}
 use Rattle.inlinevec.proofs.Lists.{pushed_values, length_values}

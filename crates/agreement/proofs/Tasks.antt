@@ -12,7 +12,7 @@ use borrow.Author.Tests.{ltb-true, ltb-false, leb-true, leb-false, lt-ltb, le-lt
 use Rattle.bytecode.specs.Opcodes.{T_CREATE, T_GET_FIELD, T_SET_FIELD, T_DELETE}
 use Rattle.errors.specs.declared.Refusal.TheVariants as refusal
 use Rattle.slices.specs.Numbers.{Bytes}
-use Rattle.inlinevec.specs.Stacks.{if_some, pop, values_of}
+use Rattle.inlinevec.specs.Stacks.{pop, values_of}
 use Rattle.inlinevec.specs.declared.PopResult.{PopResult}
 use Rattle.inlinevec.specs.declared.PopResult.TheVariants.{Popped, NotPopped}
 use Rattle.values.specs.Values.{to_u32, fat_pointer}
@@ -40,7 +40,7 @@ use Rattle.mechanism.specs.Changes.{applied, tasked}
 use Rattle.mechanism.specs.Changes as changes
 use Rattle.machine.specs.Titles.{within, title_length, title_bytes}
 use Rattle.mechanism.specs.Create.{with_room, if_within, new, if_vector, with_title, titled, with_state, with_two, op_t_create, delete_found, delete_popped, op_t_delete}
-use Rattle.mechanism.specs.Fields.{if_found, owner_popped, owner, field_popped, field_of, pushed, get_field, get_found, op_t_get_field, title_within, set_title, title_vector, state_answered, set_state, set_instructions, set_field, set_popped, set_found, op_t_set_field}
+use Rattle.mechanism.specs.Fields.{if_found, owner_popped, owner, field_popped, field_of, get_field, get_found, op_t_get_field, title_within, set_title, title_vector, state_answered, set_state, set_instructions, set_field, set_popped, set_found, op_t_set_field}
 use Rattle.machine.specs.Titles.{retitled, retargeted}
 use Rattle.mechanism.specs.declared.RegistersAndChange.{RegistersAndChange}
 use Rattle.mechanism.specs.declared.FieldResult.{FieldResult}
@@ -53,7 +53,7 @@ use Rattle.mechanism.specs.Advance.{named_by, named, wanted}
 use Rattle.machine.specs.World.{World, world}
 use Rattle.machine.specs.Words.{StepResult, next}
 use Rattle.mechanism.specs.Step.{inner_result, acts_result}
-use Rattle.rust.specs.Errors.{StackUnderflow, InvalidType, TaskNotFound, InvalidTaskField, InvalidStatus, MaxStatesError, Out, ok, err}
+use Rattle.rust.specs.Errors.{InvalidType, TaskNotFound, InvalidTaskField, InvalidStatus, MaxStatesError, Out, ok, err}
 use Rattle.rust.specs.InlineVec as inlinevec
 use Rattle.rust.specs.TaskTypes.{TaskVM, TaskField, Title, State, Instructions, default, try_from}
 use Rattle.rust.specs.TaskTypes as types

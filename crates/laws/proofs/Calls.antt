@@ -11,7 +11,7 @@ use Rattle.mechanism.specs.Registers.{registers_of, settled}
 use Rattle.machine.specs.Machines.{rewound, placed}
 use Rattle.machine.specs.declared.Outcome.{Outcome}
 use Rattle.machine.specs.declared.Outcome.TheVariants.{Done, Paused, Refused}
-use Rattle.machine.specs.World.{World, world}
+use Rattle.machine.specs.World.{World}
 use Rattle.machine.specs.Run.{End, end_at, run}
 use Rattle.machine.specs.Calls.{may_continue, allowed, phased, ended, report, Reported, reported_end, is_sound, call_with, call, start, rerun, go_on}
 use Rattle.machine.specs.World.{with_machine}

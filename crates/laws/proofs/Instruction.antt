@@ -17,7 +17,6 @@ use Rattle.inlinevec.specs.declared.PopResult.TheVariants.{Popped, NotPopped}
 use Rattle.values.specs.Values.{to_u32, to_bool_val}
 use Rattle.mechanism.specs.Registers.{OnStack}
 use Rattle.mechanism.specs.declared.Registers.{Registers}
-use Rattle.mechanism.specs.declared.RegistersResult.TheVariants.{Next}
 use Rattle.mechanism.specs.Operated.{with_operand, push_u32, push_u8, muli, jump_if_false, m_st, m_sti_of, m_sti}
 use Rattle.mechanism.specs.Cut.{cut_value, cut_muli, cut_size, cut_m_st, cut_skip, cut_jump, cut}
 use Rattle.mechanism.specs.Execute.{plain, operated, is_equality, execute, by_extent, instruct}

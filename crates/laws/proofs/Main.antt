@@ -1,30 +1,26 @@
 -- Main is the program: no instruction and no call of a host changes the entry of the first frame, which creation makes 0.
 use Prim.Native.Nat.{ℕ, zero, suc}
-use mathlib.Core.Bool.{Bool, true, false, cond}
+use mathlib.Core.Bool.{Bool, true, false}
 use mathlib.Core.List.{List, [], ◌∷◌}
 use mathlib.Core.Path.{◌≡◌, refl, sym, ap, subst, ◌∙◌}
 use native.Mathlib.Omega.{arith}
 use lib.Dec.{eqb, ltb, leb}
-use lib.ListN.{length, get_or}
-use borrow.Author.Tests.{ne_eqb}
+use lib.ListN.{length}
 use Rattle.errors.specs.declared.Refusal.{Refusal}
 use Rattle.bytecode.specs.Opcodes.{S_SAVE, PUSH_CALLDATA, T_CREATE, T_GET_FIELD, T_SET_FIELD, T_DELETE, CALL, END_CALL}
-use Rattle.bytecode.specs.Operands.{extent}
 use Rattle.bytecode.specs.declared.Extent.{Extent}
 use Rattle.bytecode.specs.declared.Extent.TheVariants.{Next, Cut}
-use Rattle.inlinevec.specs.Stacks.{of_frames, to_frames, if_room, if_some, push_two, pop_two, last_two, change_two, push_frame, pop_frame, pop}
+use Rattle.inlinevec.specs.Stacks.{if_room, if_some, push_two, pop_two, last_two, change_two, push_frame, pop_frame}
 use Rattle.inlinevec.specs.declared.Frame.{Frame}
-use Rattle.inlinevec.specs.declared.Frames.{Frames}
 use Rattle.inlinevec.specs.declared.PopResult.{PopResult}
 use Rattle.inlinevec.specs.declared.PopResult.TheVariants.{Popped, NotPopped}
-use Rattle.pools.specs.Pool.{Pooled, bounds}
+use Rattle.pools.specs.Pool.{Pooled}
 use Rattle.pools.specs.declared.InstructionsRef.{InstructionsRef}
 use Rattle.pools.specs.declared.BoundsResult.{BoundsResult}
 use Rattle.pools.specs.declared.BoundsResult.TheVariants.{Bounds, NoBounds}
 use Rattle.pools.specs.declared.InternResult.{InternResult}
 use Rattle.pools.specs.declared.InternResult.TheVariants.{Interned, NotInterned}
 use Rattle.storage.specs.declared.Task.{Task}
-use Rattle.storage.specs.Tasks.{blank}
 use Rattle.image.specs.declared.SaveResult.{SaveResult}
 use Rattle.image.specs.declared.SaveResult.TheVariants.{Saved, NotSaved}
 use Rattle.machine.specs.declared.Machine.{Machine}
@@ -35,19 +31,16 @@ use Rattle.machine.specs.declared.Verb.TheVariants.{Start, Rerun, Continue}
 use Rattle.machine.specs.Machines.{current, with_current, placed, rewound, code_of}
 use Rattle.machine.specs.World.{World, op, at_end, with_machine}
 use Rattle.machine.specs.Words.{StepResult, next, refused}
-use Rattle.machine.specs.Opcodes.{saving}
 use Rattle.machine.specs.Step.{step}
-use Rattle.machine.specs.Run.{End, end_at, follow, run}
-use Rattle.machine.specs.Sound.{sound_frames}
+use Rattle.machine.specs.Run.{End, follow, run}
 use Rattle.machine.specs.Calls.{Permission, allowed, ended, report, Reported, is_sound, call_with, call}
 use Rattle.machine.specs.Reads.{SavedTo, host_saved, host_save, value_read, task_read}
 use Rattle.machine.specs.Creation.{Made}
-use Rattle.machine.specs.History.{FreshWorld, is_created, HostCall, runs, saves as host-saves, reads_value, reads_task, left_by, history, world_after, world_saved}
-use Rattle.mechanism.specs.Registers.{registers_of, settled, machine_at}
+use Rattle.machine.specs.History.{FreshWorld, is_created, HostCall, runs, saves as host-saves, reads_value, reads_task, left_by, history, world_saved}
+use Rattle.mechanism.specs.Registers.{settled, machine_at}
 use Rattle.mechanism.specs.declared.Registers.{Registers}
 use Rattle.mechanism.specs.declared.RegistersResult.{RegistersResult}
 use Rattle.mechanism.specs.declared.RegistersResult.TheVariants as registers-result
-use Rattle.mechanism.specs.declared.RegistersAndChange.{RegistersAndChange}
 use Rattle.mechanism.specs.declared.MachineResult.{MachineResult}
 use Rattle.mechanism.specs.declared.MachineResult.TheVariants as machine-result
 use Rattle.mechanism.specs.Frames.{with_entry, calldata_pushed, push_calldata, framed, enter_bounded, enter, call_popped, op_call, left_frame, op_end_call}

@@ -6,7 +6,6 @@ use mathlib.Core.Path.{◌≡◌, refl, sym, ap, ◌∙◌}
 use lib.Dec.{eqb, leb}
 use lib.ListN.{length, get_or}
 use Rattle.bytecode.specs.Opcodes.{PUSH_CALLDATA, T_CREATE, T_GET_FIELD, T_SET_FIELD, T_DELETE, S_SAVE, CALL, END_CALL}
-use Rattle.bytecode.specs.Operands.{extent}
 use Rattle.bytecode.specs.declared.Extent.{Extent}
 use Rattle.bytecode.specs.declared.Extent.TheVariants.{Next, Cut}
 use Rattle.bytecode.specs.declared.OperandResult.{OperandResult}
@@ -48,7 +47,7 @@ use Rattle.mechanism.specs.Turns.{save_result}
 use Rattle.mechanism.specs.declared.MachineResult.{MachineResult}
 use Rattle.mechanism.specs.declared.MachineResult.TheVariants.{Onto, Refused}
 use Rattle.mechanism.specs.declared.MachineAndChange.{MachineAndChange}
-use Rattle.machine.specs.World.{World, world, op, at_end}
+use Rattle.machine.specs.World.{World, op, at_end}
 use Rattle.machine.specs.Words as steps
 use Rattle.mechanism.proofs.Whole.{step_is}
 use Rattle.machine.specs.Words.{StepResult}

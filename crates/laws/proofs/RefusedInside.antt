@@ -54,7 +54,7 @@ use Rattle.image.specs.Image.{written}
 use Rattle.image.specs.Slots.{title_in}
 use Rattle.image.specs.Table.{living_tasks, refusal_by, task_refusal, or_else, first_refusal, image_of_tasks, SavedTable, saved_over, saved_unless, save_tasks, save_table}
 use Rattle.machine.specs.World.{World, code, place, height, memory_in_use, op, at_end}
-use Rattle.machine.specs.Words.{StepResult, next, refused, test, operand_found, operand, popped, pop, looked_at, last, push, calculated, pointed, pointer, bytes_of, allocated, store, element_changed, loop_pushed, push_loop, loop_popped, pop_loop, loop_looked_at, last_loop, frame_pushed, push_frame, frame_popped, pop_frame, bounds_found, bounds, interned, intern, task_of, found, find, first_state, has_state, with_room, room, saved}
+use Rattle.machine.specs.Words.{StepResult, next, refused, test, operand_found, operand, popped, pop, looked_at, last, push, calculated, pointed, pointer, bytes_of, allocated, store, element_changed, loop_pushed, push_loop, loop_popped, pop_loop, loop_looked_at, last_loop, frame_pushed, push_frame, frame_popped, pop_frame, bounds_found, bounds, interned, intern, task_of, found, first_state, has_state, with_room, room, saved}
 use Rattle.machine.specs.Opcodes.{push_u32, push_calldata, push_byte, id_of, t_create, get_field, t_get_field, set_field, t_set_field, t_delete, saving, s_save, s_len, «do», loop, loop_index, enter, call_task, end_call, drops, dup, swap, equal, eq, neq, compare, jump_if_false, m_sti, m_st, m_muta, muli, mul}
 use Rattle.machine.specs.Step.{execute, step}
 use Rattle.laws.specs.Sound.{Passes}

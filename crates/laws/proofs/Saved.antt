@@ -20,10 +20,8 @@ use Rattle.roundtrips.proofs.Stores.{Pool}
 use Rattle.roundtrips.proofs.Loads.{Room, load_holds, reload, reload_none}
 use Rattle.roundtrips.proofs.Created.{load_none}
 use Rattle.inlinevec.specs.Stacks.{last_two}
-use Rattle.machine.specs.declared.Machine.{Machine}
 use Rattle.machine.specs.declared.Verb.TheVariants.{Start}
 use Rattle.machine.specs.declared.Outcome.TheVariants.{Done, Paused, Refused}
-use Rattle.machine.specs.declared.CreateResult.TheVariants.{Created}
 use Rattle.machine.specs.Machines.{current, code_of, op_at, placed, rewound, at_main, with_saved}
 use Rattle.machine.specs.World.{World, code, place, op, at_end, with_machine, with_save}
 use Rattle.machine.specs.Step.{execute, step}

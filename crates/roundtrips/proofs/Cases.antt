@@ -1,6 +1,5 @@
 -- Image I1 (docs/REFERENCE.md, 'The task image'), and small images that are refused, by computing.
-use Prim.Native.Nat.{ℕ}
-use mathlib.Core.List.{List, [], ◌∷◌, ◌++◌}
+use mathlib.Core.List.{[], ◌∷◌, ◌++◌}
 use mathlib.Core.Path.{◌≡◌, refl}
 use Rattle.image.specs.Image.{record_of, header, body, records, written, sound, bad_at, task_at, headed, good, task_before, read_from, with_count, read_image}
 use Rattle.slices.specs.Numbers.{little_endian, number_at}

@@ -3,7 +3,7 @@ use Prim.Native.Nat.{ℕ}
 use mathlib.Core.List.{List, [], ◌∷◌, ◌++◌}
 use mathlib.Core.Path.{◌≡◌, refl}
 use lib.ListN.{replicate, get_or}
-use Rattle.errors.specs.declared.Refusal.TheVariants.{BadImage, InvalidInstructionsIndex, BytesToStringConversionError, PoolFull, ProgramTooLong, InvalidType}
+use Rattle.errors.specs.declared.Refusal.TheVariants.{BadImage, InvalidInstructionsIndex, BytesToStringConversionError, PoolFull, ProgramTooLong}
 use Rattle.utf8.specs.Grammar.{UTF8_char}
 use Rattle.utf8.specs.Utf8.{holds, lead, from, valid}
 use Rattle.pools.specs.Pool.{end_of, start_of, bounds, entry_of, has_room, interned}
@@ -22,7 +22,7 @@ use Rattle.image.specs.declared.SaveResult.TheVariants.{Saved}
 use Rattle.image.specs.declared.SizeResult.TheVariants.{NoSize, Size}
 use Rattle.table_image.specs.Creation.{creation_tests, image_tests}
 use Rattle.table_image.specs.Tables.{loading, in_use}
-use Rattle.table_image.specs.declared.creation.CreationResult.TheVariants.{Unfit, Fit}
+use Rattle.table_image.specs.declared.creation.CreationResult.TheVariants.{Unfit}
 
 -- task 0 "Ab" in state 1 of 3, its instructions being the entry
 abbrev task : ℕ → Task

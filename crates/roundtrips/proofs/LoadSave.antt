@@ -1,20 +1,17 @@
 -- An image that is read and written again: saving after loading gives the same bytes.
 use Prim.Native.Nat.{ℕ, zero, suc, ◌+◌, ◌-◌, ◌<◌, ◌≤◌}
-use mathlib.Core.Bool.{Bool, true, false, cond}
 use mathlib.Core.List.{List, [], ◌∷◌, ◌++◌, append_assoc, append-nil}
 use mathlib.Core.Path.{◌≡◌, refl, ap, sym, ◌∙◌, subst}
 use native.Mathlib.Omega.{arith}
-use lib.Dec.{eqb}
-use lib.ListN.{length, get_or, take, drop, length-take, length-drop, take-append-drop}
+use lib.ListN.{length, get_or, take, drop, length-drop, take-append-drop}
 use lib.Seq.{drop-cons, drop-drop}
-use borrow.Author.Tests.{ne_eqb, eqb-true, eqb-false}
 use Rattle.image.proofs.Endian.{number_again, number_drop, number_fits, bytes_drop}
 use Rattle.image.proofs.Puts.{body_size, framed_open, body_open}
 use Rattle.image.proofs.Rules.{Rules, Head}
 use Rattle.image.proofs.Walks.{title_length_is, instructions_length}
 use Rattle.image.proofs.Readings.{not_bad, read_none, Goes, at_end, goes_on, goes, loaded}
 use Rattle.roundtrips.proofs.SaveLoad.{front_of}
-use Rattle.image.specs.Image.{ImageTask, Image, header, body, records, written, Fine, Rising, none, more, SoundImage, Parsed, sound, bad_at, body_length, kind, next_id_in, task_count, id_in, title_length_in, task_at, headed, good, task_before, read_from, with_count, read_image}
+use Rattle.image.specs.Image.{ImageTask, Image, header, body, records, written, Fine, Rising, none, more, SoundImage, sound, body_length, kind, next_id_in, task_count, id_in, title_length_in, task_at, read_from, read_image}
 use Rattle.slices.specs.Numbers.{little_endian, number_at, Bytes}
 
 -- ---- one record, read and written again

@@ -1,17 +1,15 @@
 -- Tasks that are written and read back: sound tasks that are saved load again.
 use Prim.Native.Nat.{ℕ, zero, suc, ◌+◌, ◌-◌, ◌<◌, ◌≤◌}
-use mathlib.Core.Bool.{cond}
-use mathlib.Core.List.{List, [], ◌++◌, append_assoc}
+use mathlib.Core.List.{List, ◌++◌, append_assoc}
 use mathlib.Core.Path.{◌≡◌, refl}
 use native.Mathlib.Omega.{arith}
-use lib.Dec.{eqb}
 use lib.ListN.{length, get_or, take, drop, length-append}
 use lib.Seq.{drop-drop, take-append_seam, drop-append_seam}
 use borrow.Author.Tests.{ne_eqb, eq-eqb}
 use Rattle.image.proofs.Endian.{number_back}
 use Rattle.image.proofs.Puts.{body_size, framed_open}
 use Rattle.image.proofs.Rules.{Rules, rules_good, Head, head_headed}
-use Rattle.image.specs.Image.{ImageTask, Image, record_of, header, body, records, written, Fine, Rising, none, more, SoundImage, sound, bad_at, body_length, kind, next_id_in, task_count, id_in, title_length_in, task_at, good, task_before, read_from, with_count, read_image}
+use Rattle.image.specs.Image.{ImageTask, Image, record_of, header, body, records, written, Fine, Rising, none, more, SoundImage, sound, body_length, kind, next_id_in, task_count, id_in, title_length_in, task_at, task_before, read_from, with_count, read_image}
 use Rattle.slices.specs.Numbers.{little_endian, number_at}
 
 -- ---- one record, written and read back

@@ -6,7 +6,7 @@ use native.Mathlib.Omega.{arith}
 use lib.ListN.{length, set, length-set}
 use borrow.Author.Tests.{lt-leb}
 use Rattle.values.specs.Values.{to_calldata_val}
-use Rattle.pools.specs.Pool.{Pooled, pooled, has_room, new_entry, interned}
+use Rattle.pools.specs.Pool.{Pooled, has_room, new_entry, interned}
 use Rattle.pools.specs.declared.InternResult.{InternResult}
 use Rattle.pools.proofs.Interns.{when_full}
 use Rattle.inlinevec.specs.declared.Frame.{Frame}
