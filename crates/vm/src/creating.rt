@@ -13,6 +13,7 @@ use table_image::InUse;
 use table_image::creation::{CreationResult, creation_tests};
 
 // A creation that is refused.
+#[tactic(auto, unfolding(mechanism::specs::Creating::unfit))]
 fn unfit(refusal: Refusal) -> Preparation
     ensures { result ≡ unfit refusal }
 {
@@ -25,6 +26,7 @@ fn unfit(refusal: Refusal) -> Preparation
 }
 
 // The tests, and then the program as the pool's first entry.
+#[tactic(auto, unfolding(mechanism::specs::Creating::prepare, mechanism::specs::Creating::prepare_fit, mechanism::specs::Creating::with_program))]
 fn prepare(
     pool: &mut [u8],
     ends: &mut [u32; 1024],

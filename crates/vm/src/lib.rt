@@ -1,4 +1,6 @@
 // A machine between two runs: created, tested, read, saved.
+#![tactic(auto)]
+
 pub mod creating;
 pub mod saving;
 pub mod sound;

@@ -10,6 +10,7 @@ use machine::{Machine, SaveReport};
 use storage::Task;
 
 // After a save by the host: the length of the image is kept.
+#[tactic(auto, unfolding(machine::specs::Reads::host_saved))]
 fn host_saved(machine: Machine, res: SaveResult) -> SaveReport
     ensures { result ≡ host_saved machine res }
 {

@@ -14,6 +14,7 @@ fn names(frame: Frame, entries: usize) -> bool
 }
 
 // Whether there is a frame, and each names an entry.
+#[tactic(auto, unfolding(machine::specs::Sound::sound_frames))]
 fn sound_frames(frames: Frames, entries: usize) -> bool
     ensures { result ≡ sound_frames frames entries }
 {
@@ -30,6 +31,7 @@ fn sound_frames(frames: Frames, entries: usize) -> bool
 }
 
 // Whether no length is above its capacity or its buffer.
+#[tactic(auto, unfolding(machine::specs::Sound::sound_lengths))]
 fn sound_lengths(memory: usize, pool: usize, save: usize, machine: Machine) -> bool
     ensures { result ≡ sound_lengths memory pool save machine }
 {
@@ -52,6 +54,7 @@ fn sound_lengths(memory: usize, pool: usize, save: usize, machine: Machine) -> b
 }
 
 // Whether a record is sound beside its table.
+#[tactic(auto, unfolding(machine::specs::Sound::sound_record))]
 fn sound_record(
     memory: &mut [u8],
     pool: &mut [u8],

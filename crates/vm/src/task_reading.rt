@@ -12,6 +12,7 @@ use storage::ids::slot_of;
 use storage::{FindResult, Task, TaskId};
 
 // Whether the task of an id's slot can be read: its record, its instructions, its title.
+#[tactic(auto, unfolding(machine::specs::Reads::task_result, machine::specs::Reads::if_found))]
 fn task_result(
     pool: &mut [u8],
     ends: &mut [u32; 1024],

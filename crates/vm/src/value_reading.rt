@@ -10,6 +10,7 @@ use memory::unbox::Return;
 use storage::Task;
 
 // Whether a run is done.
+#[tactic(auto, unfolding(machine::specs::Reads::is_done))]
 fn is_done(phase: Phase) -> bool
     ensures { result ≡ is_done phase }
 {
@@ -22,6 +23,7 @@ fn is_done(phase: Phase) -> bool
 }
 
 // Whether a value can be read at a position.
+#[tactic(auto, unfolding(machine::specs::Reads::readable))]
 fn readable(machine: Machine, sound: bool, position: usize) -> bool
     ensures { result ≡ readable machine sound position }
 {
@@ -46,6 +48,7 @@ fn word_at(stack: &[u64], position: usize) -> u64
 }
 
 // The value at a position, bottom first.
+#[tactic(auto, unfolding(machine::specs::Reads::value_at))]
 fn value_at(
     stack: &mut [u64; 1000],
     memory: &mut [u8],
