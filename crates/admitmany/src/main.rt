@@ -1,7 +1,10 @@
 // Reads programs from standard input, each behind its length, and prints for each whether it is admitted.
+#![tactic(auto)]
+
 ghost use Rattle.std.specs.Prelude.{◌+◌, ◌≤◌, ◌<◌, length};
 
-use libc::{STDIN_FILENO, STDOUT_FILENO};
+use std::io;
+use std::rt::Stdout;
 use text::LineResult;
 
 // Room for the programs.
@@ -28,18 +31,18 @@ fn size_at(input: &[u8], at: usize) -> usize
 }
 
 // The line on a program, printed.
-fn say(program: &[u8]) {
+fn say(out: Stdout, program: &[u8]) {
     let mut line = [0u8; 1024];
     match verdict::verdict_line(&mut line, program) {
         LineResult::NoLine(_) => {}
         LineResult::Line(length) => {
-            io::write_all(STDOUT_FILENO, slices::part(&line, 0, length));
+            streams::write(out, slices::part(&line, 0, length));
         }
     }
 }
 
 // The programs follow each other to the end.
-fn run(input: &[u8])
+fn run(out: Stdout, input: &[u8])
     requires { length input.now ≤ 524288 }
 {
     let mut at = 0;
@@ -49,13 +52,14 @@ fn run(input: &[u8])
         if input.len() < end {
             return;
         }
-        say(&input[start..end]);
+        say(out, &input[start..end]);
         at = end;
     }
 }
 
-fn main() {
+fn main(rt: HostRuntime) -> io::Result<()> {
     let mut input = room();
-    let n = io::read_full(STDIN_FILENO, &mut input);
-    run(&input[..n]);
+    let n = streams::read(rt.stdin(), &mut input)?;
+    run(rt.stdout(), &input[..n]);
+    Ok(())
 }
