@@ -15,7 +15,7 @@ use text::lines::tell_line;
 use text::{Form, LineResult};
 
 // How a call ended: a run, with its finished instructions, or a host save, with its length.
-#[derive(Drop)]
+#[derive(Clone, Copy)]
 pub enum Head {
     Done(u64),
     Paused(u64),

@@ -20,7 +20,7 @@ pub enum Form {
 }
 
 // What putting a line answers: its length.
-#[derive(Drop)]
+#[derive(Clone, Copy)]
 pub enum LineResult {
     Line(usize),
     NoLine(Refusal),
