@@ -1,4 +1,3 @@
-pub mod Values
 pub mod Behind
 pub mod Performing
 pub mod Passes

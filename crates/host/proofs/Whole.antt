@@ -1,10 +1,10 @@
 -- All lines measured, and then put where the buffer holds them, are the listing whole, or not at all.
 use Prim.Native.Nat.{ℕ, ◌+◌, ◌^◌, ◌≤◌, ◌<◌}
 use mathlib.Core.Bool.{Bool, true, false, cond}
-use mathlib.Core.List.{List, [], ◌∷◌, ◌++◌, map, append-nil, append_assoc}
+use mathlib.Core.List.{List, [], ◌∷◌, ◌++◌, map, append_assoc}
 use mathlib.Core.Path.{◌≡◌, refl, sym, ap, ◌∙◌}
 use native.Mathlib.Omega.{arith}
-use lib.Dec.{leb, ltb}
+use lib.Dec.{leb}
 use lib.ListN.{length, length-append}
 use lib.Seq.{sets, length-sets}
 use borrow.Author.Tests.{le-leb, lt-leb, lt-ltb, le-ltb, leb-true, leb-false}
@@ -24,7 +24,7 @@ use Rattle.machine.specs.declared.CreateResult.{CreateResult}
 use Rattle.machine.specs.declared.Report.{Report}
 use Rattle.host.specs.declared.answering.ListingLengths.{ListingLengths}
 use Rattle.host.specs.Lines.{sized, behind, next_text, next, next_task, tell_lines, line_of_read, tell_run, tell_slots, tell_tasks}
-use Rattle.host.specs.Listings.{head_of, values_of, text_of, Listing, listing_of, with_lengths, told_length, list_whole, ListedIn, listed_in, beside, list_run, ToldOver, told_over, over, write_run, length_of, lengths_of}
+use Rattle.host.specs.Listings.{head_of, values_of, Listing, listing_of, told_length, list_whole, ListedIn, listed_in, beside, list_run, ToldOver, told_over, over, write_run, length_of, lengths_of}
 use Rattle.host.proofs.Behind.{most, behind_fits, sized_fits, sized_over}
 
 -- a length of 64 bits

@@ -1,4 +1,5 @@
 // The library for a host: a run with its listing and its new image, the admission of a program, the test of an image.
+#![tactic(auto)]
 pub mod answering;
 pub mod hosting;
 mod lines;
@@ -22,8 +23,7 @@ use image::ImageResult;
 use image::reading::test_image;
 
 // Runs a program on a fresh machine over the tasks of an image; writes the listing and the new image.
-#[unsafe(no_mangle)]
-pub extern "C" fn rafenuma_run(
+pub fn rafenuma_run(
     memory: &mut [u8],
     image: &[u8],
     program: &[u8],
@@ -38,8 +38,8 @@ pub extern "C" fn rafenuma_run(
 }
 
 // Whether a program is admitted, with the kinds at its end.
-#[unsafe(no_mangle)]
-pub extern "C" fn rafenuma_admit(program: &[u8], kinds: &mut [u8; 1000]) -> u64
+#[tactic(auto, unfolding(crate::specs::Numbers::admission_number))]
+pub fn rafenuma_admit(program: &[u8], kinds: &mut [u8; 1000]) -> u64
     ensures { admitted result kinds.new ≡ packed_admission (answered (admission program.now) kinds.old) }
 {
     match admission::admit(program, kinds) {
@@ -49,8 +49,8 @@ pub extern "C" fn rafenuma_admit(program: &[u8], kinds: &mut [u8; 1000]) -> u64
 }
 
 // Whether an image is sound.
-#[unsafe(no_mangle)]
-pub extern "C" fn rafenuma_test_image(image: &[u8]) -> u64
+#[tactic(auto, unfolding(crate::specs::Numbers::packed_image))]
+pub fn rafenuma_test_image(image: &[u8]) -> u64
     ensures { result ≡ packed_image (image_result (read_image image.now)) }
 {
     match test_image(image) {

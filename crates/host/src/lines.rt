@@ -22,6 +22,7 @@ fn line_start(writes: bool, at: usize) -> usize
 }
 
 // The length of the lines so far and of one more, where 64 bits hold it.
+#[tactic(auto, unfolding(crate::specs::Lines::counted))]
 fn counted(at: usize, line: LineResult) -> LineResult
     ensures { result ≡ counted at line }
 {
@@ -118,6 +119,7 @@ fn tell_living(out: &mut [u8], so_far: LineResult, writes: bool, task: Task) -> 
 }
 
 // A task, behind the lines so far; a slot that is not living leaves them.
+#[tactic(auto, unfolding(crate::specs::Lines::next_task))]
 fn tell_task(out: &mut [u8], so_far: LineResult, writes: bool, task: Task) -> LineResult
     ensures { lined result out.new ≡ next_task writes (lined so_far out.old) task }
 {

@@ -84,6 +84,7 @@ fn write_run(
 }
 
 // The length of lines; 0 where there are none.
+#[tactic(auto, unfolding(crate::specs::Listings::length_of))]
 fn length_of(lines: LineResult) -> usize
     ensures { result ≡ length_of lines }
 {

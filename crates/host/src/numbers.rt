@@ -19,6 +19,7 @@ fn no_reason() -> Reason
 }
 
 // Why a save was refused.
+#[tactic(auto, unfolding(crate::specs::AnsweringNumbers::save_reason))]
 fn save_reason(save: SaveResult) -> Reason
     ensures { result ≡ save_reason save }
 {
@@ -29,6 +30,7 @@ fn save_reason(save: SaveResult) -> Reason
 }
 
 // Why a run was refused, or else the save after it.
+#[tactic(auto, unfolding(crate::specs::AnsweringNumbers::reason_of))]
 fn reason_of(head: Head, save: SaveResult) -> Reason
     ensures { result ≡ reason_of head save }
 {
@@ -41,6 +43,7 @@ fn reason_of(head: Head, save: SaveResult) -> Reason
 }
 
 // How a run ended: 0 done, 1 paused, 2 refused.
+#[tactic(auto, unfolding(crate::specs::AnsweringNumbers::outcome_of))]
 fn outcome_of(head: Head) -> u32
     ensures { result ≡ outcome_of head }
 {
@@ -53,6 +56,7 @@ fn outcome_of(head: Head) -> u32
 }
 
 // 24 where the listing was not written, else 0.
+#[tactic(auto, unfolding(crate::specs::AnsweringNumbers::listing_number))]
 fn listing_number(written: usize) -> u32
     ensures { result ≡ listing_number written }
 {
@@ -70,6 +74,7 @@ fn packed(outcome: u32, number: u32, listing: u32) -> u64
 }
 
 // Writes the eight numbers of a run, and answers with its packed one.
+#[tactic(auto, unfolding(crate::specs::AnsweringNumbers::answers))]
 pub(crate) fn tell(answer: &mut [u64; 8], performed: RunSummary) -> u64
     ensures { told result answer.new ≡ answers answer.old performed }
 {

@@ -20,6 +20,7 @@ fn unsavable(machine: Machine) -> Machine
 }
 
 // The machine that is saved: one that no save takes, if the run was refused.
+#[tactic(auto, unfolding(crate::specs::Hosting::machine_to_save))]
 pub(crate) fn to_save(report: Report) -> Machine
     ensures { result ≡ to_save report }
 {
@@ -32,6 +33,7 @@ pub(crate) fn to_save(report: Report) -> Machine
 }
 
 // How a run ended.
+#[tactic(auto, unfolding(crate::specs::Listings::head_of, crate::specs::Listings::run_head))]
 pub(crate) fn head_of(creation: CreateResult, report: Report) -> Head
     ensures { result ≡ head_of creation report }
 {
@@ -47,6 +49,7 @@ pub(crate) fn head_of(creation: CreateResult, report: Report) -> Head
 }
 
 // What came of it all.
+#[tactic(auto, unfolding(crate::specs::Hosting::performed))]
 pub(crate) fn performed(
     creation: CreateResult,
     report: Report,

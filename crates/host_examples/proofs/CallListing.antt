@@ -14,11 +14,7 @@ use Rattle.listing.proofs.LineByLine.{values_length, listing_by_lines}
 use Rattle.listing.proofs.Same.{same_listings}
 use Rattle.printer.specs.declared.CallOutcome.{CallOutcome}
 use Rattle.printer.specs.Listed.{values_listed, call_values, call_line}
-
--- the lines that are printed after a call: each with the count of living tasks and the task in its slot, from 0 up to their number
-abbrev pub printed : CallOutcome → List ℕ → List ℕ → List ℕ → List ℕ → List Task → List ℕ
-printed answered stack memory pool ends table =
-    joined_lines (λ number. call_line answered stack memory pool ends (living_of table) (get_or table (slot_shown (values_listed answered) number) blank) number) (line_count (values_listed answered) (length table))
+use Rattle.host_examples.proofs.Printed.{printed}
 
 module _ (answered : CallOutcome) (stack memory pool ends : List ℕ) (whole : length stack ≡ 1000) where
   -- no more than a stack has

@@ -19,7 +19,7 @@ use Rattle.memory.specs.declared.ReadResult.{ReadResult}
 use Rattle.memory.specs.declared.ReadResult.TheVariants.{Readable, NotReadable}
 use Rattle.memory.specs.Unbox.{where_readable, text_at, unbox_text, numbers_at, unbox_numbers, where_bounded, unbox_calldata, by_type, unbox_value, part_of}
 use Rattle.memory.specs.declared.unbox.Return.{Return}
-use Rattle.memory.specs.declared.unbox.Return.TheVariants.{U32, Boolean, String, CallData, VecU32, Null, NoReturn}
+use Rattle.memory.specs.declared.unbox.Return.TheVariants.{U32, Boolean, String, VecU32, Null, NoReturn}
 use Rattle.listing.specs.Listing.{ValueRead, values_read, line_of_value, lines_of_values}
 use Rattle.listing.proofs.Longest.{number_fits, longest_calldata, longest}
 use Rattle.laws.proofs.Either.{either}
