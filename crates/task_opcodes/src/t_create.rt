@@ -13,6 +13,7 @@ use storage::{DefaultResult, RoomResult, Task, TaskId, TaskState};
 use values::{FatPointer, PointerResult};
 
 // The new task, where its title lies in the memory in use and the table has room for it.
+#[tactic(auto, unfolding(mechanism::specs::Create::new, mechanism::specs::Create::if_within, mechanism::specs::Create::with_room))]
 fn new(
     memory: &[u8],
     after: Registers,
@@ -40,6 +41,7 @@ fn new(
 }
 
 // The title is popped last, and must be a vector.
+#[tactic(auto, unfolding(mechanism::specs::Create::titled, mechanism::specs::Create::if_vector, mechanism::specs::Create::with_title))]
 fn titled(
     stack: &[u64; 1000],
     memory: &[u8],
@@ -69,6 +71,7 @@ fn titled(
 }
 
 // T_CREATE: the reference is on top, the state count below it, then the title; the task of the next id's slot is given.
+#[tactic(auto, unfolding(mechanism::specs::Create::op_t_create, mechanism::specs::Create::with_state, mechanism::specs::Create::with_two))]
 pub fn op_t_create(
     stack: &[u64; 1000],
     memory: &[u8],

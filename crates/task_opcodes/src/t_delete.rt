@@ -9,6 +9,7 @@ use mechanism::{Registers, RegistersAndChange, RegistersResult};
 use storage::{FindResult, Task, TaskId};
 
 // T_DELETE: the id is on top; the task of its slot is given.
+#[tactic(auto, unfolding(mechanism::specs::Create::op_t_delete, mechanism::specs::Create::delete_found, mechanism::specs::Create::delete_popped))]
 pub fn op_t_delete(
     stack: &[u64; 1000],
     registers: Registers,

@@ -16,6 +16,7 @@ use storage::{FindResult, StateResult, Task, TaskId};
 use values::{FatPointer, PointerResult};
 
 // The task's id below the field, and whether the task of its slot is living.
+#[tactic(auto, unfolding(mechanism::specs::Fields::owner, mechanism::specs::Fields::if_found, mechanism::specs::Fields::owner_popped))]
 fn owner(stack: &[u64; 1000], height: usize, task: Task, field: u32) -> FieldResult
     ensures { result ≡ owner stack.now height task field }
 {
@@ -35,6 +36,7 @@ fn owner(stack: &[u64; 1000], height: usize, task: Task, field: u32) -> FieldRes
 }
 
 // The field on top of the stack, and the task below it.
+#[tactic(auto, unfolding(mechanism::specs::Fields::field_of, mechanism::specs::Fields::field_popped))]
 fn field_of(stack: &[u64; 1000], height: usize, task: Task) -> FieldResult
     ensures { result ≡ field_of stack.now height task }
 {
@@ -54,6 +56,7 @@ fn field_of(stack: &[u64; 1000], height: usize, task: Task) -> FieldResult
 }
 
 // A field's value at a height of the stack: a title is a new text.
+#[tactic(auto, unfolding(mechanism::specs::Fields::get_field, machine::specs::Titles::title_bytes))]
 fn get_field(
     stack: &mut [u64; 1000],
     memory: &mut [u8],
@@ -88,6 +91,7 @@ fn get_field(
 }
 
 // T_GET_FIELD: the field is on top, the id below it; the task of its slot is given.
+#[tactic(auto, unfolding(mechanism::specs::Fields::op_t_get_field, mechanism::specs::Fields::get_found))]
 pub fn op_t_get_field(
     stack: &mut [u64; 1000],
     memory: &mut [u8],
@@ -106,6 +110,7 @@ pub fn op_t_get_field(
 }
 
 // A title, where the vector lies in the memory in use and is not too long.
+#[tactic(auto, unfolding(mechanism::specs::Fields::set_title, mechanism::specs::Fields::title_within))]
 fn set_title(memory: &[u8], after: Registers, pointer: FatPointer, task: Task) -> RegistersAndChange
     ensures { result ≡ set_title memory.now after pointer task }
 {
@@ -131,6 +136,7 @@ fn set_title(memory: &[u8], after: Registers, pointer: FatPointer, task: Task) -
 }
 
 // A state, where the task has it.
+#[tactic(auto, unfolding(mechanism::specs::Fields::set_state, mechanism::specs::Fields::state_answered))]
 fn set_state(after: Registers, state: u32, task: Task) -> RegistersAndChange
     ensures { result ≡ set_state after state task }
 {
@@ -146,6 +152,7 @@ fn set_state(after: Registers, state: u32, task: Task) -> RegistersAndChange
 }
 
 // Instructions, which are not tested.
+#[tactic(auto, unfolding(mechanism::specs::Fields::set_instructions))]
 fn set_instructions(
     after: Registers,
     instructions_ref: InstructionsRef,
@@ -162,6 +169,7 @@ fn set_instructions(
 }
 
 // A field's new value.
+#[tactic(auto, unfolding(mechanism::specs::Fields::set_field, mechanism::specs::Fields::title_vector))]
 fn set_field(
     memory: &[u8],
     after: Registers,
@@ -184,6 +192,7 @@ fn set_field(
 }
 
 // T_SET_FIELD: the field is on top, the id below it, then the value; the task of its slot is given.
+#[tactic(auto, unfolding(mechanism::specs::Fields::op_t_set_field, mechanism::specs::Fields::set_found, mechanism::specs::Fields::set_popped))]
 pub fn op_t_set_field(
     stack: &[u64; 1000],
     memory: &[u8],

@@ -8,6 +8,7 @@ use storage::Task;
 use values::FatPointer;
 
 // Whether a vector lies in the memory in use.
+#[tactic(auto, unfolding(machine::specs::Titles::within, memory::specs::Change::inside))]
 pub(crate) fn within(memory: &[u8], pointer: FatPointer) -> ReadResult
     ensures { result ≡ within memory.now pointer }
 {
