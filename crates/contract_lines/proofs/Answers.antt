@@ -4,7 +4,8 @@ use mathlib.Core.List.{List, [], ◌∷◌}
 use seplogic.Ra.Ura.{Ura}
 use base.Logic.{emp}
 use prog.Model.{Model}
-use prog.Routine.{Routine}
+use prog.Routine.{Callee}
+use prog.Wired.{Code, Wired}
 use types.Logic.{Logic}
 use contract.Lifetimes.{Lfts}
 use contract.Monad.{fact, fact_mono, fm→mono}
@@ -13,7 +14,7 @@ use denote.Exit.{Seen}
 use denote.RattleType.{Denots}
 use denote.Signature.{Slot, types_at}
 use denote.Triple.Both.{Both}
-use denote.Triple.Clauses.{Clauses, Ended, atExit, closing}
+use denote.Triple.Clauses.{Clauses, Ended, at_exit, closing}
 use denote.Triple.End.{Kepts, Outs}
 use denote.Triple.Entry.{Res}
 use denote.Triple.Spec.{Meets}
@@ -54,13 +55,13 @@ ensuring 𝓤 T line κs at_entry_lem = record {
 }
 
 -- the function takes every call, and ends with the equation between what it was handed, what it leaves and its result
-abbrev pub Answers : (M : Type 1) (T : Ended) → Routine → Line T → Type 2
-Answers M T routine line =
-    (𝓤 : Ura M) (𝓛 : Logic 𝓤) (𝓜 : Model 𝓤 𝓛.H) (𝓡 : Running 𝓤 𝓛.H 𝓜) → Meets 𝓛 T.signature (𝓡.run routine) (closing 𝓛 T (ensuring 𝓤 T line))
+abbrev pub Answers : (M : Type 1) (T : Ended) → Callee → Code → Line T → Type 2
+Answers M T name code line =
+    (𝓤 : Ura M) (𝓛 : Logic 𝓤) (𝓜 : Model 𝓤 𝓛.H) (𝓡 : Running 𝓤 𝓛.H 𝓜) → Wired 𝓡.env code → Meets 𝓛 T.signature (𝓡.run (𝓡.env name)) (closing 𝓛 T (ensuring 𝓤 T line))
 
 -- and so with what follows from the equation
-pub so : {M : Type 1} (T : Ended) (routine : Routine) (line other : Line T) → Answers M T routine line → ((κs : Lfts T.signature.lifetimes) → Follows κs (Res T.signature κs) T.signature.params T.kept (line κs) (other κs)) → Answers M T routine other
-so T routine line other met follows 𝓤 𝓛 𝓜 𝓡 =
+pub so : {M : Type 1} (T : Ended) (name : Callee) (code : Code) (line other : Line T) → Answers M T name code line → ((κs : Lfts T.signature.lifetimes) → Follows κs (Res T.signature κs) T.signature.params T.kept (line κs) (other κs)) → Answers M T name code other
+so T name code line other met follows 𝓤 𝓛 𝓜 𝓡 wired =
     weaken 𝓛 T (ensuring 𝓤 T line) (λ κs at_entry_lem. (ensuring 𝓤 T other κs at_entry_lem).ensures)
-    (λ κs at_entry_lem _ r ws. fact_mono 𝓤 _ _ (holds_too κs (Res T.signature κs) T.signature.params T.kept (line κs) (other κs) (follows κs) at_entry_lem (atExit T κs at_entry_lem ws) r))
-    (𝓡.run routine) (λ vs. fm→mono 𝓤 (𝓡.run routine vs) (run_framed 𝓤 𝓛.H 𝓜 𝓡 routine vs)) (met 𝓤 𝓛 𝓜 𝓡)
+    (λ κs at_entry_lem _ r ws. fact_mono 𝓤 _ _ (holds_too κs (Res T.signature κs) T.signature.params T.kept (line κs) (other κs) (follows κs) at_entry_lem (at_exit T κs at_entry_lem ws) r))
+    (𝓡.run (𝓡.env name)) (λ vs. fm→mono 𝓤 (𝓡.run (𝓡.env name) vs) (run_framed 𝓤 𝓛.H 𝓜 𝓡 (𝓡.env name) vs)) (met 𝓤 𝓛 𝓜 𝓡 wired)
