@@ -80,7 +80,7 @@ pub enum FieldResult {
 }
 
 // A machine on its way, and the fuel that is left: before an instruction that needs a task, a frame or the pool, with its opcode, or at its outcome.
-#[derive(Drop)]
+#[derive(Clone, Copy)]
 pub struct Progress {
     pub machine: Machine,
     pub left: u64,
@@ -90,7 +90,7 @@ pub struct Progress {
 }
 
 // What an instruction that needs a task, a frame or the pool answers.
-#[derive(Drop)]
+#[derive(Clone, Copy)]
 pub enum MachineResult {
     Onto(Machine),
     Refused(Refusal),
@@ -104,7 +104,7 @@ pub struct MachineAndChange {
 }
 
 // What an instruction answers that reads or sets the state of a task: whether it needs the whole record after all, and which state it sets.
-#[derive(Drop)]
+#[derive(Clone, Copy)]
 pub struct StateAnswer {
     pub whole: bool,
     pub states: bool,
