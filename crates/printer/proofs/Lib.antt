@@ -1,3 +1,2 @@
-mod Values
 mod Bytes
 pub mod Performing

@@ -34,11 +34,6 @@ performs_run verb fuel w {asked} {report} {t} {s} {m} {p} {e} {v} {r} runs asks 
     ∙ ap (λ (a : Verb). as_run (call a fuel w)) asks
     ∙ sym (simp (runs))
 
--- a verb that is not other than 2
-pub is_two : (b : Bool) → not b ≡ false → b ≡ true
-is_two true e = refl
-is_two false e = absurd (true≢false e)
-
 -- a save
 pub performs_save : (verb fuel : ℕ) (w : World) {report : SaveReport} {t : List Task} {s m p e v : List ℕ} {r : CallOutcome} → eqb verb 2 ≡ true
     → saved_to report t s m p e v ≡ host_save w → r ≡ saved report → acted r t s m p e v ≡ performed verb fuel w
@@ -91,14 +86,6 @@ goes_further calls start number w {before} {now-it-is} {c₁} {c₂} so_far same
 -- the calls stay
 pub calls_stay : {x y : World} {c₁ c₂ calls : List ℕ} → c₁ ≡ calls → after x c₂ ≡ after y c₁ → c₂ ≡ calls
 calls_stay same turned = ap (λ (x : After World (List ℕ)). x.lent) turned ∙ same
-
--- after the last one
-pub all_called : (calls : List ℕ) (start number count : ℕ) (w : World) {at_last : World} {c : List ℕ} → number ≤ count → count ≤ number → at_last ≡ after_calls calls start number w → c ≡ calls
-    → after at_last c ≡ after (after_calls calls start count w) calls
-all_called calls start number count w {at_last} {c} inside past so_far same =
-    let all : number ≡ count = omega arith in
-    ap (λ (x : World). after x c) (so_far ∙ ap (λ (n : ℕ). after_calls calls start n w) all)
-    ∙ ap (after (after_calls calls start count w)) same
 
 -- ---- over a table of blank slots
 

@@ -68,6 +68,7 @@ pub(crate) fn fuel_at(calls: &mut [u8], from: usize, number: usize) -> u64
 }
 
 // What a call asks of a run: 0 to start, 3 to rerun, any other to continue.
+#[tactic(auto, unfolding(crate::specs::Asked::verb_of))]
 pub(crate) fn verb_of(number: u8) -> Verb
     ensures { result ≡ verb_of number }
 {
@@ -81,6 +82,7 @@ pub(crate) fn verb_of(number: u8) -> Verb
 }
 
 // How a run ended.
+#[tactic(auto, unfolding(crate::specs::Asked::ended))]
 fn ended(finished: u64, outcome: Outcome) -> Head
     ensures { result ≡ ended finished outcome }
 {
@@ -92,6 +94,7 @@ fn ended(finished: u64, outcome: Outcome) -> Head
 }
 
 // What came of a run.
+#[tactic(auto, unfolding(crate::specs::Asked::ran))]
 pub(crate) fn ran(report: Report) -> CallOutcome
     ensures { result ≡ ran report }
 {
@@ -104,6 +107,7 @@ pub(crate) fn ran(report: Report) -> CallOutcome
 }
 
 // How a save ended.
+#[tactic(auto, unfolding(crate::specs::Asked::kept))]
 fn kept(res: SaveResult) -> Head
     ensures { result ≡ kept res }
 {
@@ -114,6 +118,7 @@ fn kept(res: SaveResult) -> Head
 }
 
 // What came of a save.
+#[tactic(auto, unfolding(crate::specs::Asked::saved))]
 pub(crate) fn saved(report: SaveReport) -> CallOutcome
     ensures { result ≡ saved report }
 {
@@ -133,6 +138,7 @@ pub(crate) fn machine_after(answered: CallOutcome) -> Machine
 }
 
 // How many calls are performed: none without a machine.
+#[tactic(auto, unfolding(crate::specs::Asked::count_of))]
 pub(crate) fn count_of(creation: CreateResult, count: usize) -> usize
     ensures { result ≡ count_of creation count }
 {

@@ -1,4 +1,5 @@
 // Lines on standard output: one that stands in a buffer, and one beside the listing. What is printed is no part of a contract: `std` says nothing about standard output.
+#![tactic(auto)]
 mod asked;
 mod listing_lines;
 mod machine_lines;
@@ -13,7 +14,7 @@ use std::rt::Stdout;
 use text::LineResult;
 
 // What came of a call: the machine after it, and how it ended.
-#[derive(Drop)]
+#[derive(Clone, Copy)]
 pub struct CallOutcome {
     pub machine: Machine,
     pub head: Head,

@@ -23,6 +23,7 @@ fn no_ends() -> [u32; 1024] {
 }
 
 // How many values are listed: no more than a stack has.
+#[tactic(auto, unfolding(crate::specs::Listed::values_listed))]
 pub(crate) fn values_listed(answered: CallOutcome) -> usize
     ensures { result ≡ values_listed answered }
 {
