@@ -25,7 +25,7 @@ use Rattle.mechanism.specs.Cut.{cut}
 use Rattle.mechanism.specs.Operated.{with_operand, push_u32, push_u8, muli, jump_if_false}
 use Rattle.mechanism.specs.Execute.{kept, plain, operated, is_equality, execute, by_extent, instruct}
 use Rattle.mechanism.specs.Steps.{is_outer}
-use Rattle.stepper.specs.Kinds.{among, plain_opcodes, is_plain, number_opcodes, has_number, pushes_byte, with_number, numbered, stored, cut_stored, stored_by, whole_or_cut}
+use Rattle.stepper.specs.Kinds.{among, is_plain, has_number, pushes_byte, with_number, numbered, stored, cut_stored, stored_by, whole_or_cut}
 
 -- ---- opcodes among some
 

@@ -4,7 +4,7 @@ use mathlib.Core.Path.{◌≡◌}
 use Rattle.inlinevec.specs.Stacks.{if_some, if_room, push_two, pop_two, last_two, of_loops, to_loops, push_loop, pop_loop, last_loop}
 use Rattle.inlinevec.specs.declared.Loop.{Loop}
 use Rattle.inlinevec.specs.declared.Loops.{Loops}
-use Rattle.inlinevec.specs.declared.LoopsResult.TheVariants.{NewLoops, NoNewLoops}
+use Rattle.inlinevec.specs.declared.LoopsResult.TheVariants.{NewLoops}
 use Rattle.inlinevec.specs.declared.PopLoopResult.TheVariants.{PoppedLoop, NotPoppedLoop}
 use Rattle.inlinevec.specs.declared.LastLoopResult.TheVariants.{LastLoop, NoLastLoop}
 use Rattle.errors.specs.declared.Refusal.TheVariants.{StackUnderflow, WrongPhaseOrUnsound}

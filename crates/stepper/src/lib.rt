@@ -1,4 +1,6 @@
 // Instructions one after the other, up to the code's end, the fuel's end, a refusal, or one that needs a task, a frame or the pool.
+#![tactic(auto)]
+
 pub mod advance;
 mod arithmetic;
 mod control;
