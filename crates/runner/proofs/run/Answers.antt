@@ -1,0 +1,23 @@
+-- `runner::run`: the loop begins at the run's start, comes to the same end with fewer turns to come, and ends there.
+use Rattle.std.proofs.Common.{arith}
+use Rattle.runner.specs.Going.{going}
+use Rattle.runner.proofs.Turns.{begins_same, goes_at, goes_same, goes_fewer, ends_run}
+use Rattle.runner.proofs.run.Goals as goal
+
+pub loop-progress-init : goal.loop-progress-init
+loop-progress-init c = begins_same _ _ _ _ _ _ _ _ c.begun-progress.ensures
+
+pub loop-progress-smaller : goal.loop-progress-smaller
+loop-progress-smaller c =
+    goes_fewer (going c.loop-progress.progress c.loop-progress.table c.loop-progress.stack c.loop-progress.memory c.loop-progress.pool c.loop-progress.ends c.loop-progress.save)
+    (omega (arith, c.loop-progress.auto.pool, c.type_inv.pool)) (goes_at _ c.advance-progress.ensures c.turn-next.ensures) c.loop-progress-test.true
+
+pub loop-progress-preserved : goal.loop-progress-preserved
+loop-progress-preserved c =
+    goes_same (going c.loop-progress.progress c.loop-progress.table c.loop-progress.stack c.loop-progress.memory c.loop-progress.pool c.loop-progress.ends c.loop-progress.save)
+    (omega (arith, c.loop-progress.auto.pool, c.type_inv.pool)) (goes_at _ c.advance-progress.ensures c.turn-next.ensures) c.loop-progress-test.true c.loop-progress.invariant
+
+pub returns : goal.returns
+returns c =
+    ends_run (going c.loop-progress.progress c.loop-progress.table c.loop-progress.stack c.loop-progress.memory c.loop-progress.pool c.loop-progress.ends c.loop-progress.save)
+    c.loop-progress-test.false c.ran.ensures c.loop-progress.invariant

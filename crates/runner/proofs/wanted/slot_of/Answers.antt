@@ -1,0 +1,7 @@
+-- `runner::wanted::slot_of` meets its contract.
+use Rattle.std.proofs.Common.{rules}
+use Rattle.runner.proofs.wanted.slot_of.Goals as goal
+
+pub returns : goal.returns
+returns c =
+    simp (← c.wanted.ensures)
