@@ -243,7 +243,7 @@ pub host_rafenuma_test_image_says : {M : Type 1} → host.rafenuma_test_image.St
 host_rafenuma_test_image_says met = met
 
 abbrev pub shows_own : Line shows-contracts.own.ended
-shows_own _ stack memory pool ends save image program calls from count everything _ =
+shows_own _ out stack memory pool ends save image program calls from count everything _ =
     lent stack.exit.now memory.exit.now pool.exit.now ends.exit.now save.exit.now calls.exit.now ≡ Shows.own from.entry count.entry stack.entry.now memory.entry.now pool.entry.now ends.entry.now save.entry.now image.entry.now program.entry.now calls.entry.now
 
 pub shows_own_says : {M : Type 1} → shows.own.Statement.statement M → Answers M shows-contracts.own.ended shows.own.Symbol.name shows.own.Symbol.code shows_own

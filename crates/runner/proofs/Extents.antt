@@ -1,5 +1,5 @@
 -- An opcode without operands reaches one byte.
-use Rattle.std.proofs.Common.{◌≡◌, ℕ, ◌+◌, ◌<◌, Bool, true, false, cond, eqb, leb, List, length, get_or, sym, refl, ap, ◌∙◌, subst, arith, eqb-true, le-leb}
+use Rattle.std.proofs.Common.{◌≡◌, ℕ, ◌+◌, ◌<◌, Bool, true, false, cond, eqb, List, length, get_or, sym, refl, ap, ◌∙◌, subst, arith, eqb-true, le-leb}
 use Rattle.bytecode.specs.Opcodes.{operand_size, PUSH_CALLDATA, M_STI, T_CREATE, T_GET_FIELD, T_SET_FIELD, T_DELETE, CALL, END_CALL}
 use Rattle.bytecode.specs.Operands.{data_size, behind, extent}
 use Rattle.bytecode.specs.declared.Extent.TheVariants.{Next}

@@ -21,7 +21,7 @@ use Rattle.mechanism.specs.declared.MachineResult.{MachineResult}
 use Rattle.runner.proofs.Extents.{bare_extent}
 use Rattle.mechanism.proofs.Settled.{on_bool}
 use Rattle.runner.specs.Behind.{next_of}
-use Rattle.runner.specs.Going.{Acting, acting, after_act, task_turn, slot_at, returned, called, slot_of_call, Entering, entering, call_turn, from_entering, state_turn, act_turn}
+use Rattle.runner.specs.Going.{Acting, acting, after_act, task_turn, slot_at, returned, called, slot_of_call, entering, call_turn, from_entering, state_turn, act_turn}
 use Rattle.runner.specs.States.{stated}
 
 module _ (pool ends : List ℕ) (machine : Machine) where

@@ -18,9 +18,9 @@ use Rattle.mechanism.specs.Steps.{Halted, is_outer, halted, onward, turn as core
 use Rattle.machine.specs.declared.Machine.{Machine}
 use Rattle.mechanism.specs.declared.Halt.{Halt}
 use Rattle.mechanism.specs.declared.Halt.TheVariants as halt
-use Rattle.machine.specs.Machines.{current, code_of}
+use Rattle.machine.specs.Machines.{code_of}
 use Rattle.mechanism.specs.Registers.{registers_of, settled}
-use Rattle.mechanism.specs.Advance.{ProgressOn, ended as outcome-at, at_hand, wanted, halted_at, after_steps, advance}
+use Rattle.mechanism.specs.Advance.{ended as outcome-at, at_hand, halted_at, after_steps, advance}
 use Rattle.mechanism.specs.Turns.{turned, save_result}
 use Rattle.runner.specs.Behind.{next_of, save_answered, saved}
 use Rattle.runner.proofs.Leaving.{inside, next_is}
@@ -35,7 +35,6 @@ use Rattle.mechanism.proofs.Memory.{Leaves, finished, kept}
 use Rattle.mechanism.proofs.Instruction.{instruct_leaves}
 use Rattle.machine.specs.World.{World, world, at_end}
 use Rattle.machine.specs.Words.{StepResult, next, refused}
-use Rattle.machine.specs.Step.{step}
 use Rattle.mechanism.specs.Step.{outer, inner, inner_result, acts_result, acts, saves_result, saves, step_by_parts}
 use Rattle.machine.specs.Run.{End, end_at, follow, run}
 use Rattle.runner.specs.Going.{Going, going, beside, Acting, after_act, task_turn, slot_at, act_turn, after_save, save_turn, from_acting, from_saving, turn, begins, goes_on}

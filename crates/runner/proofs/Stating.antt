@@ -26,7 +26,7 @@ use Rattle.machine.specs.Machines.{op_at}
 use Rattle.mechanism.specs.Turns.{turned}
 use Rattle.mechanism.specs.declared.Progress.{Progress}
 use Rattle.mechanism.specs.declared.MachineResult.TheVariants.{Onto}
-use Rattle.runner.specs.Going.{Acting, acting, after_act, task_turn, slot_at, state_turn, act_turn}
+use Rattle.runner.specs.Going.{acting, after_act, task_turn, slot_at, state_turn, act_turn}
 use Rattle.runner.specs.States.{names_state, whole, went_on, got, gets, sets_to, set_third, sets, stated, restated}
 use Rattle.mechanism.specs.declared.StateAnswer.{StateAnswer}
 use Rattle.runner.proofs.Leaving.{place, inside, next_is, acts_bare, returns_turn, calls_turn, at_end_call, at_call, at_other}

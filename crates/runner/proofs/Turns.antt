@@ -11,7 +11,7 @@ use Rattle.table_image.specs.Tables.{Held, held}
 use Rattle.mechanism.specs.Changes.{applied}
 use Rattle.mechanism.specs.declared.Change.{Change}
 use Rattle.machine.specs.declared.Machine.{Machine}
-use Rattle.mechanism.specs.Act.{OnAll, on_all, act}
+use Rattle.mechanism.specs.Act.{on_all, act}
 use Rattle.mechanism.specs.Advance.{ProgressOn, progress_on, advance}
 use Rattle.mechanism.specs.Turns.{begun, turned, ran}
 use Rattle.runner.specs.Behind.{saved}

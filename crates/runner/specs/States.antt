@@ -1,5 +1,5 @@
 -- T_GET_FIELD and T_SET_FIELD of a state, where nothing is refused: how the code goes without the rest of a record.
-use Rattle.std.specs.Prelude.{ℕ, ◌-◌, Bool, true, false, cond, List, set, ◌==◌, nat_le, nat_lt, slice_index, slice_set}
+use Rattle.std.specs.Prelude.{ℕ, ◌-◌, Bool, true, false, cond, List, ◌==◌, nat_le, nat_lt, slice_index, slice_set}
 use Rattle.bytecode.specs.Opcodes.{T_GET_FIELD, T_SET_FIELD}
 use Rattle.values.specs.Values.{to_u32, to_u32_val}
 use Rattle.storage.specs.declared.Task.{Task}

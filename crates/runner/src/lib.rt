@@ -1,5 +1,6 @@
 // A machine that runs: start and continue, and the run itself, whose functions carry the lent table of tasks from instruction to instruction.
 #![tactic(auto)]
+
 mod act;
 pub mod calling;
 mod progress;

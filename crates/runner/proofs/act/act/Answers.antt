@@ -1,5 +1,5 @@
 -- `runner::act::act` meets its contract.
-use Rattle.std.proofs.Common.{rules, le-leb}
+use Rattle.std.proofs.Common.{le-leb}
 use borrow.Author.Tests.{lt-leb}
 use Rattle.mechanism.specs.Act.{act, act_at, act_by}
 use Rattle.runner.proofs.act.act.Goals as goal

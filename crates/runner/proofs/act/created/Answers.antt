@@ -1,6 +1,5 @@
 -- `runner::act::created` meets its contract.
 use Rattle.mechanism.specs.Act.{created}
-use Rattle.std.proofs.Common.{rules}
 use Rattle.runner.proofs.act.created.Goals as goal
 
 pub returns-in-Next : goal.returns-in-Next

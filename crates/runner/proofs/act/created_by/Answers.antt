@@ -1,5 +1,4 @@
 -- `runner::act::created_by` meets its contract.
-use Rattle.std.proofs.Common.{rules}
 use Rattle.mechanism.specs.Act.{created_by}
 use Rattle.runner.proofs.act.created_by.Goals as goal
 

@@ -1,6 +1,5 @@
 -- `runner::act::intern_calldata` meets its contract.
 use Rattle.mechanism.specs.Frames.{intern_calldata, intern_sized}
-use Rattle.std.proofs.Common.{rules}
 use Rattle.runner.proofs.act.intern_calldata.Goals as goal
 
 pub returns-in-NoOperand : goal.returns-in-NoOperand

@@ -1,5 +1,5 @@
 -- `runner::act::on_frames` meets its contract.
-use Rattle.std.proofs.Common.{rules, eq-eqb, ne_eqb}
+use Rattle.std.proofs.Common.{eq-eqb, ne_eqb}
 use Rattle.mechanism.specs.Act.{on_frames}
 use Rattle.runner.proofs.act.on_frames.Goals as goal
 

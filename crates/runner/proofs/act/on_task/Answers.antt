@@ -1,5 +1,5 @@
 -- `runner::act::on_task` meets its contract.
-use Rattle.std.proofs.Common.{rules, eq-eqb, ne_eqb}
+use Rattle.std.proofs.Common.{eq-eqb, ne_eqb}
 use Rattle.mechanism.specs.Act.{on_task}
 use Rattle.runner.proofs.act.on_task.Goals as goal
 

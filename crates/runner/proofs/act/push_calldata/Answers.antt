@@ -1,5 +1,5 @@
 -- `runner::act::push_calldata` meets its contract.
-use Rattle.std.proofs.Common.{rules, le-leb}
+use Rattle.std.proofs.Common.{le-leb}
 use borrow.Author.Tests.{lt-leb}
 use Rattle.mechanism.specs.Frames.{push_calldata, calldata_pushed}
 use Rattle.runner.proofs.act.push_calldata.Goals as goal

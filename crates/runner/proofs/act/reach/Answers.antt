@@ -1,5 +1,5 @@
 -- `runner::act::reach` meets its contract.
-use Rattle.std.proofs.Common.{sym, ap, ◌∙◌, rules}
+use Rattle.std.proofs.Common.{sym, ap, ◌∙◌}
 use Rattle.mechanism.specs.Act.{bare}
 use Rattle.runner.proofs.Extents.{bare_extent}
 use Rattle.runner.proofs.act.reach.Goals as goal

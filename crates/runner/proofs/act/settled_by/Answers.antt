@@ -1,6 +1,5 @@
 -- `runner::act::went_by` meets its contract.
 use Rattle.mechanism.specs.Act.{settled_by}
-use Rattle.std.proofs.Common.{rules}
 use Rattle.runner.proofs.act.settled_by.Goals as goal
 
 pub returns-in-Next : goal.returns-in-Next

@@ -1,5 +1,5 @@
 -- `runner::act::start_of` meets its contract.
-use Rattle.std.proofs.Common.{sym, ◌∙◌, rules}
+use Rattle.std.proofs.Common.{sym, ◌∙◌}
 use lib.ListN.{get_or-eq_default}
 use Rattle.pools.proofs.Ends.{start_after}
 use Rattle.pools.specs.Pool.{start_of, end_of}

@@ -1,5 +1,4 @@
 -- `runner::act::tasked_by` meets its contract.
-use Rattle.std.proofs.Common.{rules}
 use Rattle.mechanism.specs.Act.{tasked_by}
 use Rattle.runner.proofs.act.tasked_by.Goals as goal
 

@@ -1,6 +1,5 @@
 -- `runner::act::with_entry` meets its contract.
 use Rattle.mechanism.specs.Frames.{with_entry}
-use Rattle.std.proofs.Common.{rules}
 use Rattle.runner.proofs.act.with_entry.Goals as goal
 
 pub returns : goal.returns

@@ -1,6 +1,5 @@
 -- `runner::calling::allowed` meets its contract.
 use Rattle.machine.specs.Calls.{allowed}
-use Rattle.std.proofs.Common.{rules}
 use Rattle.runner.proofs.calling.allowed.Goals as goal
 
 pub returns-then-sound : goal.returns-then-sound

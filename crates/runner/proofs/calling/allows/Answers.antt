@@ -1,5 +1,4 @@
 -- `runner::calling::allows` meets its contract.
-use Rattle.std.proofs.Common.{rules}
 use Rattle.runner.proofs.calling.allows.Goals as goal
 
 pub returns-in-Start : goal.returns-in-Start

@@ -1,6 +1,5 @@
 -- `runner::calling::ended` meets its contract.
 use Rattle.machine.specs.Calls.{ended}
-use Rattle.std.proofs.Common.{rules}
 use Rattle.runner.proofs.calling.ended.Goals as goal
 
 pub returns-in-Done : goal.returns-in-Done

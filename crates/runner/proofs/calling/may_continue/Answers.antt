@@ -1,6 +1,5 @@
 -- `runner::calling::may_continue` meets its contract.
 use Rattle.machine.specs.Calls.{may_continue}
-use Rattle.std.proofs.Common.{rules}
 use Rattle.runner.proofs.calling.may_continue.Goals as goal
 
 pub returns-in-New : goal.returns-in-New

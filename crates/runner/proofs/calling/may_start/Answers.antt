@@ -1,6 +1,5 @@
 -- `runner::calling::may_start` meets its contract.
 use Rattle.machine.specs.Calls.{may_start}
-use Rattle.std.proofs.Common.{rules}
 use Rattle.runner.proofs.calling.may_start.Goals as goal
 
 pub returns-in-New : goal.returns-in-New

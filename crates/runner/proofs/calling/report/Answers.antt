@@ -1,6 +1,5 @@
 -- `runner::calling::report` meets its contract.
 use Rattle.machine.specs.Calls.{report}
-use Rattle.std.proofs.Common.{rules}
 use Rattle.runner.proofs.calling.report.Goals as goal
 
 pub returns : goal.returns

@@ -1,5 +1,4 @@
 -- `runner::progress::called` meets its contract.
-use Rattle.std.proofs.Common.{rules}
 use Rattle.runner.specs.Going.{called}
 use Rattle.runner.proofs.progress.called.Goals as goal
 

@@ -1,5 +1,4 @@
 -- `runner::progress::next_of` meets its contract.
-use Rattle.std.proofs.Common.{rules}
 use Rattle.runner.specs.Behind.{next_of}
 use Rattle.runner.proofs.progress.next_of.Goals as goal
 

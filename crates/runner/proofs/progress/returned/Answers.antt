@@ -1,5 +1,4 @@
 -- `runner::progress::returned` meets its contract.
-use Rattle.std.proofs.Common.{rules}
 use Rattle.runner.specs.Going.{returned}
 use Rattle.runner.proofs.progress.returned.Goals as goal
 

@@ -1,6 +1,5 @@
 -- `runner::progress::saved` meets its contract.
 use Rattle.runner.specs.Behind.{save_answered, saved}
-use Rattle.std.proofs.Common.{rules}
 use Rattle.runner.proofs.progress.saved.Goals as goal
 
 pub returns-in-NotSaved : goal.returns-in-NotSaved

@@ -1,6 +1,5 @@
 -- `runner::progress::turned` meets its contract.
 use Rattle.mechanism.specs.Turns.{turned}
-use Rattle.std.proofs.Common.{rules}
 use Rattle.runner.proofs.progress.turned.Goals as goal
 
 pub returns-in-Onto : goal.returns-in-Onto

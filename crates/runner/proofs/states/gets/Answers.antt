@@ -1,5 +1,5 @@
 -- `runner::states::gets` meets its contract.
-use Rattle.std.proofs.Common.{sym, ◌∙◌, rules}
+use Rattle.std.proofs.Common.{sym, ◌∙◌}
 use Rattle.runner.proofs.Stating.{named_low, named_high}
 use Rattle.runner.specs.States.{gets}
 use Rattle.runner.proofs.states.gets.Goals as goal

@@ -1,5 +1,4 @@
 -- `runner::states::got` meets its contract.
-use Rattle.std.proofs.Common.{rules}
 use Rattle.runner.specs.States.{got}
 use Rattle.runner.proofs.states.got.Goals as goal
 

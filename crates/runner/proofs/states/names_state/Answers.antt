@@ -1,5 +1,5 @@
 -- `runner::states::names_state` meets its contract.
-use Rattle.std.proofs.Common.{rules, le-ltb, lt-ltb}
+use Rattle.std.proofs.Common.{le-ltb, lt-ltb}
 use Rattle.runner.specs.States.{names_state}
 use Rattle.runner.proofs.states.names_state.Goals as goal
 

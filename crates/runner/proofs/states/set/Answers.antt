@@ -1,5 +1,5 @@
 -- `runner::states::set` meets its contract.
-use Rattle.std.proofs.Common.{rules, le-ltb, lt-ltb, le-leb}
+use Rattle.std.proofs.Common.{le-ltb, lt-ltb, le-leb}
 use borrow.Author.Tests.{lt-leb}
 use Rattle.runner.specs.States.{set_third, sets_to}
 use Rattle.runner.proofs.states.set.Goals as goal

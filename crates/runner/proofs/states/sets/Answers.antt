@@ -1,5 +1,5 @@
 -- `runner::states::sets` meets its contract.
-use Rattle.std.proofs.Common.{sym, ◌∙◌, rules}
+use Rattle.std.proofs.Common.{sym, ◌∙◌}
 use Rattle.runner.proofs.Stating.{named_high}
 use Rattle.runner.specs.States.{sets}
 use Rattle.runner.proofs.states.sets.Goals as goal

@@ -1,5 +1,5 @@
 -- `runner::states::stated` meets its contract.
-use Rattle.std.proofs.Common.{rules, eq-eqb, ne_eqb}
+use Rattle.std.proofs.Common.{eq-eqb, ne_eqb}
 use Rattle.runner.specs.States.{stated}
 use Rattle.runner.proofs.states.stated.Goals as goal
 

@@ -1,6 +1,5 @@
 -- `runner::wanted::named` meets its contract.
 use Rattle.mechanism.specs.Advance.{named, named_by}
-use Rattle.std.proofs.Common.{rules}
 use Rattle.storage.specs.Storage.{slot_of}
 use Rattle.runner.proofs.wanted.named.Goals as goal
 

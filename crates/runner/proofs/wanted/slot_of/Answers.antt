@@ -1,5 +1,4 @@
 -- `runner::wanted::slot_of` meets its contract.
-use Rattle.std.proofs.Common.{rules}
 use Rattle.runner.proofs.wanted.slot_of.Goals as goal
 
 pub returns : goal.returns

@@ -1,5 +1,4 @@
 -- `runner::wanted::slot_of_call` meets its contract.
-use Rattle.std.proofs.Common.{rules}
 use Rattle.runner.proofs.wanted.slot_of_call.Goals as goal
 
 pub returns : goal.returns

@@ -1,5 +1,5 @@
 -- `runner::wanted::wanted` meets its contract.
-use Rattle.std.proofs.Common.{rules, eq-eqb, ne_eqb}
+use Rattle.std.proofs.Common.{eq-eqb, ne_eqb}
 use Rattle.mechanism.specs.Advance.{wanted}
 use Rattle.storage.specs.Storage.{slot_of}
 use Rattle.runner.proofs.wanted.wanted.Goals as goal
