@@ -29,18 +29,18 @@ module _ {n : ℕ} (κs : Lfts n) (R : Type 0) where
 
   -- that it holds of a call
   abbrev pub Holds : (ss : List (Slot n)) (ks : Kepts ss) → Equation ss ks → Denots (types_at ss κs) → Outs κs ss ks → R → Type 0
-  Holds [] ks equation at_entry_lem at-exit r = equation r
-  Holds (s ∷ ss) ks equation at_entry_lem at-exit r = Holds ss ks.1 (equation (record { entry = at_entry_lem.0; exit = at-exit.0 })) at_entry_lem.1 at-exit.1 r
+  Holds [] ks equation at-entry at-exit r = equation r
+  Holds (s ∷ ss) ks equation at-entry at-exit r = Holds ss ks.1 (equation (record { entry = at-entry.0; exit = at-exit.0 })) at-entry.1 at-exit.1 r
 
   -- that another follows from it
   abbrev pub Follows : (ss : List (Slot n)) (ks : Kepts ss) → Equation ss ks → Equation ss ks → Type 0
   Follows [] ks equation other = (r : R) → equation r → other r
   Follows (s ∷ ss) ks equation other = (x : Both (s.row κs).Denot (Seen ((s.row κs).exit ks.0))) → Follows ss ks.1 (equation x) (other x)
 
-  holds_too : (ss : List (Slot n)) (ks : Kepts ss) (equation other : Equation ss ks) → Follows ss ks equation other → (at_entry_lem : Denots (types_at ss κs)) (at-exit : Outs κs ss ks) (r : R) → Holds ss ks equation at_entry_lem at-exit r → Holds ss ks other at_entry_lem at-exit r
-  holds_too [] ks equation other follows at_entry_lem at-exit r e = follows r e
-  holds_too (s ∷ ss) ks equation other follows at_entry_lem at-exit r e =
-      holds_too ss ks.1 (equation _) (other _) (follows (record { entry = at_entry_lem.0; exit = at-exit.0 })) at_entry_lem.1 at-exit.1 r e
+  holds_too : (ss : List (Slot n)) (ks : Kepts ss) (equation other : Equation ss ks) → Follows ss ks equation other → (at-entry : Denots (types_at ss κs)) (at-exit : Outs κs ss ks) (r : R) → Holds ss ks equation at-entry at-exit r → Holds ss ks other at-entry at-exit r
+  holds_too [] ks equation other follows at-entry at-exit r e = follows r e
+  holds_too (s ∷ ss) ks equation other follows at-entry at-exit r e =
+      holds_too ss ks.1 (equation _) (other _) (follows (record { entry = at-entry.0; exit = at-exit.0 })) at-entry.1 at-exit.1 r e
 
 -- the equations over what a function is handed and its result, at all lifetimes
 abbrev pub Line : Ended → Type 1
@@ -48,10 +48,10 @@ Line T = (κs : Lfts T.signature.lifetimes) → Equation κs (Res T.signature κ
 
 -- the contract that asks nothing and ensures the equation
 abbrev ensuring : {M : Type 1} (𝓤 : Ura M) (T : Ended) → Line T → Clauses 𝓤 T
-ensuring 𝓤 T line κs at_entry_lem = record {
+ensuring 𝓤 T line κs at-entry = record {
   ghost = Unit {0};
   requires = λ _. emp 𝓤;
-  ensures = λ _ r at-exit. fact 𝓤 (Holds κs (Res T.signature κs) T.signature.params T.kept (line κs) at_entry_lem at-exit r);
+  ensures = λ _ r at-exit. fact 𝓤 (Holds κs (Res T.signature κs) T.signature.params T.kept (line κs) at-entry at-exit r);
 }
 
 -- the function takes every call, and ends with the equation between what it was handed, what it leaves and its result
@@ -62,6 +62,6 @@ Answers M T name code line =
 -- and so with what follows from the equation
 pub so : {M : Type 1} (T : Ended) (name : Callee) (code : Code) (line other : Line T) → Answers M T name code line → ((κs : Lfts T.signature.lifetimes) → Follows κs (Res T.signature κs) T.signature.params T.kept (line κs) (other κs)) → Answers M T name code other
 so T name code line other met follows 𝓤 𝓛 𝓜 𝓡 wired =
-    weaken 𝓛 T (ensuring 𝓤 T line) (λ κs at_entry_lem. (ensuring 𝓤 T other κs at_entry_lem).ensures)
-    (λ κs at_entry_lem _ r ws. fact_mono 𝓤 _ _ (holds_too κs (Res T.signature κs) T.signature.params T.kept (line κs) (other κs) (follows κs) at_entry_lem (at_exit T κs at_entry_lem ws) r))
+    weaken 𝓛 T (ensuring 𝓤 T line) (λ κs at-entry. (ensuring 𝓤 T other κs at-entry).ensures)
+    (λ κs at-entry _ r ws. fact_mono 𝓤 _ _ (holds_too κs (Res T.signature κs) T.signature.params T.kept (line κs) (other κs) (follows κs) at-entry (at_exit T κs at-entry ws) r))
     (𝓡.run (𝓡.env name)) (λ vs. fm→mono 𝓤 (𝓡.run (𝓡.env name) vs) (run_framed 𝓤 𝓛.H 𝓜 𝓡 (𝓡.env name) vs)) (met 𝓤 𝓛 𝓜 𝓡 wired)

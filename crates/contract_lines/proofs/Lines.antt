@@ -53,8 +53,8 @@ use Rattle.vm.proofs.task_reading as task-reading
 use Rattle.vm.specs.contracts.task_reading as task-reading-contracts
 use Rattle.listing.proofs.head_line as head-line
 use Rattle.listing.specs.contracts.head_line as head-line-contracts
-use Rattle.listing.proofs.value_line as Value-line
-use Rattle.listing.specs.contracts.value_line as Value-line-contracts
+use Rattle.listing.proofs.value_line as value-line
+use Rattle.listing.specs.contracts.value_line as value-line-contracts
 use Rattle.admission.proofs as admission
 use Rattle.admission.specs.contracts as admission-contracts
 use Rattle.host.proofs.owner as hosting-owner
@@ -193,11 +193,11 @@ head_line_head_line _ out writes head r =
 pub head_line_head_line_says : {M : Type 1} → head-line.head_line.Statement.statement M → Answers M head-line-contracts.head_line.ended head-line.head_line.Symbol.name head-line.head_line.Symbol.code head_line_head_line
 head_line_head_line_says met = met
 
-abbrev pub value_line_value_line : Line Value-line-contracts.value_line.ended
+abbrev pub value_line_value_line : Line value-line-contracts.value_line.ended
 value_line_value_line _ out memory pool ends writes kind r =
     lined r out.exit.now ≡ tell_line writes.entry out.entry.now (line_of_value kind.entry (part_of memory.entry.now pool.entry.now ends.entry.now kind.entry))
 
-pub value_line_value_line_says : {M : Type 1} → Value-line.value_line.Statement.statement M → Answers M Value-line-contracts.value_line.ended Value-line.value_line.Symbol.name Value-line.value_line.Symbol.code value_line_value_line
+pub value_line_value_line_says : {M : Type 1} → value-line.value_line.Statement.statement M → Answers M value-line-contracts.value_line.ended value-line.value_line.Symbol.name value-line.value_line.Symbol.code value_line_value_line
 value_line_value_line_says met = met
 
 abbrev pub admission_admit : Line admission-contracts.admit.ended

@@ -35,10 +35,10 @@ digit_back {whole} n pending rest small is =
     rw (lt-ltb n 10 small, le-ltb (48 + n) 48 above, more)
 
 -- the digits of a number
-digits_back : (most : ℕ) (Has-one : Bool) (n : ℕ) (rest : List ℕ) → ltb n 10 ≡ Has-one → n ≤ most
-    → read_numbers [] (digits most Has-one n ++ rest) ≡ read_numbers (n ∷ []) rest
+digits_back : (most : ℕ) (has_one : Bool) (n : ℕ) (rest : List ℕ) → ltb n 10 ≡ has_one → n ≤ most
+    → read_numbers [] (digits most has_one n ++ rest) ≡ read_numbers (n ∷ []) rest
 unfolding digits
-digits_back zero Has-one n rest test few = digit_back n [] rest (omega arith) (omega arith)
+digits_back zero has_one n rest test few = digit_back n [] rest (omega arith) (omega arith)
 digits_back (suc most) true n rest test few = digit_back n [] rest (ltb-true n 10 test) (omega arith)
 digits_back (suc most) false n rest test few =
     let long : 10 ≤ n = ltb-false n 10 test in

@@ -40,9 +40,9 @@ unfolding lacks
 digit_lacks byte letters n more low above = rw (ne_eqb (character letters n) byte (λ same. omega (arith, character_high letters n above)))
 
 -- the digits of a number
-digits_lack : (byte most : ℕ) (Has-one : Bool) (n : ℕ) → byte < 48 → lacks byte (digits most Has-one n) ≡ true
+digits_lack : (byte most : ℕ) (has_one : Bool) (n : ℕ) → byte < 48 → lacks byte (digits most has_one n) ≡ true
 unfolding lacks digits digit
-digits_lack byte zero Has-one n low = digit_lacks byte 87 n [] low (omega arith)
+digits_lack byte zero has_one n low = digit_lacks byte 87 n [] low (omega arith)
 digits_lack byte (suc most) true n low = digit_lacks byte 87 n [] low (omega arith)
 digits_lack byte (suc most) false n low =
     lacks_append byte (digits most (ltb (n / 10) 10) (n / 10)) (digit (n % 10) ∷ [])

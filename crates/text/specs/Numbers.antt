@@ -7,7 +7,7 @@ digit n = cond (ltb n 10) (48 + n) (87 + n)
 
 -- the digits of a number, the highest first, where it has one and where it has more; `most` is not below the number
 unfoldable pub digits : ℕ → Bool → ℕ → List ℕ
-digits zero Has-one n = digit n ∷ []
+digits zero has_one n = digit n ∷ []
 digits (suc most) true n = digit n ∷ []
 digits (suc most) false n = digits most (ltb (n / 10) 10) (n / 10) ++ (digit (n % 10) ∷ [])
 
