@@ -7,7 +7,6 @@ use Rattle.machine.specs.declared.Outcome.{Outcome}
 use Rattle.machine.specs.declared.Outcome.TheVariants.{Done, Paused, Refused}
 use Rattle.machine.specs.World.{world}
 use Rattle.machine.specs.declared.CreateResult.{CreateResult}
-use Rattle.machine.specs.declared.CreateResult.TheVariants.{Created, NotCreated}
 use Rattle.machine.specs.declared.Report.{Report}
 use Rattle.machine.specs.declared.SaveReport.{SaveReport}
 use Rattle.machine.specs.Calls.{Reported, start}

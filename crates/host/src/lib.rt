@@ -1,5 +1,6 @@
 // The library for a host: a run with its listing and its new image, the admission of a program, the test of an image.
 #![tactic(auto)]
+
 pub mod answering;
 pub mod hosting;
 mod lines;
