@@ -1,5 +1,6 @@
 // Tests images, and every cut and every one-byte change of them, and prints what the test answers.
 #![tactic(auto)]
+
 ghost use Rattle.std.specs.Prelude.{◌<◌, ◌≤◌, length};
 
 use errors::Details;

@@ -1,5 +1,6 @@
 // Lines on standard output: one that stands in a buffer, and one beside the listing. What is printed is no part of a contract: `std` says nothing about standard output.
 #![tactic(auto)]
+
 mod asked;
 mod listing_lines;
 mod machine_lines;

@@ -1,5 +1,6 @@
 // What `replay` prints beside the listing, a line at a time into a lent buffer.
 #![tactic(auto)]
+
 pub mod report_words;
 
 ghost use Rattle.std.specs.Prelude.{◌≡◌};

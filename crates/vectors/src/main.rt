@@ -1,5 +1,6 @@
 // Runs the leaves on vectors from outside and prints what they answer, a line to a case.
 #![tactic(auto)]
+
 mod cases;
 
 ghost use Rattle.std.specs.Prelude.{◌≤◌, ◌<◌, length};
