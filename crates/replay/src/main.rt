@@ -1,4 +1,5 @@
 // Reads a batch of cases from standard input, and prints what each call of each case does.
+#![tactic(auto)]
 ghost use Rattle.std.specs.Prelude.{◌≡◌, ◌<◌, ◌≤◌, length, take};
 
 use report::Report;
@@ -8,7 +9,7 @@ use text::LineResult;
 
 // A case as it stands in a batch: the places and sizes of its image and its program, the place of its calls and how many of them are whole;
 // whether the form is kept up to its calls, and to its end; and its end, or the place where the form is broken.
-#[derive(Drop)]
+#[derive(Clone, Copy)]
 struct Case {
     image: usize,
     image_size: usize,
