@@ -9,9 +9,6 @@ unfolding act act_at act_by
 returns-then-code-place c =
     simp (← c.cut.ensures, le-leb _ _ c.if-code-place.true, ← c.code_of-code.ensures, ← c.current-frame.ensures)
 
-pub reach-requires : goal.reach-requires
-reach-requires c = (c.if-code-place.false, c.byte_at-op.ensures)
-
 pub returns-in-Cut : goal.returns-in-Cut
 unfolding act act_at act_by
 returns-in-Cut c =
