@@ -1,5 +1,6 @@
 // Reads a batch of cases from standard input, and prints what each call of each case does.
 #![tactic(auto)]
+
 ghost use Rattle.std.specs.Prelude.{◌≡◌, ◌<◌, ◌≤◌, length, take};
 
 use report::Report;

@@ -1,5 +1,6 @@
 // Reads a program from standard input, runs it fresh, and prints the listing.
 #![tactic(auto)]
+
 use std::io;
 
 // Room for the stack.

@@ -1,5 +1,6 @@
 // Starts and reruns machines whose record, table or pool was forged, one to each condition of refusal 26, and prints what each answers; the first is honest.
 #![tactic(auto)]
+
 use inlinevec::Frame;
 use machine::new_machines::machine_of;
 use machine::{Machine, Outcome, Report, Verb};
