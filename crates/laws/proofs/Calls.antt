@@ -13,10 +13,10 @@ use Rattle.machine.specs.declared.Outcome.{Outcome}
 use Rattle.machine.specs.declared.Outcome.TheVariants.{Done, Paused, Refused}
 use Rattle.machine.specs.World.{World}
 use Rattle.machine.specs.Run.{End, end_at, run}
-use Rattle.machine.specs.Calls.{may_continue, allowed, phased, ended, report, Reported, reported_end, is_sound, call_with, call, start, rerun, go_on}
+use Rattle.machine.specs.Calls.{may_continue, allowed, phased, ended, report, Reported, reported_end, is_sound, call_with, call, go_on}
 use Rattle.machine.specs.World.{with_machine}
 use Rattle.machine.specs.declared.Verb.{Verb}
-use Rattle.machine.specs.declared.Verb.TheVariants.{Start, Rerun, Continue}
+use Rattle.machine.specs.declared.Verb.TheVariants.{Continue}
 use Rattle.machine.specs.Calls.{Permission}
 use Rattle.machine.specs.History.{world_after, runs, left_by}
 use Rattle.laws.specs.Sound.{Passes}
@@ -134,15 +134,3 @@ module _ (verb : Verb) (w : World) where
         subst (λ (r : Reported). Together r (go_on b (world_after (call verb a w))) (call verb (a + b) w)) (sym first_is)
         (subst (λ (r : Reported). Together (reported_end a (end_at there 0 Paused)) r (call verb (a + b) w)) (sym second_is)
         (subst (λ (r : Reported). Together (reported_end a (end_at there 0 Paused)) (reported_end b (end_as phase.Paused (run b there))) r) (sym whole_is) (continued a b there)))
-
--- a start that pauses, then a continue
-pub start_then_go_on : (a b : ℕ) (w : World) → length w.ends ≡ 1024 → (start a w).report.outcome ≡ Paused → Together (start a w) (go_on b (world_after (start a w))) (start (a + b) w)
-start_then_go_on a b w ends_lent paused = fuel_of_calls Start w ends_lent a b paused
-
--- a rerun that pauses, then a continue
-pub rerun_then_go_on : (a b : ℕ) (w : World) → length w.ends ≡ 1024 → (rerun a w).report.outcome ≡ Paused → Together (rerun a w) (go_on b (world_after (rerun a w))) (rerun (a + b) w)
-rerun_then_go_on a b w ends_lent paused = fuel_of_calls Rerun w ends_lent a b paused
-
--- a continue that pauses, then another
-pub go_on_then_go_on : (a b : ℕ) (w : World) → length w.ends ≡ 1024 → (go_on a w).report.outcome ≡ Paused → Together (go_on a w) (go_on b (world_after (go_on a w))) (go_on (a + b) w)
-go_on_then_go_on a b w ends_lent paused = fuel_of_calls Continue w ends_lent a b paused

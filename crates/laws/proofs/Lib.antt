@@ -2,6 +2,7 @@ pub mod Finished
 pub mod Fuel
 pub mod Phases
 pub mod Calls
+pub mod GoesOn
 pub mod Living
 pub mod Unsound
 pub mod Refused
@@ -31,3 +32,4 @@ pub mod Creates
 pub mod Main
 pub mod Saved
 pub mod Starts
+pub mod FreshStarts
