@@ -32,17 +32,15 @@ module _ (save program : List ℕ) (some : 1 ≤ length program) (short : length
   written : sets pool 0 program ≡ pool
   written = sets-eq program pool 0 (omega (arith, roomy)) ∙ ap (λ (rest : List ℕ). program ++ rest) (drop_at program (replicate 16 0) (0 + length program) (omega arith))
 
-  created : create (replicate 256 blank) pool ends [] program ≡ made (Created (new_machine (length program) 1 0 0)) (replicate 256 blank) pool ends
+  -- the machine of a program without tasks
+  pub is_fresh : FreshWorld program [] (lent save program)
   unfolding create create_fit create_behind creation_tests image_tests image_result read_image has_room interned load_table load_read load_tasks s_len_of instruction_bytes
-  created =
+  is_fresh =
       let none_more : length program + 0 ≡ length program = omega arith in
       let none_before : 0 + length program ≡ length program = omega arith in
       let fits = le-leb (length program) (min 65536 (length pool)) roomy in
-      rw (ne_eqb (length program) 0 (λ (z : length program ≡ 0). omega (arith, some)), le-ltb 65535 (length program) short, none_more, fits) (rw (none_before, fits, written))
-
-  -- the machine of a program without tasks
-  pub is_fresh : FreshWorld program [] (lent save program)
-  is_fresh =
+      let created : create (replicate 256 blank) pool ends [] program ≡ made (Created (new_machine (length program) 1 0 0)) (replicate 256 blank) pool ends =
+      rw (ne_eqb (length program) 0 (λ (z : length program ≡ 0). omega (arith, some)), le-ltb 65535 (length program) short, none_more, fits) (rw (none_before, fits, written)) in
       subst (λ (m : Made). FreshWorld program [] (new_world (new_machine (length program) 1 0 0) m (replicate 1000 0) (replicate 64 0) save)) created
       (is_created (replicate 256 blank) pool ends (new_machine (length program) 1 0 0) (replicate 1000 0) (replicate 64 0) save refl refl (ap (λ (m : Made). m.answer) created))
 
