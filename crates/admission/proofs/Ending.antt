@@ -17,16 +17,13 @@ use Rattle.labels.specs.Check.{admitted, admission}
 use Rattle.labels.specs.Faults.{WrongJump, Ended, Fault, without_rule, wrong_jump, open_loop}
 use Rattle.labels.proofs.Refused.{refused_at, passed}
 use Rattle.errors.specs.declared.Refusal.TheVariants.{NotAdmitted}
-use Rattle.admission.specs.declared.Admission.TheVariants.{Admitted, Refused}
-use Rattle.admission.specs.declared.SweepResult.{SweepResult}
-use Rattle.admission.specs.declared.JumpsResult.{JumpsResult}
-use Rattle.admission.specs.declared.SweepResult.TheVariants.{StuckAt, EndedWith}
-use Rattle.admission.specs.declared.JumpsResult.TheVariants.{AllRight, WrongAt}
 use Rattle.admission.specs.Noted.{Opens, no_loop, one_loop, two_loops, Noted, Tells, Fresh, Swept, stuck_at, ended, Jumps, all_right, first_wrong}
 use Rattle.admission.specs.Answer.{Zeros, written, answer, answered}
 use Rattle.admission.proofs.Landings.{tells_kept, noted_at}
 use Rattle.admission.proofs.Turns.{letters_length}
 use Rattle.admission.proofs.Stacks.{top_is, below_is}
+use Rattle.errors.specs.declared.Refusal.{Refusal}
+use Rattle.std.specs.Prelude.{Ok, Err, Result, MatchResult, IsErrAnd, ⊤}
 
 -- an array made of zeros
 pub zeros : (size : ℕ) → Zeros size (replicate size 0)
@@ -117,58 +114,58 @@ word_closed (opened a r ∷ opened b s ∷ []) (two_loops e l m) f = absurd (ome
 word_closed (opened a r ∷ (opened b s ∷ (_ ∷ _))) x f = elim x [ ]
 
 module _ {code cells nodes loops : List ℕ} {height : ℕ} where
-  pub ended_of : Swept code cells nodes loops (EndedWith height) → Ended code
+  pub ended_of : Swept code cells nodes loops (Ok height) → Ended code
   ended_of (ended last h m t) = last
 
-  pub tells_of : Swept code cells nodes loops (EndedWith height) → (place : ℕ) → Tells code cells nodes loops place
+  pub tells_of : Swept code cells nodes loops (Ok height) → (place : ℕ) → Tells code cells nodes loops place
   tells_of (ended last h m t) = t
 
-  pub most_of : Swept code cells nodes loops (EndedWith height) → height ≤ 1000
+  pub most_of : Swept code cells nodes loops (Ok height) → height ≤ 1000
   most_of (ended last h m t) = m
 
-  high_of : (s : Swept code cells nodes loops (EndedWith height)) → height ≡ length (kinds_of (ended_of s).last)
+  high_of : (s : Swept code cells nodes loops (Ok height)) → height ≡ length (kinds_of (ended_of s).last)
   unfolding ended_of
   high_of (ended last h m t) = h
 
-pub swept_as : {code cells nodes loops : List ℕ} {result other : SweepResult} → Swept code cells nodes loops result → result ≡ other → Swept code cells nodes loops other
+pub swept_as : {code cells nodes loops : List ℕ} {result other : Result ℕ ℕ} → Swept code cells nodes loops result → result ≡ other → Swept code cells nodes loops other
 swept_as {code} {cells} {nodes} {loops} s e = subst (Swept code cells nodes loops) e s
 
-pub swept_kept : {code cells others nodes loops : List ℕ} {height : ℕ} → Kept cells others → Swept code cells nodes loops (EndedWith height) → Swept code others nodes loops (EndedWith height)
+pub swept_kept : {code cells others nodes loops : List ℕ} {height : ℕ} → Kept cells others → Swept code cells nodes loops (Ok height) → Swept code others nodes loops (Ok height)
 swept_kept k (ended last h m t) = ended last h m (tells_kept k t)
 
 -- the answer on a program of 1 to 65,535 bytes
 module _ (code : List ℕ) (more : 1 ≤ length code) (short : length code ≤ 65535) (buffer : List ℕ) where
-  refuses : {at : ℕ} → Fault code at → answer (Refused (NotAdmitted at)) buffer ≡ answered (admission code) buffer
+  refuses : {at : ℕ} → Fault code at → answer (Err (NotAdmitted at)) buffer ≡ answered (admission code) buffer
   unfolding answered
   refuses {at} f = sym (ap (λ v. answered v buffer) ((refused_at code at more short).1 f))
 
-  stuck_refuses : {cells nodes loops : List ℕ} {at : ℕ} → Swept code cells nodes loops (StuckAt at) → answer (Refused (NotAdmitted at)) buffer ≡ answered (admission code) buffer
+  stuck_refuses : {cells nodes loops : List ℕ} {at : ℕ} → Swept code cells nodes loops (Err at) → answer (Err (NotAdmitted at)) buffer ≡ answered (admission code) buffer
   stuck_refuses (stuck_at w) = refuses (without_rule w)
 
-  pub stuck_answer : {cells nodes loops : List ℕ} {result : SweepResult} {at : ℕ} → Swept code cells nodes loops result → result ≡ StuckAt at → answer (Refused (NotAdmitted at)) buffer ≡ answered (admission code) buffer
+  pub stuck_answer : {cells nodes loops : List ℕ} {result : Result ℕ ℕ} {at : ℕ} → Swept code cells nodes loops result → result ≡ Err at → answer (Err (NotAdmitted at)) buffer ≡ answered (admission code) buffer
   stuck_answer {cells} {nodes} {loops} s e = stuck_refuses (swept_as s e)
 
-  module _ {cells nodes loops : List ℕ} {height : ℕ} (s : Swept code cells nodes loops (EndedWith height)) where
-    wrong_refuses : {at : ℕ} → Jumps code (WrongAt at) → answer (Refused (NotAdmitted at)) buffer ≡ answered (admission code) buffer
+  module _ {cells nodes loops : List ℕ} {height : ℕ} (s : Swept code cells nodes loops (Ok height)) where
+    wrong_refuses : {at : ℕ} → Jumps code (Err at) → answer (Err (NotAdmitted at)) buffer ≡ answered (admission code) buffer
     wrong_refuses (first_wrong j first) = refuses (wrong_jump (ended_of s) j first)
 
-    pub wrong_answer : {result : JumpsResult} {at : ℕ} → Jumps code result → result ≡ WrongAt at → answer (Refused (NotAdmitted at)) buffer ≡ answered (admission code) buffer
+    pub wrong_answer : {result : Result ⊤ ℕ} {at : ℕ} → Jumps code result → result ≡ Err at → answer (Err (NotAdmitted at)) buffer ≡ answered (admission code) buffer
     wrong_answer j e = wrong_refuses (subst (Jumps code) e j)
 
     at_end : Noted cells nodes loops (length code) (ended_of s).last
     at_end = noted_at code cells nodes loops (tells_of s) (ended_of s).reached
 
-    no_wrong_at : Jumps code AllRight → (at : ℕ) → WrongJump code at → ⊥
+    no_wrong_at : Jumps code (Ok tt) → (at : ℕ) → WrongJump code at → ⊥
     no_wrong_at (all_right right) = right
 
-    no_wrong : {result : JumpsResult} → Jumps code result → result ≡ AllRight → (at : ℕ) → WrongJump code at → ⊥
+    no_wrong : {result : Result ⊤ ℕ} → Jumps code result → result ≡ Ok tt → (at : ℕ) → WrongJump code at → ⊥
     no_wrong j e = no_wrong_at (subst (Jumps code) e j)
 
-    pub open_answer : {result : JumpsResult} → Jumps code result → result ≡ AllRight → {word : ℕ} → word ≡ get_or loops (length code) 0 → (word ≡ 0 → ⊥) → answer (Refused (NotAdmitted (length code))) buffer ≡ answered (admission code) buffer
+    pub open_answer : {result : Result ⊤ ℕ} → Jumps code result → result ≡ Ok tt → {word : ℕ} → word ≡ get_or loops (length code) 0 → (word ≡ 0 → ⊥) → answer (Err (NotAdmitted (length code))) buffer ≡ answered (admission code) buffer
     open_answer j r e some = refuses (open_loop (ended_of s) (no_wrong j r) (λ none. some (e ∙ closed_word at_end.opens none)))
 
-    pub admitted_answer : {result : JumpsResult} → Jumps code result → result ≡ AllRight → {word node : ℕ} {out : List ℕ} → word ≡ get_or loops (length code) 0 → word ≡ 0 → node ≡ get_or nodes (length code) 0 - 1 → out ≡ written height cells node buffer
-        → answer (Admitted height) out ≡ answered (admission code) buffer
+    pub admitted_answer : {result : Result ⊤ ℕ} → Jumps code result → result ≡ Ok tt → {word node : ℕ} {out : List ℕ} → word ≡ get_or loops (length code) 0 → word ≡ 0 → node ≡ get_or nodes (length code) 0 - 1 → out ≡ written height cells node buffer
+        → answer (Ok height) out ≡ answered (admission code) buffer
     unfolding answered
     admitted_answer j r {word} {node} {out} e none n o =
         let last = (ended_of s).last in
@@ -177,4 +174,20 @@ module _ (code : List ℕ) (more : 1 ≤ length code) (short : length code ≤ 6
         let verdict : admission code ≡ admitted kinds = passed code more short (ended_of s) (no_wrong j r) closed in
         let list : out ≡ sets buffer 0 (letters (reverse kinds)) =
         o ∙ ap₂ (λ h m. written h cells m buffer) (high_of s) n ∙ written_is cells kinds (get_or nodes (length code) 0 - 1) buffer at_end.kinds in
-        ap₂ (λ h l. answer (Admitted h) l) (high_of s) list ∙ sym (ap (λ v. answered v buffer) verdict)
+        ap₂ (λ h l. answer (Ok h) l) (high_of s) list ∙ sym (ap (λ v. answered v buffer) verdict)
+
+-- a result whose errors are mapped: what it was
+module _ {A : Type 0} (P : ℕ → Refusal → Type 0) (was : Result A ℕ) (is : Result A Refusal) where
+  pub error_was : (refusal : Refusal) → MatchResult was (λ x. is ≡ Ok x) (λ e. IsErrAnd is (P e)) → is ≡ Err refusal → (at : ℕ) × (was ≡ Err at) × P at refusal
+  error_was refusal mapped e = by was refl mapped
+    where
+      by : (r : Result A ℕ) → was ≡ r → MatchResult r (λ x. is ≡ Ok x) (λ e. IsErrAnd is (P e)) → (at : ℕ) × (was ≡ Err at) × P at refusal
+      by (Ok x) f m = absurd (let z : ◌≡◌ {A = ℕ} 0 1 = cc in omega arith)
+      by (Err at) f m = (at, f, rw e at m)
+
+  pub value_was : (value : A) → MatchResult was (λ x. is ≡ Ok x) (λ e. IsErrAnd is (P e)) → is ≡ Ok value → was ≡ Ok value
+  value_was value mapped e = by was refl mapped
+    where
+      by : (r : Result A ℕ) → was ≡ r → MatchResult r (λ x. is ≡ Ok x) (λ e. IsErrAnd is (P e)) → was ≡ Ok value
+      by (Ok x) f m = cc
+      by (Err at) f m = absurd (rw e at m)

@@ -15,14 +15,15 @@ use Rattle.labels.specs.declared.Element.{Element}
 use Rattle.labels.specs.declared.Element.TheVariants.{NoRule, Kinds, Do, Loop, LoopIndex, JumpIfFalse}
 use Rattle.labels.specs.Labels.{letter, letters, same_kind, and_then, takes, gives, keeps_vector, exchanged, kinds_after}
 use Rattle.admission.specs.declared.elements.Change.{Change}
-use Rattle.admission.specs.declared.elements.Change.TheVariants as changes
-use Rattle.admission.specs.Changes.{take_one, take_two, create, compare, change_vector, move_kinds, exchange_change, element_change}
+use Rattle.admission.specs.Changes.{taking, take_one, take_two, create, compare, change_vector, move_kinds, exchange_change, element_change}
 use Rattle.admission.proofs.Stacks.{given}
+use Rattle.std.specs.Prelude as prelude
+use Rattle.std.specs.Prelude.{Some, None}
 
 -- the letters after a change
-abbrev pub performed : Change → List ℕ → Option (List ℕ)
-performed changes.NoChange list = none
-performed (changes.Change taken low high) list = some (given high (given low (drop taken list)))
+abbrev pub performed : prelude.Option Change → List ℕ → Option (List ℕ)
+performed None list = none
+performed (Some change) list = some (given change.top (given change.low (drop change.taken list)))
 
 -- the letters after a rule
 abbrev pub lettered : Option (List Kind) → Option (List ℕ)
@@ -54,7 +55,7 @@ sided a b = by (eqb (letter a) (letter b)) refl (eqb (letter b) (letter a)) refl
     by false e false f = refl
 
 -- a change on these letters
-abbrev Does : Change → List Kind → Option (List Kind) → Type 0
+abbrev Does : prelude.Option Change → List Kind → Option (List Kind) → Type 0
 Does change kinds result = performed change (letters kinds) ≡ lettered result
 
 abbrev at_top : List Kind → ℕ
@@ -71,7 +72,7 @@ unfolding take_one
 one_taken wanted [] = rw (some_letter wanted) refl
 one_taken wanted (top ∷ kinds) = by (same_kind wanted top)
   where
-    by : (b : Bool) → performed (cond b (changes.Change 1 0 0) changes.NoChange) (letters (top ∷ kinds)) ≡ lettered (cond b (some kinds) none)
+    by : (b : Bool) → performed (cond b (taking 1 0 0) None) (letters (top ∷ kinds)) ≡ lettered (cond b (some kinds) none)
     by true = refl
     by false = refl
 
@@ -80,7 +81,7 @@ unfolding take_one
 one_turned wanted other [] = rw (some_letter wanted) refl
 one_turned wanted other (top ∷ kinds) = by (same_kind wanted top)
   where
-    by : (b : Bool) → performed (cond b (changes.Change 1 (letter other) 0) changes.NoChange) (letters (top ∷ kinds)) ≡ lettered (gives other (cond b (some kinds) none))
+    by : (b : Bool) → performed (cond b (taking 1 (letter other) 0) None) (letters (top ∷ kinds)) ≡ lettered (gives other (cond b (some kinds) none))
     by true = rw (some_letter other) refl
     by false = refl
 
@@ -89,14 +90,14 @@ unfolding take_two
 two_taken wanted [] = refl
 two_taken wanted (top ∷ []) = rw (some_letter wanted) (by (eqb (letter top) 78) (same_kind Number top))
   where
-    by : (b d : Bool) → performed (cond b changes.NoChange changes.NoChange) (letters (top ∷ [])) ≡ lettered (cond d none none)
+    by : (b d : Bool) → performed (cond b None None) (letters (top ∷ [])) ≡ lettered (cond d none none)
     by true true = refl
     by true false = refl
     by false true = refl
     by false false = refl
 two_taken wanted (top ∷ second ∷ kinds) = rw (sided top Number) (by (same_kind Number top) (same_kind wanted second))
   where
-    by : (b d : Bool) → performed (cond b (cond d (changes.Change 2 0 0) changes.NoChange) changes.NoChange) (letters (top ∷ second ∷ kinds)) ≡ lettered (cond b (cond d (some kinds) none) none)
+    by : (b d : Bool) → performed (cond b (cond d (taking 2 0 0) None) None) (letters (top ∷ second ∷ kinds)) ≡ lettered (cond b (cond d (some kinds) none) none)
     by true true = refl
     by true false = refl
     by false d = refl
@@ -106,7 +107,7 @@ unfolding take_two
 two_joined other [] = refl
 two_joined other (top ∷ []) = by (eqb (letter top) 78) (same_kind Number top)
   where
-    by : (b d : Bool) → performed (cond b changes.NoChange changes.NoChange) (letters (top ∷ [])) ≡ lettered (gives other (cond d none none))
+    by : (b d : Bool) → performed (cond b None None) (letters (top ∷ [])) ≡ lettered (gives other (cond d none none))
     by true true = refl
     by true false = refl
     by false true = refl
@@ -114,7 +115,7 @@ two_joined other (top ∷ []) = by (eqb (letter top) 78) (same_kind Number top)
 two_joined other (top ∷ second ∷ kinds) = rw (sided top Number) (by (same_kind Number top) (same_kind Number second))
   where
     by : (b d : Bool)
-        → performed (cond b (cond d (changes.Change 2 (letter other) 0) changes.NoChange) changes.NoChange) (letters (top ∷ second ∷ kinds)) ≡ lettered (gives other (cond b (cond d (some kinds) none) none))
+        → performed (cond b (cond d (taking 2 (letter other) 0) None) None) (letters (top ∷ second ∷ kinds)) ≡ lettered (gives other (cond b (cond d (some kinds) none) none))
     by true true = rw (some_letter other) refl
     by true false = refl
     by false d = refl
@@ -124,19 +125,19 @@ unfolding create
 created [] = refl
 created (top ∷ []) = rw (sided top Calldata) (by (same_kind Calldata top))
   where
-    by : (b : Bool) → performed (cond b changes.NoChange changes.NoChange) (letters (top ∷ [])) ≡ lettered (cond b none none)
+    by : (b : Bool) → performed (cond b None None) (letters (top ∷ [])) ≡ lettered (cond b none none)
     by true = refl
     by false = refl
 created (top ∷ second ∷ []) = rw (sided top Calldata, sided second Number) (by (same_kind Calldata top) (same_kind Number second))
   where
-    by : (b d : Bool) → performed (cond b (cond d changes.NoChange changes.NoChange) changes.NoChange) (letters (top ∷ second ∷ [])) ≡ lettered (cond b (cond d none none) none)
+    by : (b d : Bool) → performed (cond b (cond d None None) None) (letters (top ∷ second ∷ [])) ≡ lettered (cond b (cond d none none) none)
     by true true = refl
     by true false = refl
     by false d = refl
 created (top ∷ second ∷ third ∷ kinds) =
     rw (sided top Calldata, sided second Number, sided third Text) (by (same_kind Calldata top) (same_kind Number second) (same_kind Text third))
   where
-    by : (b d f : Bool) → performed (cond b (cond d (cond f (changes.Change 3 0 0) changes.NoChange) changes.NoChange) changes.NoChange) (letters (top ∷ second ∷ third ∷ kinds))
+    by : (b d f : Bool) → performed (cond b (cond d (cond f (taking 3 0 0) None) None) None) (letters (top ∷ second ∷ third ∷ kinds))
         ≡ lettered (cond b (cond d (cond f (some kinds) none) none) none)
     by true true true = refl
     by true true false = refl
@@ -149,7 +150,7 @@ compared [] = refl
 compared (top ∷ []) = refl
 compared (top ∷ second ∷ kinds) = rw (some_letter second) (by (same_kind top second))
   where
-    by : (b : Bool) → performed (cond b (changes.Change 2 66 0) changes.NoChange) (letters (top ∷ second ∷ kinds)) ≡ lettered (cond b (some (Boolean ∷ kinds)) none)
+    by : (b : Bool) → performed (cond b (taking 2 66 0) None) (letters (top ∷ second ∷ kinds)) ≡ lettered (cond b (some (Boolean ∷ kinds)) none)
     by true = refl
     by false = refl
 
@@ -172,7 +173,7 @@ vector_changed (top ∷ second ∷ third ∷ kinds) =
   where
     by : (b d f : Bool) → same_kind third Text ≡ f → (g : Bool) → same_kind third Numbers ≡ g
         → performed
-        (cond f (cond b (cond d (changes.Change 2 0 0) changes.NoChange) changes.NoChange) (cond g (cond b (cond d (changes.Change 2 0 0) changes.NoChange) changes.NoChange) changes.NoChange))
+        (cond f (cond b (cond d (taking 2 0 0) None) None) (cond g (cond b (cond d (taking 2 0 0) None) None) None))
         (letters (top ∷ second ∷ third ∷ kinds))
         ≡ lettered (and_then (cond b (cond d (some (third ∷ kinds)) none) none) keeps_vector)
     by true true true e g h = rw e refl
@@ -201,7 +202,7 @@ unfolding move_kinds exchanged
 dropped [] = refl
 dropped (top ∷ kinds) = rw (some_letter top) refl
 
-roomy : (b : Bool) (change : Change) (kinds : List Kind) (result : Option (List Kind)) → Does change kinds result → Does (cond b change changes.NoChange) kinds (cond b result none)
+roomy : (b : Bool) (change : prelude.Option Change) (kinds : List Kind) (result : Option (List Kind)) → Does change kinds result → Does (cond b change None) kinds (cond b result none)
 roomy true change kinds result e = e
 roomy false change kinds result e = refl
 

@@ -1,6 +1,6 @@
 -- The jumps of a program whose labels are noted: the code's test of a jump, and the loop over all elements.
 use Prim.Native.Nat.{ℕ, ◌+◌, ◌*◌, ◌-◌, ◌≤◌, ◌<◌}
-use mathlib.Core.Path.{◌≡◌, refl, sym, ◌∙◌, ap₂, subst}
+use mathlib.Core.Path.{◌≡◌, refl, sym, ◌∙◌, ap, ap₂, subst}
 use mathlib.Core.Bool.{Bool, true, false, cond, false≢true, true≢false}
 use mathlib.Core.List.{List, [], ◌∷◌}
 use mathlib.Core.Option.{some}
@@ -20,14 +20,12 @@ use Rattle.labels.proofs.Comparison.{letters_equal}
 use Rattle.labels.proofs.Ways.{cond_true, cond_false, further, no_back, snoc, fits, reached_once, through}
 use Rattle.labels.proofs.Exactly.{is_answer}
 use Rattle.labels.proofs.Refused.{between}
-use Rattle.admission.specs.declared.elements.Found.{Found}
-use Rattle.admission.specs.declared.elements.Found.TheVariants.{Whole, Cut}
-use Rattle.admission.specs.declared.JumpsResult.TheVariants.{AllRight, WrongAt}
-use Rattle.admission.specs.Found.{found}
+use Rattle.admission.specs.Found.{whole, found}
 use Rattle.admission.specs.Nodes.{stacked, Kept}
 use Rattle.admission.specs.Noted.{LoopAt, Opens, no_loop, one_loop, two_loops, Noted, Tells, nothing, this, Jumps, all_right, first_wrong}
 use Rattle.admission.specs.Jumps.{same_label, right_jump}
 use Rattle.admission.proofs.Turns.{tells_held}
+use Rattle.std.specs.Prelude.{Ok, Err, None, Option}
 
 -- the test by the nodes that the code reads
 pub by_nodes : (cells nodes loops : List ℕ) (place other x y : ℕ) → (get_or nodes place 0 ≡ 0 → ⊥) → get_or loops place 0 ≡ get_or loops other 0 → x ≡ get_or nodes place 0 - 1 → y ≡ get_or nodes other 0 - 1
@@ -134,19 +132,18 @@ module _ (code cells nodes loops : List ℕ) (tells : (place : ℕ) → Tells co
   pub looking : Looking code 0
   looking = record { now = empty; reached = here; inside = omega arith; right = λ place less. absurd (omega arith) }
 
-  pub looked : (at : ℕ) → Looking code at → length code ≤ at → Jumps code AllRight
+  pub looked : (at : ℕ) → Looking code at → length code ≤ at → Jumps code (Ok tt)
   looked at k end = all_right λ place j. k.right place (omega (arith, j.inside)) j
 
-  whole_found : (at next : ℕ) (e : Element) → found code at ≡ Whole e next → (element code at ≡ e) × (next ≡ element_end code at)
+  whole_found : (at next : ℕ) (e : Element) → found code at ≡ whole e next → (element code at ≡ e) × (next ≡ element_end code at)
   unfolding found element
   whole_found at next e is = by (leb (element_end code at) (length code)) is
     where
-      by : (b : Bool) → cond b (Whole (whole_element code at (get_or code at 0)) (element_end code at)) Cut ≡ Whole e next
+      by : (b : Bool) → cond b (whole (whole_element code at (get_or code at 0)) (element_end code at)) None ≡ whole e next
           → (cond b (whole_element code at (get_or code at 0)) NoRule ≡ e) × (next ≡ element_end code at)
       by true f =
-          let elements : whole_element code at (get_or code at 0) ≡ e = cc in
-          let places : next ≡ element_end code at = cc in
-          (elements, places)
+          let pair : ◌≡◌ {A = Element × ℕ} (whole_element code at (get_or code at 0), element_end code at) (e, next) = cc in
+          (ap (λ q. q.0) pair, sym (ap (λ q. q.1) pair))
       by false f = absurd (let z : ◌≡◌ {A = ℕ} 0 1 = cc in omega arith)
 
   module _ (ended : Ended code) {at : ℕ} (k : Looking code at) (inside : at < length code) where
@@ -154,16 +151,16 @@ module _ (code cells nodes loops : List ℕ) (tells : (place : ℕ) → Tells co
     ruled = is_answer (next_label code at k.now) (between code ended.reached k.reached inside)
 
     -- no element is cut
-    pub not_cut : {result : Found} → result ≡ found code at → result ≡ Cut → Jumps code (WrongAt at)
+    pub not_cut : {result : Option (Element × ℕ)} → result ≡ found code at → result ≡ None → Jumps code (Err at)
     unfolding found
     not_cut {result} e f =
         absurd (by (leb (element_end code at) (length code)) (le-leb (element_end code at) (length code) (fits code at k.now ruled.1)) (sym e ∙ f))
       where
-        by : (b : Bool) → b ≡ true → cond b (Whole (whole_element code at (get_or code at 0)) (element_end code at)) Cut ≡ Cut → ⊥
+        by : (b : Bool) → b ≡ true → cond b (whole (whole_element code at (get_or code at 0)) (element_end code at)) None ≡ None → ⊥
         by true t x = absurd (let z : ◌≡◌ {A = ℕ} 0 1 = cc in omega arith)
         by false t x = false≢true t
 
-    module _ {result : Found} {e : Element} {next : ℕ} (is : result ≡ found code at) (whole : result ≡ Whole e next) where
+    module _ {result : Option (Element × ℕ)} {e : Element} {next : ℕ} (is : result ≡ found code at) (whole : result ≡ whole e next) where
       here_found : (element code at ≡ e) × (next ≡ element_end code at)
       here_found = whole_found at next e (sym is ∙ whole)
 
@@ -171,11 +168,11 @@ module _ (code cells nodes loops : List ℕ) (tells : (place : ℕ) → Tells co
       behind = subst (λ z. Reached code z ruled.0) (sym here_found.1) (snoc code k.reached ruled.1)
 
       -- a jump that fails the test
-      pub wrong_here : right_jump cells nodes loops e next ≡ false → Jumps code (WrongAt at)
+      pub wrong_here : right_jump cells nodes loops e next ≡ false → Jumps code (Err at)
       unfolding right_jump
       wrong_here test = by e here_found.0 test
         where
-          by : (x : Element) → element code at ≡ x → right_jump cells nodes loops x next ≡ false → Jumps code (WrongAt at)
+          by : (x : Element) → element code at ≡ x → right_jump cells nodes loops x next ≡ false → Jumps code (Err at)
           by NoRule ex t = absurd (true≢false t)
           by (Kinds exchange) ex t = absurd (true≢false t)
           by Do ex t = absurd (true≢false t)

@@ -5,3 +5,4 @@ pub mod Turns
 pub mod Landings
 pub mod Ending
 pub mod Reach
+pub mod Notes

@@ -14,11 +14,10 @@ use Rattle.labels.specs.declared.Element.{Element}
 use Rattle.labels.specs.declared.Element.TheVariants.{NoRule, Kinds, Do, Loop, LoopIndex, JumpIfFalse}
 use Rattle.labels.specs.Labels.{letters, Open, opened, label, and_then, kinds_after, loops_after, bounded}
 use Rattle.labels.proofs.Ways.{cond_true, cond_false}
-use Rattle.admission.specs.declared.LoopsResult.{LoopsResult}
-use Rattle.admission.specs.declared.LoopsResult.TheVariants.{NoLoops, Loops}
 use Rattle.admission.specs.Nodes.{stacked}
 use Rattle.admission.specs.Sweep.{word_after}
 use Rattle.admission.specs.Noted.{LoopAt, Opens, no_loop, one_loop, two_loops}
+use Rattle.std.specs.Prelude.{Some, None, Option}
 
 -- the open loops behind an element: those of before, or one more, whose DO left these kinds
 pub data Later (cells nodes : List ℕ) (at next word : ℕ) (left : List Kind) (loops : List Open) : Type 0 where
@@ -27,10 +26,10 @@ pub data Later (cells nodes : List ℕ) (at next word : ℕ) (left : List Kind) 
       → Later cells nodes at next word left loops
 
 -- what the code's answer says of the rule
-pub data Told (cells nodes : List ℕ) (element : Element) (at next : ℕ) (left : List Kind) (loops : List Open) : LoopsResult → Type 0 where
-  cannot : and_then (loops_after element next left loops) (bounded left) ≡ none → Told cells nodes element at next left loops NoLoops
+pub data Told (cells nodes : List ℕ) (element : Element) (at next : ℕ) (left : List Kind) (loops : List Open) : Option ℕ → Type 0 where
+  cannot : and_then (loops_after element next left loops) (bounded left) ≡ none → Told cells nodes element at next left loops None
   can : {word : ℕ} {others : List Open} → loops_after element next left loops ≡ some others → length others ≤ 2 → Later cells nodes at next word left others
-      → Told cells nodes element at next left loops (Loops word)
+      → Told cells nodes element at next left loops (Some word)
 
 pub few : {cells nodes : List ℕ} {at word : ℕ} {loops : List Open} → Opens cells nodes at word loops → length loops ≤ 2
 few (no_loop e) = omega arith
@@ -49,7 +48,7 @@ third left loops many = by (leb (length left) 1000) (leb (length loops) 2) (lt-l
 
 module _ (cells nodes : List ℕ) (at next node word : ℕ) (kinds left : List Kind) (below : at < next) (small : next < 65536) (holds : stacked cells node ≡ letters kinds) where
   -- a test on the word that is decided
-  decided : {element : Element} {loops : List Open} (b : Bool) (d : Bool) (x y : LoopsResult) → b ≡ d → Told cells nodes element at next left loops (cond d x y) → Told cells nodes element at next left loops (cond b x y)
+  decided : {element : Element} {loops : List Open} (b : Bool) (d : Bool) (x y : Option ℕ) → b ≡ d → Told cells nodes element at next left loops (cond d x y) → Told cells nodes element at next left loops (cond b x y)
   decided {element} {loops} b d x y e t = subst (λ z. Told cells nodes element at next left loops (cond z x y)) (sym e) t
 
   opening : (loops : List Open) → Opens cells nodes at word loops → Told cells nodes Do at next left loops (word_after cells nodes Do next node word)
@@ -75,14 +74,14 @@ module _ (cells nodes : List ℕ) (at next node word : ℕ) (kinds left : List K
       decided (eqb (word % 65536) 0) false _ _ (ne_eqb (word % 65536) 0 (λ z. omega (arith, l.small, l.some_place)))
       (decided _ (same (letters left) (letters first)) _ _ (compared l (omega (arith, l.small)) f) (by (same (letters left) (letters first)) refl))
     where
-      by : (b : Bool) → same (letters left) (letters first) ≡ b → Told cells nodes Loop at next left (opened inner first ∷ []) (cond b (Loops (word / 65536)) NoLoops)
+      by : (b : Bool) → same (letters left) (letters first) ≡ b → Told cells nodes Loop at next left (opened inner first ∷ []) (cond b (Some (word / 65536)) None)
       by true t = can {word = word / 65536} (cond_true _ _ _ t) (omega arith) (kept (no_loop (omega (arith, l.small))))
       by false t = cannot (ap (λ o. and_then o (bounded left)) (cond_false _ _ _ t))
   closing (opened inner first ∷ opened outer second ∷ []) (two_loops e l m) f =
       decided (eqb (word % 65536) 0) false _ _ (ne_eqb (word % 65536) 0 (λ z. omega (arith, l.small, l.some_place)))
       (decided _ (same (letters left) (letters first)) _ _ (compared l (omega (arith, l.small)) f) (by (same (letters left) (letters first)) refl))
     where
-      by : (b : Bool) → same (letters left) (letters first) ≡ b → Told cells nodes Loop at next left (opened inner first ∷ opened outer second ∷ []) (cond b (Loops (word / 65536)) NoLoops)
+      by : (b : Bool) → same (letters left) (letters first) ≡ b → Told cells nodes Loop at next left (opened inner first ∷ opened outer second ∷ []) (cond b (Some (word / 65536)) None)
       by true t = can {word = word / 65536} (cond_true _ _ _ t) (omega arith) (kept (one_loop {inner = outer} {left = second} (omega (arith, l.small)) m))
       by false t = cannot (ap (λ o. and_then o (bounded left)) (cond_false _ _ _ t))
   closing (opened inner first ∷ (opened outer second ∷ (_ ∷ _))) x f = elim x [ ]

@@ -9,14 +9,12 @@ use lib.ListN.{length, get_or, get_or-eq_default}
 use borrow.Author.Tests.{le-leb, lt-leb, ltb-true, ltb-false}
 use Rattle.bytecode.specs.Opcodes.{PUSH_TASK_FIELD, T_GET_FIELD, T_SET_FIELD}
 use Rattle.bytecode.specs.Operands.{behind, extent, behind_by, extent_by, Follows}
-use Rattle.bytecode.specs.declared.Extent.{Extent}
-use Rattle.bytecode.specs.declared.Extent.TheVariants as extents
 use Rattle.bytecode.proofs.OperandRule.{by_table}
 use Rattle.labels.proofs.Ways.{cond_false}
 use Rattle.labels.proofs.Comparison.{and_right}
 use Rattle.labels.specs.Elements.{joined, element_end, whole_element}
-use Rattle.admission.specs.Found.{found, found_extent, found_by}
-use Rattle.admission.specs.declared.elements.Found.TheVariants.{Whole, Cut}
+use Rattle.admission.specs.Found.{whole, found, found_extent, found_by}
+use Rattle.std.specs.Prelude.{Some, None, Option}
 
 module _ (code : List ℕ) (at : ℕ) where
   -- a joined element is whole
@@ -30,29 +28,29 @@ module _ (code : List ℕ) (at : ℕ) where
           let past : get_or code (at + 2) 0 ≡ 0 = get_or-eq_default code 0 (ltb-false _ _ t) in
           absurd (false≢true (ap (λ x. eqb x T_GET_FIELD || eqb x T_SET_FIELD) (sym past) ∙ and_right (eqb (get_or code at 0) PUSH_TASK_FIELD) _ pair))
 
-  pub found_joined : joined code at ≡ true → Whole (whole_element code at (get_or code at 0)) (at + 3) ≡ found code at
+  pub found_joined : joined code at ≡ true → whole (whole_element code at (get_or code at 0)) (at + 3) ≡ found code at
   unfolding found element_end
   found_joined pair = simp (pair, le-leb _ _ (joined_whole pair))
 
-  pub found_next : {next : ℕ} → joined code at ≡ false → extent code at ≡ extents.Next next → Whole (whole_element code at (get_or code at 0)) next ≡ found code at
+  pub found_next : {next : ℕ} → joined code at ≡ false → extent code at ≡ Some next → whole (whole_element code at (get_or code at 0)) next ≡ found code at
   unfolding found element_end extent
   found_next {next} lone reach = simp lone (by (leb (behind code at) (length code)) reach)
     where
-      by : (b : Bool) → cond b (extents.Next (behind code at)) extents.Cut ≡ extents.Next next
-          → Whole (whole_element code at (get_or code at 0)) next ≡ cond b (Whole (whole_element code at (get_or code at 0)) (behind code at)) Cut
-      by true e = let same : behind code at ≡ next = cc in ap (Whole (whole_element code at (get_or code at 0))) (sym same)
+      by : (b : Bool) → cond b (Some (behind code at)) None ≡ Some next
+          → whole (whole_element code at (get_or code at 0)) next ≡ cond b (whole (whole_element code at (get_or code at 0)) (behind code at)) None
+      by true e = let same : behind code at ≡ next = cc in ap (whole (whole_element code at (get_or code at 0))) (sym same)
       by false e = absurd (let z : ◌≡◌ {A = ℕ} 0 1 = cc in omega arith)
 
-  pub found_cut : joined code at ≡ false → extent code at ≡ extents.Cut → Cut ≡ found code at
+  pub found_cut : joined code at ≡ false → extent code at ≡ None → None ≡ found code at
   unfolding found element_end extent
   found_cut lone reach = simp lone (by (leb (behind code at) (length code)) reach)
     where
-      by : (b : Bool) → cond b (extents.Next (behind code at)) extents.Cut ≡ extents.Cut → Cut ≡ cond b (Whole (whole_element code at (get_or code at 0)) (behind code at)) Cut
+      by : (b : Bool) → cond b (Some (behind code at)) None ≡ None → None ≡ cond b (whole (whole_element code at (get_or code at 0)) (behind code at)) None
       by true e = absurd (let z : ◌≡◌ {A = ℕ} 0 1 = cc in omega arith)
       by false e = refl
 
   -- past the code's end no element stands
-  pub found_past : (sizes : List ℕ) → length code ≤ at → Cut ≡ found_by sizes code at
+  pub found_past : (sizes : List ℕ) → length code ≤ at → None ≡ found_by sizes code at
   unfolding found_by joined extent_by behind_by found_extent
   found_past sizes past =
       let none : get_or code at 0 ≡ 0 = get_or-eq_default code 0 past in
@@ -60,14 +58,14 @@ module _ (code : List ℕ) (at : ℕ) where
       let over : length code < behind_by sizes code at = omega arith in
       sym
       (cond_false (joined code at) _ _ lone
-      ∙ ap (found_extent code at) (cond_false (leb (behind_by sizes code at) (length code)) (extents.Next (behind_by sizes code at)) extents.Cut (lt-leb _ _ over)))
+      ∙ ap (found_extent code at) (cond_false (leb (behind_by sizes code at) (length code)) (Some (behind_by sizes code at)) None (lt-leb _ _ over)))
 
   -- the table of operand sizes gives the element
   pub found_is : (sizes : List ℕ) → Follows sizes → get_or code at 0 < 256 → found_by sizes code at ≡ found code at
   unfolding found_by found_extent
-  found_is sizes follows byte = ap (λ e. cond (joined code at) (Whole (whole_element code at (get_or code at 0)) (at + 3)) (found_extent code at e)) (by_table sizes code at follows byte) ∙ by (joined code at) refl (extent code at) refl
+  found_is sizes follows byte = ap (λ e. cond (joined code at) (whole (whole_element code at (get_or code at 0)) (at + 3)) (found_extent code at e)) (by_table sizes code at follows byte) ∙ by (joined code at) refl (extent code at) refl
     where
-      by : (b : Bool) → joined code at ≡ b → (e : Extent) → extent code at ≡ e → cond b (Whole (whole_element code at (get_or code at 0)) (at + 3)) (found_extent code at e) ≡ found code at
+      by : (b : Bool) → joined code at ≡ b → (e : Option ℕ) → extent code at ≡ e → cond b (whole (whole_element code at (get_or code at 0)) (at + 3)) (found_extent code at e) ≡ found code at
       by true pair e reach = found_joined pair
-      by false lone (extents.Next next) reach = found_next lone reach
-      by false lone extents.Cut reach = found_cut lone reach
+      by false lone (Some next) reach = found_next lone reach
+      by false lone None reach = found_cut lone reach

@@ -18,22 +18,17 @@ use Rattle.labels.specs.Labels.{letter, letters, Open, opened, Label, label, kin
 use Rattle.labels.specs.Faults.{here, Reached, WithoutRule}
 use Rattle.labels.proofs.Ways.{cond_true, cond_false, further, snoc, no_back, fits, through}
 use Rattle.admission.specs.declared.elements.Change.{Change}
-use Rattle.admission.specs.declared.elements.Change.TheVariants as changes
-use Rattle.admission.specs.declared.LoopsResult.{LoopsResult}
-use Rattle.admission.specs.declared.LoopsResult.TheVariants.{NoLoops, Loops}
-use Rattle.admission.specs.declared.elements.Found.TheVariants.{Whole, Cut}
-use Rattle.admission.specs.declared.Plan.TheVariants as plans
 use Rattle.admission.specs.declared.Step.{Step}
-use Rattle.admission.specs.declared.Step.TheVariants.{Stuck, On}
-use Rattle.admission.specs.declared.SweepResult.TheVariants.{StuckAt, EndedWith}
-use Rattle.admission.specs.Found.{found}
-use Rattle.admission.specs.Changes.{element_change}
+use Rattle.admission.specs.Found.{whole, found}
+use Rattle.admission.specs.Changes.{taking, element_change}
 use Rattle.admission.specs.Nodes.{top, below, stacked, lowered, given_node, given_cells}
-use Rattle.admission.specs.Sweep.{word_after, count, height_after, plan_loops, plan_change, plan, noted_node, noted_cells, noted_nodes, Stepped, stepped, step_plan, step_found, step}
+use Rattle.admission.specs.Sweep.{word_after, count, height_after, plan_loops, plan_change, plan, noted_node, noted_cells, noted_nodes, Stance, stance, Stepped, stepped, step_plan, step_found, step}
 use Rattle.admission.specs.Noted.{LoopAt, Opens, no_loop, one_loop, two_loops, Noted, Tells, nothing, this, Standing, Fresh, Swept, stuck_at, ended}
 use Rattle.admission.proofs.Stacks.{stack_bottom, top_is, below_is, lowered_is, lowered_most, agree, given, given_stacked, given_before, given_length}
 use Rattle.admission.proofs.Exchanges.{performed, lettered, element_is}
 use Rattle.admission.proofs.OpenLoops.{Later, kept, fresh, Told, cannot, can, loops_told}
+use Rattle.std.specs.Prelude as prelude
+use Rattle.std.specs.Prelude.{Ok, Err, Some, None}
 
 -- a letter is a byte
 letter_small : (kind : Kind) → letter kind < 256
@@ -160,9 +155,9 @@ third_is (x ∷ []) = refl
 third_is (x ∷ y ∷ list) = refl
 
 -- what is known after an element
-abbrev pub Goes : ℕ → List ℕ → ℕ → Step → List ℕ → List ℕ → List ℕ → Type 0
-Goes places code at Stuck others marks words = WithoutRule code at
-Goes places code at (On next more rest) others marks words = (at < next) × Standing places code others marks words next more rest
+abbrev Goes : ℕ → List ℕ → ℕ → prelude.Option Stance → List ℕ → List ℕ → List ℕ → Type 0
+Goes places code at None others marks words = WithoutRule code at
+Goes places code at (Some there) others marks words = (at < there.at) × Standing places code others marks words there.at there.height there.free
 
 module _ (places : ℕ) (code cells nodes loops : List ℕ) (at height free : ℕ) (s : Standing places code cells nodes loops at height free) (inside : at < length code) (short : length code ≤ 65535) where
   abbrev goes : Stepped → Type 0
@@ -354,7 +349,7 @@ module _ (places : ℕ) (code cells nodes loops : List ℕ) (at height free : �
   -- an element whose rule on kinds is met
   changed : (e : Element) → element code at ≡ e → next ≤ length code → (left : List Kind) → kinds_after e kinds ≡ some left → (taken low high : ℕ)
       → letters left ≡ given high (given low (drop taken (letters kinds)))
-      → goes (step_plan cells nodes loops free next (plan_change cells nodes (get_or loops at 0) e next height node (changes.Change taken low high)))
+      → goes (step_plan cells nodes loops free next (plan_change cells nodes (get_or loops at 0) e next height node (taking taken low high)))
   unfolding plan_change plan_loops step_plan noted_cells noted_nodes noted_node
   changed e is whole left ke taken low high spelled =
       by (ltb 1000 (height_after height taken low high)) refl (word_after cells nodes e next node (get_or loops at 0))
@@ -366,11 +361,11 @@ module _ (places : ℕ) (code cells nodes loops : List ℕ) (at height free : �
       given_label : next_label code at s.now ≡ and_then (loops_after e next left (open_loops s.now)) (bounded left)
       given_label = ruled e is ∙ rule_by e next s.now ke
 
-      by : (b : Bool) → ltb 1000 (height_after height taken low high) ≡ b → (result : LoopsResult) → Told cells nodes e at next left (open_loops s.now) result
-          → goes (step_plan cells nodes loops free next (cond b plans.NoPlan (plan_loops (lowered taken cells node) low high (height_after height taken low high) result)))
+      by : (b : Bool) → ltb 1000 (height_after height taken low high) ≡ b → (result : prelude.Option ℕ) → Told cells nodes e at next left (open_loops s.now) result
+          → goes (step_plan cells nodes loops free next (cond b None (plan_loops (lowered taken cells node) low high (height_after height taken low high) result)))
       by true t result told = stuck (given_label ∙ too_high left (loops_after e next left (open_loops s.now)) (omega (arith, ltb-true 1000 (height_after height taken low high) t, tall)))
-      by false t NoLoops (cannot none_there) = stuck (given_label ∙ none_there)
-      by false t (Loops word) (can {others = list} le few later) =
+      by false t None (cannot none_there) = stuck (given_label ∙ none_there)
+      by false t (Some word) (can {others = list} le few later) =
           let most : length left ≤ 1000 = omega (arith, ltb-false 1000 (height_after height taken low high) t, tall) in
           (further code at, advance left list taken low high word whole (given_label ∙ ap (λ o. and_then o (bounded left)) le ∙ fits_label left list most few) spelled later most)
 
@@ -380,48 +375,60 @@ module _ (places : ℕ) (code cells nodes loops : List ℕ) (at height free : �
       subst (λ change. goes (step_plan cells nodes loops free next (plan_change cells nodes (get_or loops at 0) e next height node change))) (sym (tops e))
       (by (element_change e (length kinds) (get_or (letters kinds) 0 0) (get_or (letters kinds) 1 0) (get_or (letters kinds) 2 0)) (kinds_after e kinds) refl (element_is e kinds))
     where
-      by : (change : Change) (o : Option (List Kind)) → kinds_after e kinds ≡ o → performed change (letters kinds) ≡ lettered o
+      by : (change : prelude.Option Change) (o : Option (List Kind)) → kinds_after e kinds ≡ o → performed change (letters kinds) ≡ lettered o
           → goes (step_plan cells nodes loops free next (plan_change cells nodes (get_or loops at 0) e next height node change))
-      by changes.NoChange none oe pe = stuck (ruled e is ∙ rule_none e next s.now oe)
-      by changes.NoChange (some left) oe pe = absurd (let z : ◌≡◌ {A = ℕ} 0 1 = cc in omega arith)
-      by (changes.Change taken low high) none oe pe = absurd (let z : ◌≡◌ {A = ℕ} 0 1 = cc in omega arith)
-      by (changes.Change taken low high) (some left) oe pe = changed e is whole left oe taken low high (let f : letters left ≡ given high (given low (drop taken (letters kinds))) = cc in f)
+      by None none oe pe = stuck (ruled e is ∙ rule_none e next s.now oe)
+      by None (some left) oe pe = absurd (let z : ◌≡◌ {A = ℕ} 0 1 = cc in omega arith)
+      by (Some change) none oe pe = absurd (let z : ◌≡◌ {A = ℕ} 0 1 = cc in omega arith)
+      by (Some change) (some left) oe pe = changed e is whole left oe change.taken change.low change.top (let f : letters left ≡ given change.top (given change.low (drop change.taken (letters kinds))) = cc in f)
 
   pub turn : goes (step cells nodes loops code at height free)
   unfolding step step_found found element
   turn = by (leb next (length code)) refl
     where
-      by : (b : Bool) → leb next (length code) ≡ b → goes (step_found cells nodes loops at height free (cond b (Whole (whole_element code at (get_or code at 0)) next) Cut))
+      by : (b : Bool) → leb next (length code) ≡ b → goes (step_found cells nodes loops at height free (cond b (whole (whole_element code at (get_or code at 0)) next) None))
       by true t = planned (whole_element code at (get_or code at 0)) (cond_true (leb next (length code)) _ _ t) (leb-true _ _ t)
       by false t = stuck (ruled NoRule (cond_false (leb next (length code)) _ _ t) ∙ rule_cut next s.now)
 
   -- the same for what the code answered
-  pub turned : (answer : Step) (others marks words : List ℕ) → stepped answer others marks words ≡ step cells nodes loops code at height free → Goes places code at answer others marks words
+  turned : (answer : prelude.Option Step) (others marks words : List ℕ) → stepped answer others marks words ≡ step cells nodes loops code at height free → Goes places code at (stance answer) others marks words
   turned answer others marks words e = subst goes (sym e) turn
 
 module _ {places : ℕ} {code cells nodes loops : List ℕ} {at height free : ℕ} (s : Standing places code cells nodes loops at height free) (inside : at < length code) (short : length code ≤ 65535)
-    {answer : Step} {others marks words : List ℕ} (e : stepped answer others marks words ≡ step cells nodes loops code at height free) where
-  went : Goes places code at answer others marks words
-  went = turned places code cells nodes loops at height free s inside short answer others marks words e
+    {answer : prelude.Option Step} {others marks words : List ℕ} (e : stepped answer others marks words ≡ step cells nodes loops code at height free) where
+  went : {other : prelude.Option Step} → answer ≡ other → Goes places code at (stance other) others marks words
+  went is = subst (λ a. Goes places code at (stance a) others marks words) is (turned places code cells nodes loops at height free s inside short answer others marks words e)
 
-  pub stuck_here : answer ≡ Stuck → Swept code others marks words (StuckAt at)
-  stuck_here is = stuck_at (subst (λ a. Goes places code at a others marks words) is went)
+  pub stuck_here : answer ≡ None → Swept code others marks words (Err at)
+  stuck_here is = stuck_at (went is)
 
-  pub goes_on : {next more rest : ℕ} → answer ≡ On next more rest → Standing places code others marks words next more rest
-  goes_on is = (subst (λ a. Goes places code at a others marks words) is went).1
+  pub goes_on : {there : Step} → answer ≡ Some there → Standing places code others marks words there.at there.height there.free
+  goes_on is = (went is).1
 
-  pub goes_far : {next more rest : ℕ} → answer ≡ On next more rest → at < next
-  goes_far is = (subst (λ a. Goes places code at a others marks words) is went).0
+  pub goes_far : {there : Step} → answer ≡ Some there → at < there.at
+  goes_far is = (went is).0
+
+-- an element that is found ends behind its place, inside the code
+pub found_inside : (code : List ℕ) (at : ℕ) {next : ℕ} {element : Element} → Some (element, next) ≡ found code at → (at < next) × (next ≤ length code)
+unfolding found
+found_inside code at {next} {element} e = by (leb (element_end code at) (length code)) refl e
+  where
+    by : (b : Bool) → leb (element_end code at) (length code) ≡ b → whole element next ≡ cond b (whole (whole_element code at (get_or code at 0)) (element_end code at)) None → (at < next) × (next ≤ length code)
+    by true t f =
+        let pair : ◌≡◌ {A = Element × ℕ} (element, next) (whole_element code at (get_or code at 0), element_end code at) = cc in
+        let same : next ≡ element_end code at = ap (λ q. q.1) pair in
+        (omega (arith, same, further code at), omega (arith, same, leb-true _ _ t))
+    by false t f = absurd (let z : ◌≡◌ {A = ℕ} 0 1 = cc in omega arith)
 
 -- the sweep begins
-pub begun : (places : ℕ) (code cells nodes loops : List ℕ) → Fresh places code cells nodes loops → Standing places code cells (set nodes 0 1) loops 0 0 1
+pub begun : (places : ℕ) (code cells nodes loops : List ℕ) → Fresh places code cells nodes loops → Standing places code cells (set nodes 0 1) (set loops 0 0) 0 0 1
 begun places code cells nodes loops f =
     let mark : get_or (set nodes 0 1) 0 0 ≡ 1 = get_or-set_same nodes 0 1 0 (omega (arith, f.nodes_size, f.enough)) in
     let none_there : stacked cells (get_or (set nodes 0 1) 0 0 - 1) ≡ [] = ap (stacked cells) (let e : get_or (set nodes 0 1) 0 0 - 1 ≡ 0 = omega (arith, mark) in e) ∙ stack_bottom cells in
     record {
       now = empty;
       reached = here;
-      noted = record { seen = omega (arith, mark); kinds = none_there; opens = no_loop f.no_loops };
+      noted = record { seen = omega (arith, mark); kinds = none_there; opens = no_loop (get_or-set_same loops 0 0 0 (omega (arith, f.loops_size, f.enough))) };
       high = refl;
       most = omega arith;
       inside = omega arith;
@@ -432,7 +439,7 @@ begun places code cells nodes loops f =
       enough = f.enough;
       cells_size = f.cells_size;
       nodes_size = length-set nodes 0 1 ∙ f.nodes_size;
-      loops_size = f.loops_size;
+      loops_size = length-set loops 0 0 ∙ f.loops_size;
     }
   where
     marked : (place : ℕ) → get_or (set nodes 0 1) place 0 ≤ 1
@@ -443,7 +450,7 @@ begun places code cells nodes loops f =
         by false e = omega (arith, get_or-set_other nodes 0 place 1 0 (eqb-false place 0 e), f.unseen place)
 
 -- the sweep ends
-pub done : (places : ℕ) (code cells nodes loops : List ℕ) (at height free : ℕ) → Standing places code cells nodes loops at height free → length code ≤ at → Swept code cells nodes loops (EndedWith height)
+pub done : (places : ℕ) (code cells nodes loops : List ℕ) (at height free : ℕ) → Standing places code cells nodes loops at height free → length code ≤ at → Swept code cells nodes loops (Ok height)
 done places code cells nodes loops at height free s end =
     let is : at ≡ length code = omega (arith, s.inside) in
     ended (record { last = s.now; reached = subst (λ z. Reached code z s.now) is s.reached }) s.high s.most tells

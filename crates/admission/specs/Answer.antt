@@ -1,11 +1,10 @@
 -- What the check answers, and the kinds that it writes.
-use Rattle.std.specs.Prelude.{ℕ, zero, suc, ◌%◌, ◌≡◌, List, reverse, length, get_or, set}
+use Rattle.std.specs.Prelude.{ℕ, zero, suc, ◌%◌, ◌≡◌, List, reverse, length, get_or, set, Ok, Err, Result}
 use Rattle.std.proofs.lemmas.List.Edits.{sets}
 use Rattle.labels.specs.Labels.{letters}
 use Rattle.labels.specs.Check.{Verdict, admitted, refused}
-use Rattle.admission.specs.declared.Admission.{Admission}
-use Rattle.admission.specs.declared.Admission.TheVariants.{Admitted, Refused}
 use Rattle.admission.specs.Nodes.{top, below}
+use Rattle.errors.specs.declared.Refusal.{Refusal}
 
 -- an array of so many zeros
 pub record Zeros (size : ℕ) (numbers : List ℕ) : Type 0 where
@@ -19,13 +18,13 @@ written (suc left) cells node kinds = written left cells (below cells node) (set
 
 -- the answer, and the buffer for the kinds
 pub record Answer : Type 0 where
-  pub admission : Admission
+  pub admission : Result ℕ Refusal
   pub kinds : List ℕ
 
-abbrev pub answer : Admission → List ℕ → Answer
+abbrev pub answer : Result ℕ Refusal → List ℕ → Answer
 answer admission kinds = record { admission = admission; kinds = kinds }
 
 -- admitted: the number of kinds, and their letters at the buffer's head, bottom first; refused: the buffer as it was
 unfoldable pub answered : Verdict → List ℕ → Answer
-answered (admitted kinds) buffer = answer (Admitted (length kinds)) (sets buffer 0 (letters (reverse kinds)))
-answered (refused refusal) buffer = answer (Refused refusal) buffer
+answered (admitted kinds) buffer = answer (Ok (length kinds)) (sets buffer 0 (letters (reverse kinds)))
+answered (refused refusal) buffer = answer (Err refusal) buffer

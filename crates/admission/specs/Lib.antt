@@ -1,4 +1,5 @@
 pub mod Nodes
+pub mod Marks
 pub mod Sweep
 pub mod Noted
 pub mod Jumps

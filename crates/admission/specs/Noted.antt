@@ -1,12 +1,8 @@
 -- How the arrays hold the labels of a program.
-use Rattle.std.specs.Prelude.{ℕ, ◌+◌, ◌*◌, ◌-◌, ◌≤◌, ◌<◌, ◌≡◌, List, [], ◌∷◌, length, get_or}
+use Rattle.std.specs.Prelude.{ℕ, ◌+◌, ◌*◌, ◌-◌, ◌≤◌, ◌<◌, ◌≡◌, List, [], ◌∷◌, length, get_or, Ok, Err, Result, ⊤}
 use Rattle.labels.specs.declared.Kind.{Kind}
 use Rattle.labels.specs.Labels.{letters, Open, opened, Label, kinds_of, open_loops}
 use Rattle.labels.specs.Faults.{Reached, WithoutRule, WrongJump, Ended}
-use Rattle.admission.specs.declared.SweepResult.{SweepResult}
-use Rattle.admission.specs.declared.SweepResult.TheVariants.{StuckAt, EndedWith}
-use Rattle.admission.specs.declared.JumpsResult.{JumpsResult}
-use Rattle.admission.specs.declared.JumpsResult.TheVariants.{AllRight, WrongAt}
 use Rattle.admission.specs.Nodes.{stacked}
 
 -- a loop that is open at `at`, by the place behind its DO: the kinds that the DO left are that place's
@@ -61,12 +57,12 @@ pub record Fresh (places : ℕ) (code cells nodes loops : List ℕ) : Type 0 whe
   pub unseen : (place : ℕ) → get_or nodes place 0 ≡ 0
 
 -- what the sweep leaves: the first element without a rule, or the labels of all places, with so many kinds at the end
-pub data Swept (code cells nodes loops : List ℕ) : SweepResult → Type 0 where
-  stuck_at : {at : ℕ} → WithoutRule code at → Swept code cells nodes loops (StuckAt at)
+pub data Swept (code cells nodes loops : List ℕ) : Result ℕ ℕ → Type 0 where
+  stuck_at : {at : ℕ} → WithoutRule code at → Swept code cells nodes loops (Err at)
   ended : {height : ℕ} (last : Ended code) → height ≡ length (kinds_of last.last) → height ≤ 1000 → ((place : ℕ) → Tells code cells nodes loops place)
-      → Swept code cells nodes loops (EndedWith height)
+      → Swept code cells nodes loops (Ok height)
 
 -- what the jumps' test finds: no wrong jump, or the first
-pub data Jumps (code : List ℕ) : JumpsResult → Type 0 where
-  all_right : ((at : ℕ) → WrongJump code at → ⊥) → Jumps code AllRight
-  first_wrong : {at : ℕ} → WrongJump code at → ((earlier : ℕ) → earlier < at → WrongJump code earlier → ⊥) → Jumps code (WrongAt at)
+pub data Jumps (code : List ℕ) : Result ⊤ ℕ → Type 0 where
+  all_right : ((at : ℕ) → WrongJump code at → ⊥) → Jumps code (Ok tt)
+  first_wrong : {at : ℕ} → WrongJump code at → ((earlier : ℕ) → earlier < at → WrongJump code earlier → ⊥) → Jumps code (Err at)

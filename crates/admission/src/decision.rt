@@ -1,43 +1,23 @@
-// The decision on a program of 1 to 65,535 bytes: the sweep, the jumps, the end.
-ghost use Rattle.std.specs.Prelude.{◌≡◌, ◌≤◌, length};
-ghost use Rattle.bytecode.specs.Operands.{Follows};
+// The decision on a program: the sweep, the jumps, the end.
+ghost use Rattle.std.specs.Prelude.{◌≡◌, ◌*◌, ◌≤◌, ◌<◌, length, Ok};
 ghost use Rattle.labels.specs.Check.{admission};
+ghost use Rattle.admission.specs.Marks.{nodes_of, loops_of};
 ghost use Rattle.admission.specs.Noted.{Fresh, Swept};
 ghost use Rattle.admission.specs.Answer.{Zeros, written, answer, answered};
-ghost use Rattle.admission.specs.declared.SweepResult.TheVariants.{EndedWith};
 
+use crate::Program;
+use crate::finding::{Sizes, make_sizes};
 use crate::jumps::wrong_jump;
-use crate::nodes::{below, number_at, top};
-use crate::sweep::{node_at, sweep};
-use crate::{Admission, JumpsResult, SweepResult};
-use bytecode::extents::operand_sizes;
+use crate::marks::{Mark, loops_at, node_at, unmarked};
+use crate::nodes::{below, top};
+use crate::sweep::sweep;
 use errors::Refusal;
 
-// Two cells for each place of a program, the length included.
-fn new_cells() -> [u32; 131072]
-    ensures { Zeros 131072 result }
+// An array of zeros.
+fn zeros<const N: usize>() -> [u32; N]
+    ensures { Zeros N result }
 {
-    [0u32; 131072]
-}
-
-// A number for each place.
-fn new_places() -> [u32; 65536]
-    ensures { Zeros 65536 result }
-{
-    [0u32; 65536]
-}
-
-// The same for a program of at most 1,023 bytes: most are short, and zeros take time.
-fn few_cells() -> [u32; 2048]
-    ensures { Zeros 2048 result }
-{
-    [0u32; 2048]
-}
-
-fn few_places() -> [u32; 1024]
-    ensures { Zeros 1024 result }
-{
-    [0u32; 1024]
+    [0u32; N]
 }
 
 // The kinds from a node down, so many of them, written bottom first.
@@ -46,10 +26,8 @@ fn write_kinds(kinds: &mut [u8; 1000], cells: &[u32], node: usize, height: usize
     ensures { kinds.new ≡ written height cells.now node kinds.old }
 {
     let mut at = node;
-    let mut left = height;
-    while 0 < left {
-        left -= 1;
-        kinds[left] = (top(cells, at) % 256) as u8;
+    for place in (0..height).rev() {
+        kinds[place] = (top(cells, at) % 256) as u8;
         at = below(cells, at);
     }
 }
@@ -58,76 +36,56 @@ fn write_kinds(kinds: &mut [u8; 1000], cells: &[u32], node: usize, height: usize
 fn finish(
     kinds: &mut [u8; 1000],
     cells: &mut [u32],
-    nodes: &[u32],
-    loops: &[u32],
-    sizes: &[u8; 256],
-    program: &[u8],
+    marks: &[Mark],
+    sizes: &Sizes,
+    program: Program<'_>,
     height: usize,
-) -> Admission
-    requires { (1 ≤ length program.now) × (length program.now ≤ 65535) × Follows sizes.now × Swept program.now cells.old nodes.now loops.now (EndedWith height) }
-    ensures { answer result kinds.new ≡ answered (admission program.now) kinds.old }
+) -> Result<usize, Refusal>
+    requires { Swept program.code.now cells.old (nodes_of marks.now) (loops_of marks.now) (Ok height) }
+    ensures { answer result kinds.new ≡ answered (admission program.entry.code.now) kinds.old }
 {
-    match wrong_jump(cells, nodes, loops, sizes, program) {
-        JumpsResult::WrongAt(at) => Admission::Refused(Refusal::NotAdmitted(at)),
-        JumpsResult::AllRight => {
-            if number_at(loops, program.len()) != 0 {
-                return Admission::Refused(Refusal::NotAdmitted(program.len()));
-            }
-            write_kinds(kinds, &*cells, node_at(nodes, program.len()), height);
-            Admission::Admitted(height)
-        }
+    wrong_jump(cells, marks, sizes, program.code).map_err(Refusal::NotAdmitted)?;
+    if loops_at(marks, program.code.len()) != 0 {
+        return Err(Refusal::NotAdmitted(program.code.len()));
     }
+    write_kinds(kinds, cells, node_at(marks, program.code.len()), height);
+    Ok(height)
 }
 
 // The answer on a program, over arrays in which nothing is noted.
 fn over(
     kinds: &mut [u8; 1000],
     cells: &mut [u32],
-    nodes: &mut [u32],
-    loops: &mut [u32],
-    program: &[u8],
-) -> Admission
-    requires { (1 ≤ length program.now) × (length program.now ≤ 65535) × Fresh (length loops.old) program.now cells.old nodes.old loops.old }
-    ensures { answer result kinds.new ≡ answered (admission program.now) kinds.old }
+    marks: &mut [Mark],
+    program: Program<'_>,
+) -> Result<usize, Refusal>
+    requires { Fresh (length (loops_of marks.old)) program.code.now cells.old (nodes_of marks.old) (loops_of marks.old) }
+    ensures { answer result kinds.new ≡ answered (admission program.entry.code.now) kinds.old }
 {
-    let sizes = operand_sizes();
-    match sweep(cells, nodes, loops, &sizes, program) {
-        SweepResult::StuckAt(at) => Admission::Refused(Refusal::NotAdmitted(at)),
-        SweepResult::EndedWith(height) => finish(
-            kinds, cells, &*nodes, &*loops, &sizes, program, height,
-        ),
+    let sizes = make_sizes();
+    let height = sweep(cells, marks, &sizes, program).map_err(Refusal::NotAdmitted)?;
+    finish(kinds, cells, marks, &sizes, program, height)
+}
+
+// The answer on a program, over local arrays: two cells and a mark for each place of the program, its length included.
+fn decide_in<const CELLS: usize, const PLACES: usize>(
+    kinds: &mut [u8; 1000],
+    program: Program<'_>,
+) -> Result<usize, Refusal>
+    requires { (length program.code.now < PLACES) × (PLACES ≤ 65536) × (CELLS ≡ 2 * PLACES) }
+    ensures { answer result kinds.new ≡ answered (admission program.entry.code.now) kinds.old }
+{
+    let mut cells = zeros::<CELLS>();
+    let mut marks = unmarked::<PLACES>();
+    over(kinds, &mut cells, &mut marks, program)
+}
+
+// The answer on a program. Most have at most 1,023 bytes, and zeros take time; for any other the arrays are 1 MB of the stack.
+pub(crate) fn decide(kinds: &mut [u8; 1000], program: Program<'_>) -> Result<usize, Refusal>
+    ensures { answer result kinds.new ≡ answered (admission program.entry.code.now) kinds.old }
+{
+    if program.code.len() <= 1023 {
+        return decide_in::<2048, 1024>(kinds, program);
     }
-}
-
-// The answer on a short program.
-fn decide_short(kinds: &mut [u8; 1000], program: &[u8]) -> Admission
-    requires { (1 ≤ length program.now) × (length program.now ≤ 1023) }
-    ensures { answer result kinds.new ≡ answered (admission program.now) kinds.old }
-{
-    let mut cells = few_cells();
-    let mut nodes = few_places();
-    let mut loops = few_places();
-    over(kinds, &mut cells, &mut nodes, &mut loops, program)
-}
-
-// The answer on any program. The arrays of the sweep are local: 1 MB of the stack.
-fn decide_any(kinds: &mut [u8; 1000], program: &[u8]) -> Admission
-    requires { (1 ≤ length program.now) × (length program.now ≤ 65535) }
-    ensures { answer result kinds.new ≡ answered (admission program.now) kinds.old }
-{
-    let mut cells = new_cells();
-    let mut nodes = new_places();
-    let mut loops = new_places();
-    over(kinds, &mut cells, &mut nodes, &mut loops, program)
-}
-
-// The answer on a program.
-pub(crate) fn decide(kinds: &mut [u8; 1000], program: &[u8]) -> Admission
-    requires { (1 ≤ length program.now) × (length program.now ≤ 65535) }
-    ensures { answer result kinds.new ≡ answered (admission program.now) kinds.old }
-{
-    if program.len() <= 1023 {
-        return decide_short(kinds, program);
-    }
-    decide_any(kinds, program)
+    decide_in::<131072, 65536>(kinds, program)
 }

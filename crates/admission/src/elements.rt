@@ -1,17 +1,9 @@
-// The elements of a program in code: what a place holds, and what an element makes of the kinds.
+// What an element of a program makes of the kinds, in code.
 
-use labels::Element;
-
-// The element at a place and the place behind it, or that the code's end cuts it.
+// A change of the kinds: so many are taken, then `low` and `top` are given as letters (0: nothing).
 #[derive(Drop)]
-pub enum Found {
-    Whole { element: Element, next: usize },
-    Cut,
-}
-
-// What an element makes of the kinds: so many are taken, then `low` and `top` are given as letters (0: nothing).
-#[derive(Drop)]
-pub enum Change {
-    NoChange,
-    Change { taken: usize, low: u32, top: u32 },
+pub struct Change {
+    pub taken: usize,
+    pub low: u32,
+    pub top: u32,
 }

@@ -3,18 +3,10 @@ ghost use Rattle.std.specs.Prelude.{◌≡◌, ◌+◌, ◌*◌, ◌-◌, ◌/�
 ghost use Rattle.slices.specs.Same.{same};
 ghost use Rattle.admission.specs.Nodes.{letter_of, top, below, stacked, lowered, Kept, replaced, cell_of, given_cells, given_node};
 
-// The number at a place, 0 past the end.
-pub(crate) fn number_at(numbers: &[u32], at: usize) -> u32
-    ensures { result ≡ get_or numbers.now at 0 }
-{
-    if at < numbers.len() {
-        return numbers[at];
-    }
-    0
-}
+use slices::get_or;
 
 // A number put at a place, nowhere past the end.
-pub(crate) fn put(numbers: &mut [u32], at: usize, number: u32)
+fn put(numbers: &mut [u32], at: usize, number: u32)
     ensures { numbers.new ≡ set numbers.old at number }
 {
     if at < numbers.len() {
@@ -38,7 +30,7 @@ fn letter_of(cell: u32, node: usize) -> u32
 pub(crate) fn top(cells: &[u32], node: usize) -> u32
     ensures { result ≡ top cells.now node }
 {
-    letter_of(number_at(cells, node), node)
+    letter_of(get_or(cells, node, 0), node)
 }
 
 // The node below a node.
@@ -49,31 +41,31 @@ pub(crate) fn below(cells: &[u32], node: usize) -> usize
     if top(cells, node) == 0 {
         return 0;
     }
-    (number_at(cells, node) / 256) as usize
+    (get_or(cells, node, 0) / 256) as usize
 }
 
 // The node below so many of the topmost kinds.
+#[tactic(auto, using(crate::proofs::Stacks::lowered_end))]
 pub(crate) fn lowered(cells: &[u32], node: usize, taken: usize) -> usize
     ensures { result ≡ lowered taken cells.now node }
 {
     let mut at = node;
-    let mut left = taken;
-    while 0 < left {
+    for _ in 0..taken {
         at = below(cells, at);
-        left -= 1;
     }
     at
 }
 
 // Whether two nodes hold the same kinds: both are walked down until they meet.
+#[tactic(auto, using(crate::proofs::Stacks::same_differ, crate::proofs::Stacks::same_end, crate::proofs::Stacks::same_less, crate::proofs::Stacks::same_turn, crate::proofs::Stacks::same_meet))]
 pub(crate) fn same(cells: &[u32], one: usize, other: usize) -> bool
     ensures { result ≡ same (stacked cells.now one) (stacked cells.now other) }
 {
     let mut left = one;
     let mut right = other;
     while left != right {
-        let one = number_at(cells, left);
-        let other = number_at(cells, right);
+        let one = get_or(cells, left, 0);
+        let other = get_or(cells, right, 0);
         let letter = letter_of(one, left);
         if letter != letter_of(other, right) {
             return false;
@@ -94,12 +86,13 @@ fn replace(cells: &mut [u32], left: usize, right: usize, one: u32, other: u32)
 {
     if one < other {
         put(cells, right, one);
-        return;
+    } else {
+        put(cells, left, other);
     }
-    put(cells, left, other);
 }
 
 // Two nodes that hold the same kinds are merged: on the way down, until they meet, both get the same cell.
+#[tactic(auto, using(crate::proofs::Stacks::merge_less, crate::proofs::Stacks::merge_kept, crate::proofs::Stacks::merge_alike))]
 fn merge(cells: &mut [u32], one: usize, other: usize)
     requires { stacked cells.old one ≡ stacked cells.old other }
     ensures { Kept cells.old cells.new }
@@ -107,8 +100,8 @@ fn merge(cells: &mut [u32], one: usize, other: usize)
     let mut left = one;
     let mut right = other;
     while left != right {
-        let one = number_at(&*cells, left);
-        let other = number_at(&*cells, right);
+        let one = get_or(cells, left, 0);
+        let other = get_or(cells, right, 0);
         if letter_of(one, left) == 0 {
             return;
         }
@@ -119,10 +112,11 @@ fn merge(cells: &mut [u32], one: usize, other: usize)
 }
 
 // Whether two nodes hold the same kinds. Then they are merged, so that no later walk goes their way again.
+#[tactic(auto, using(slices::proofs::Equality::same_equal))]
 pub(crate) fn compare_and_merge(cells: &mut [u32], one: usize, other: usize) -> bool
     ensures { (result ≡ same (stacked cells.old one) (stacked cells.old other)) × Kept cells.old cells.new }
 {
-    if !same(&*cells, one, other) {
+    if !same(cells, one, other) {
         return false;
     }
     merge(cells, one, other);

@@ -1,59 +1,32 @@
 // Reads programs from standard input, each behind its length, and prints for each whether it is admitted.
 #![tactic(auto)]
 
-ghost use Rattle.std.specs.Prelude.{◌+◌, ◌≤◌, ◌<◌, length};
-
 use std::io;
 use std::rt::Stdout;
-use text::LineResult;
 
-// Room for the programs.
+// Room for the programs. In a function of its own: where `main` itself makes it, the check runs out of stack.
 fn room() -> [u8; 524288] {
     [0u8; 524288]
-}
-
-// A byte as a size.
-fn wide(byte: u8) -> usize
-    ensures { result < 256 }
-{
-    byte as usize
-}
-
-// The four little-endian bytes at a place.
-fn size_at(input: &[u8], at: usize) -> usize
-    requires { at + 4 ≤ length input.now }
-    ensures { result < 4294967296 }
-{
-    wide(input[at])
-        + wide(input[at + 1]) * 256
-        + wide(input[at + 2]) * 65536
-        + wide(input[at + 3]) * 16777216
 }
 
 // The line on a program, printed.
 fn say(out: Stdout, program: &[u8]) {
     let mut line = [0u8; 1024];
-    match verdict::verdict_line(&mut line, program) {
-        LineResult::NoLine(_) => {}
-        LineResult::Line(length) => {
-            streams::write(out, slices::part(&line, 0, length));
-        }
+    if let Ok(length) = verdict::verdict_line(&mut line, program) {
+        streams::write(out, slices::part(&line, 0, length));
     }
 }
 
-// The programs follow each other to the end.
-fn run(out: Stdout, input: &[u8])
-    requires { length input.now ≤ 524288 }
-{
-    let mut at = 0;
-    while at + 4 <= input.len() {
-        let start = at + 4;
-        let end = start + size_at(input, at);
-        if input.len() < end {
+// The programs follow each other to the end, each behind the four bytes of its length, the lowest first.
+fn run(out: Stdout, input: &[u8]) {
+    let mut rest = input;
+    while let Some((size, behind)) = rest.split_first_chunk::<4>() {
+        let size = u32::from_le_bytes(*size) as usize;
+        let Some((program, next)) = behind.split_at_checked(size) else {
             return;
-        }
-        say(out, &input[start..end]);
-        at = end;
+        };
+        say(out, program);
+        rest = next;
     }
 }
 

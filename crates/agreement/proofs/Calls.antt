@@ -239,7 +239,7 @@ main_ready : (w : World) → Ready w → Ready (main_world w)
 main_ready w ready = record { is_sound = at_main_sound w ready.is_sound; bytes = ready.bytes; phase = ready.phase }
 
 -- what the machine at main shows is the Rust's machine with one frame at main and no loop open
-rests_at_main : (w : World) → w.machine.frames.main.entry.0 ≡ 0 → at_rest (main_world w) ≡ from_main (at_rest w)
+rests_at_main : (w : World) → w.machine.frames.first.entry.0 ≡ 0 → at_rest (main_world w) ≡ from_main (at_rest w)
 unfolding from_main view current last_two callers two_of
 rests_at_main w main = rw main
 
@@ -251,14 +251,14 @@ starts_as : (fuel : ℕ) (w : World) → Ready w → start fuel w ≡ rerun fuel
 starts_as fuel w ready = start_is_rerun fuel w (record { tested = ready.is_sound.tested; ends_lent = ready.is_sound.ends_lent }) ready.phase
 
 -- so a start answers the Rust's run from main
-pub start_told : (fuel : ℕ) (w : World) → Ready w → w.machine.frames.main.entry.0 ≡ 0 → call_comes Start fuel w ≡ false → Told (start fuel w) (loop.run fuel (from_main (at_rest w)))
+pub start_told : (fuel : ℕ) (w : World) → Ready w → w.machine.frames.first.entry.0 ≡ 0 → call_comes Start fuel w ≡ false → Told (start fuel w) (loop.run fuel (from_main (at_rest w)))
 start_told fuel w ready main common =
     subst (λ (r : Reported). Told r (loop.run fuel (from_main (at_rest w)))) (sym (starts_as fuel w ready))
     (subst (λ (vm : VM). Told (rerun fuel (main_world w)) (loop.run fuel vm)) (rests_at_main w main)
     (rerun_told fuel (main_world w) (main_ready w ready) (sym (comes_at_main fuel w ready) ∙ common)))
 
 -- after a run that ended in main with no loop open the Rust begins a start and a rerun with one machine
-pub same_in_main : (w : World) → w.machine.frames.count ≡ 1 → w.machine.frames.main ≡ main_frame → w.machine.loops.count ≡ 0 → from_main (at_rest w) ≡ at_rest w
+pub same_in_main : (w : World) → w.machine.frames.count ≡ 1 → w.machine.frames.first ≡ main_frame → w.machine.loops.count ≡ 0 → from_main (at_rest w) ≡ at_rest w
 unfolding from_main view current last_two callers two_of
 same_in_main w one main none = rw (one, main, none)
 

@@ -22,7 +22,6 @@ use Rattle.image.specs.Table.{Loading, load_slot, load_tasks, next_reference}
 use Rattle.table_image.specs.Loops.{load_record, load_records, record_placed, instructions_of}
 use Rattle.table_image.specs.Tables.{loading, in_use}
 use Rattle.pools.specs.Pool.{Pooled, pooled, new_entry, has_room, interned, entry_of, entries_of}
-use Rattle.pools.specs.declared.InternResult.TheVariants.{NotInterned}
 use Rattle.pools.proofs.Laws.{length_entries, joined, still_sound, same_entries}
 use Rattle.storage.specs.declared.Task.{Task}
 use Rattle.storage.specs.Tasks.{blank, new_task}
@@ -31,8 +30,6 @@ use Rattle.roundtrips.proofs.Loads.{Room}
 use Rattle.roundtrips.proofs.LoadSave.{load_sound}
 use Rattle.table_image.proofs.Fits.{Fits, fits, records_told}
 use Rattle.table_image.specs.Creation.{creation_tests}
-use Rattle.table_image.specs.declared.creation.CreationResult.{CreationResult}
-use Rattle.table_image.specs.declared.creation.CreationResult.TheVariants.{Fit, Unfit}
 use Rattle.machine.specs.declared.Machine.{Machine}
 use Rattle.inlinevec.specs.Stacks.{two_of, last_two}
 use Rattle.machine.specs.Machines.{current, with_pool}
@@ -40,10 +37,8 @@ use Rattle.machine.specs.World.{World, world, place}
 use Rattle.machine.specs.Calls.{may_start}
 use Rattle.machine.specs.Creation.{new_machine, create, Made, made}
 use Rattle.machine.specs.History.{new_world}
-use Rattle.mechanism.specs.Creating.{with_program, unfit, prepare_fit, prepare, create_as, loaded_from, create_by_parts}
+use Rattle.mechanism.specs.Creating.{with_program, prepare_fit, prepare, create_as, loaded_from, create_by_parts, create_ready}
 use Rattle.mechanism.proofs.Creates.{create_is}
-use Rattle.machine.specs.declared.CreateResult.{CreateResult}
-use Rattle.machine.specs.declared.CreateResult.TheVariants.{Created, NotCreated}
 use Rattle.laws.specs.Creatable.{pool_bytes, NotCreatable, other_slots, no_program, long_program, bad_image}
 use Rattle.laws.specs.Creatable as not-creatable
 use Rattle.laws.proofs.Creation.{none_joined, create_sound, create_new}
@@ -65,6 +60,8 @@ use Rattle.agreement.proofs.Store.{bytes_taken}
 use Rattle.agreement.proofs.Frames.{total_more, bytes_sets, when_room}
 use Rattle.agreement.proofs.Slots.{Beyond, more_in, blank_none, new_held, new_living}
 use Rattle.agreement.proofs.Calls.{Ready}
+use Rattle.std.specs.Prelude.{Ok, Err, Result}
+use Rattle.table_image.specs.declared.creation.Fit.{Fit}
 
 -- ---- the tasks, one after another
 
@@ -171,7 +168,7 @@ bytes_interned : (pool ends : List ℕ) (bytes entries : ℕ) (calldata : List �
 unfolding interned
 bytes_interned pool ends bytes entries calldata all new = by (has_room (length pool) bytes entries (length calldata))
   where
-    by : (b : Bool) → Bytes (cond b (pooled (new_entry entries (bytes + length calldata)) (sets pool bytes calldata) (set ends entries (bytes + length calldata))) (pooled (NotInterned PoolFull) pool ends)).pool
+    by : (b : Bool) → Bytes (cond b (pooled (new_entry entries (bytes + length calldata)) (sets pool bytes calldata) (set ends entries (bytes + length calldata))) (pooled (Err PoolFull) pool ends)).pool
     by true = bytes_sets bytes all new
     by false = all
 
@@ -195,19 +192,19 @@ loaded_all table pool ends image program count = load_records count image 14 (wi
 data Creates (table : List Task) (pool ends image program : List ℕ) : Made → Type 0 where
   creates : (next_id count len : ℕ) → Fits (length table) (length pool) (length program) image next_id count len
       → Creates table pool ends image program (loaded_from (new_machine (0 + length program) 1 next_id len) (loaded_all table pool ends image program count))
-  not_creates : (number : Refusal) (t : List Task) (p e : List ℕ) → Creates table pool ends image program (made (NotCreated number) t p e)
+  not_creates : (number : Refusal) (t : List Task) (p e : List ℕ) → Creates table pool ends image program (made (Err number) t p e)
 
 module _ (table : List Task) (pool ends image program : List ℕ) where
   first_room : (next_id count len : ℕ) → Fits (length table) (length pool) (length program) image next_id count len → has_room (length pool) 0 0 (length program) ≡ true
   unfolding has_room
   first_room next_id count len f = rw (le-leb (0 + length program) (min 65536 (length pool)) (omega (arith, f.room.small, f.room.there)))
 
-  by_tests : (result : CreationResult) → creation_tests (length table) (length pool) (length program) image ≡ result → Creates table pool ends image program (create_as table image (prepare_fit pool ends program result))
-  unfolding create_as prepare_fit with_program unfit
-  by_tests (Fit next_id count len) e =
-      let f = fits (length table) (length pool) (length program) image next_id.0 count len e in
-      rw (when_room pool ends 0 0 program (first_room next_id.0 count len f)) (creates next_id.0 count len f)
-  by_tests (Unfit number) e = not_creates number table pool ends
+  by_tests : (result : Result Fit Refusal) → creation_tests (length table) (length pool) (length program) image ≡ result → Creates table pool ends image program (create_as table image (prepare_fit pool ends program result))
+  unfolding create_ready prepare_fit with_program
+  by_tests (Ok fit) e =
+      let f = fits (length table) (length pool) (length program) image fit.next_id.0 fit.count fit.s_len e in
+      rw (when_room pool ends 0 0 program (first_room fit.next_id.0 fit.count fit.s_len f)) (creates fit.next_id.0 fit.count fit.s_len f)
+  by_tests (Err number) e = not_creates number table pool ends
 
   creating : Creates table pool ends image program (create table pool ends image program)
   unfolding create_by_parts prepare
@@ -305,16 +302,16 @@ record Core (bytes program : List ℕ) (w : World) : Type 0 where
   init_is : init program (rust.stored found) ≡ ok (at_rest w)
   pool_bytes : Bytes w.pool
 
-machine_of : Machine → CreateResult → Machine
-machine_of other (Created machine) = machine
-machine_of other (NotCreated number) = other
+machine_of : Machine → Result Machine Refusal → Machine
+machine_of other (Ok machine) = machine
+machine_of other (Err number) = other
 
-is_created : CreateResult → ℕ
-is_created (Created machine) = 1
-is_created (NotCreated number) = 0
+is_created : Result Machine Refusal → ℕ
+is_created (Ok machine) = 1
+is_created (Err number) = 0
 
 module _ (table : List Task) (pool ends bytes program : List ℕ) (lent : length ends ≡ 1024) (pool-all : Bytes pool) (image-all : Bytes bytes) (program-all : Bytes program) (stack memory save : List ℕ) where
-  core : (machine : Machine) (m : Made) → Creates table pool ends bytes program m → m.answer ≡ Created machine → Core bytes program (world machine m.table stack memory m.pool m.ends save)
+  core : (machine : Machine) (m : Made) → Creates table pool ends bytes program m → m.answer ≡ Ok machine → Core bytes program (world machine m.table stack memory m.pool m.ends save)
   unfolding machine_of is_created
   core machine _ (creates next_id count len f) e =
       subst (λ (x : Machine). Core bytes program (world x (loaded_all table pool ends bytes program count).table stack memory (loaded_all table pool ends bytes program count).pool (loaded_all table pool ends bytes program count).ends save))
@@ -328,7 +325,7 @@ module _ (table : List Task) (pool ends bytes program : List ℕ) (lent : length
   core machine _ (not_creates number t p e) is = absurd (let z : ◌≡◌ {A = ℕ} 0 1 = ap is_created is in omega arith)
 
   -- a created machine, with any stack of 1,000 words, any memory and any save buffer
-  pub created_agrees : (machine : Machine) → (create table pool ends bytes program).answer ≡ Created machine → length stack ≡ 1000
+  pub created_agrees : (machine : Machine) → (create table pool ends bytes program).answer ≡ Ok machine → length stack ≡ 1000
       → FromCreation bytes program (world machine (create table pool ends bytes program).table stack memory (create table pool ends bytes program).pool (create table pool ends bytes program).ends save)
   unfolding may_start
   created_agrees machine is long =
@@ -391,7 +388,7 @@ module _ (table : List Task) (pool ends image program : List ℕ) (lent : length
   abbrev creation : Made
   creation = create table pool ends image program
 
-  refused_alike : (number : Refusal) → creation.answer ≡ NotCreated number → NotCreatable table pool image program number → Creations pool program creation (init program (rust.stored found))
+  refused_alike : (number : Refusal) → creation.answer ≡ Err number → NotCreatable table pool image program number → Creations pool program creation (init program (rust.stored found))
   refused_alike _ e (other_slots other) = absurd (other slots)
   refused_alike _ e (no_program is empty) = rw (init_empty program found empty) (both_refuse e)
   refused_alike _ e (long_program is long) = let goes = init_goes_on program found (omega (arith, long)) in rw goes.1 (too_long e long)
@@ -402,15 +399,15 @@ module _ (table : List Task) (pool ends image program : List ℕ) (lent : length
       let over : min 65536 (length pool) < total_length goes.0.instructions_pool = (let q = goes.2 in omega (arith, q, same, past)) in
       rw goes.1 (no_room e over)
 
-  shown_alike : (machine : Machine) → creation.answer ≡ Created machine → (stack memory save : List ℕ) → init program (rust.stored found) ≡ ok (at_rest (new_world machine creation stack memory save))
+  shown_alike : (machine : Machine) → creation.answer ≡ Ok machine → (stack memory save : List ℕ) → init program (rust.stored found) ≡ ok (at_rest (new_world machine creation stack memory save))
   shown_alike machine e stack memory save =
       let c = core table pool ends image program lent pool-all image-all program-all stack memory save machine creation (creating table pool ends image program) e in
       ap (λ (i : Image). init program (rust.stored i)) (sound_is (sym read ∙ c.read)) ∙ c.init_is
 
-  alike : (answer : CreateResult) → creation.answer ≡ answer → Creations pool program creation (init program (rust.stored found))
-  alike (Created machine) e =
+  alike : (answer : Result Machine Refusal) → creation.answer ≡ answer → Creations pool program creation (init program (rust.stored found))
+  alike (Ok machine) e =
       rw (shown_alike machine e [] [] []) (both_make machine e (λ stack memory save. ok_is (sym (shown_alike machine e stack memory save) ∙ shown_alike machine e [] [] [])))
-  alike (NotCreated number) e = refused_alike number e ((refuses_exactly table pool ends image program number).0 e)
+  alike (Err number) e = refused_alike number e ((refuses_exactly table pool ends image program number).0 e)
 
   -- over a table of 256 slots and a sound image: 1 where the Rust's init errs with EmptyInstructions, 28 and 22 only where it goes on, and else the same machine
   pub creation_agrees : Creations pool program creation (init program (rust.stored found))

@@ -6,13 +6,9 @@ use mathlib.Core.List.{List, []}
 use native.Mathlib.Omega.{arith}
 use Rattle.slices.specs.Numbers.{Bytes}
 use Rattle.image.specs.Image.{Image, sound, read_image}
-use Rattle.pools.specs.declared.InternResult.{InternResult}
-use Rattle.pools.specs.declared.InternResult.TheVariants.{Interned, NotInterned}
 use Rattle.inlinevec.specs.Stacks.{values_of}
 use Rattle.storage.specs.declared.Task.{Task}
 use Rattle.storage.specs.declared.TaskId.{TaskId}
-use Rattle.table_image.specs.declared.creation.CreationResult.{CreationResult}
-use Rattle.table_image.specs.declared.creation.CreationResult.TheVariants.{Fit, Unfit}
 use Rattle.machine.specs.declared.Outcome.{Outcome}
 use Rattle.machine.specs.declared.Outcome.TheVariants as outcome
 use Rattle.machine.specs.declared.Verb.{Verb}
@@ -22,8 +18,6 @@ use Rattle.machine.specs.Run.{end_at}
 use Rattle.machine.specs.Calls.{Reported, not_allowed, reports, allowed, is_sound, ended, report, reported_end, call_with, call}
 use Rattle.machine.specs.Reads.{task_read}
 use Rattle.machine.specs.Creation.{create_behind, create_fit, create}
-use Rattle.machine.specs.declared.CreateResult.{CreateResult}
-use Rattle.machine.specs.declared.CreateResult.TheVariants.{Created, NotCreated}
 use Rattle.machine.specs.History.{FreshWorld, is_created, HostCall, history, world_after}
 use Rattle.laws.specs.Sound.{Sound}
 use Rattle.laws.proofs.Main.{fresh_main, main_is_the_program}
@@ -43,23 +37,28 @@ use Rattle.agreement.proofs.Calls.{Told, told_end, told_pause, told_err, told_pa
 use Rattle.agreement.proofs.Histories.{Related, both_rest, both_run, it_failed, it_panicked, is_met, told_call, given_call, refused_call, sound_related, history_related}
 use Rattle.agreement.proofs.SameMachines as same
 use Rattle.agreement.proofs.Creation.{FromCreation, created_agrees, ok_is, sound_is}
+use Rattle.std.specs.Prelude.{Ok, Err, Result}
+use Rattle.errors.specs.declared.Refusal.{Refusal}
+use Rattle.machine.specs.declared.Machine.{Machine}
+use Rattle.pools.specs.declared.InstructionsRef.{InstructionsRef}
+use Rattle.table_image.specs.declared.creation.Fit.{Fit}
 
 -- ---- a created machine
 
 -- it has no values
-height_of : CreateResult → ℕ
-height_of (Created machine) = machine.height
-height_of (NotCreated refusal) = 0
+height_of : Result Machine Refusal → ℕ
+height_of (Ok machine) = machine.height
+height_of (Err refusal) = 0
 
-behind_empty : (table : List Task) (image : List ℕ) (next_id s_len : ℕ) (pool ends : List ℕ) (i : InternResult) → height_of (create_behind table image next_id s_len pool ends i).answer ≡ 0
+behind_empty : (table : List Task) (image : List ℕ) (next_id s_len : ℕ) (pool ends : List ℕ) (i : Result (InstructionsRef × ℕ) Refusal) → height_of (create_behind table image next_id s_len pool ends i).answer ≡ 0
 unfolding create_behind height_of
-behind_empty table image next_id s_len pool ends (Interned entry bytes) = refl
-behind_empty table image next_id s_len pool ends (NotInterned refusal) = refl
+behind_empty table image next_id s_len pool ends (Ok (entry, bytes)) = refl
+behind_empty table image next_id s_len pool ends (Err refusal) = refl
 
-fit_empty : (table : List Task) (pool ends image program : List ℕ) (result : CreationResult) → height_of (create_fit table pool ends image program result).answer ≡ 0
+fit_empty : (table : List Task) (pool ends image program : List ℕ) (result : Result Fit Refusal) → height_of (create_fit table pool ends image program result).answer ≡ 0
 unfolding create_fit height_of
-fit_empty table pool ends image program (Fit next_id count s_len) = behind_empty table image _ s_len _ _ _
-fit_empty table pool ends image program (Unfit refusal) = refl
+fit_empty table pool ends image program (Ok fit) = behind_empty table image _ fit.s_len _ _ _
+fit_empty table pool ends image program (Err refusal) = refl
 
 created_empty : (table : List Task) (pool ends image program : List ℕ) → height_of (create table pool ends image program).answer ≡ 0
 unfolding create
@@ -187,7 +186,7 @@ module _ {program image : List ℕ} {first : World} {vm : VM} (both : Beginning 
       history_related calls none-met (fresh_main both.fresh) (subst (λ (v : VM). Related first (returned [] v)) (ok_is (sym shown ∙ both.is_initialised)) (first_related both.fresh made))
 
   -- main is the program
-  main : later.machine.frames.main.entry.0 ≡ 0
+  main : later.machine.frames.first.entry.0 ≡ 0
   main = main_is_the_program program image first both.fresh calls
 
   -- a start, a rerun or a continue that the Rust takes answers the Rust's run of as many turns, a start the run from main, or reaches a limit that this port adds, with its reason

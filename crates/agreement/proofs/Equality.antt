@@ -12,15 +12,12 @@ use Rattle.slices.specs.Numbers.{Bytes}
 use Rattle.inlinevec.specs.Stacks.{values_of}
 use Rattle.values.specs.Values.{is_qnan, is_vec, raw_tag, fat_pointer, bool_not, one_vector, alike, value_eq, turned}
 use Rattle.values.specs.declared.FatPointer.{FatPointer}
-use Rattle.values.specs.declared.ValueResult.{ValueResult}
-use Rattle.values.specs.declared.ValueResult.TheVariants.{Value, NoValue}
 use Rattle.values.proofs.Laws.{vec_boxed}
 use Rattle.memory.specs.Change.{inside}
 use Rattle.memory.specs.Reads.{get_slice_bytes, is_m_slice_eq}
 use Rattle.mechanism.specs.Stack.{finish, on_two}
 use Rattle.mechanism.specs.Equality.{eq_vectors, eq_values, turned_if, op_eq}
 use Rattle.mechanism.specs.declared.Registers.{Registers}
-use Rattle.mechanism.specs.declared.PopTwoResult.{PopTwoResult}
 use Rattle.mechanism.specs.Execute.{kept}
 use Rattle.mechanism.specs.Registers.{registers_of}
 use Rattle.machine.specs.World.{World}
@@ -41,6 +38,8 @@ use Rattle.agreement.proofs.Laws.{same, fails, two_off}
 use Rattle.agreement.proofs.Views.{stepped}
 use Rattle.agreement.proofs.Values.{eq_agrees, scalars_agree, scalars_differ}
 use Rattle.agreement.proofs.Stack.{finished, missed}
+use Rattle.std.specs.Prelude.{Ok, Err, Result}
+use Rattle.errors.specs.declared.Refusal.{Refusal}
 
 -- a slice of a vector that lies in memory
 pub sliced : {w : World} {a : StepResult} (l : List ℕ) (pointer : FatPointer) (k : List ℕ → Out VM) → pointer.offset + pointer.size ≤ length l
@@ -54,7 +53,7 @@ unfolding inside
 is_inside l pointer lies = le-leb (pointer.offset + pointer.size) (length l) lies
 
 -- two vectors
-slices_agree : {w : World} (f : ValueResult → StepResult) (k : ℕ → Out VM) → ((value : ℕ) → Agree w (f (Value value)) (k value))
+slices_agree : {w : World} (f : Result ℕ Refusal → StepResult) (k : ℕ → Out VM) → ((value : ℕ) → Agree w (f (Ok value)) (k value))
     → (l : List ℕ) (left right : FatPointer) → left.offset + left.size ≤ length l → right.offset + right.size ≤ length l
     → Agree w (f (is_m_slice_eq l left right)) (memory.is_m_slice_eq l left right k)
 unfolding is_m_slice_eq memory.is_m_slice_eq
@@ -65,8 +64,8 @@ slices_agree {w} f k given l left right a b =
     (λ t. given _)
 
 -- two values that are not left out, over memory in use; g is EQ's own answer or NEQ's, which turns it round
-module _ {w : World} (g : ℕ → ℕ) (f : ValueResult → StepResult) (k : ℕ → Out VM) (given : (value : ℕ) → Agree w (f (Value value)) (k (g value)))
-    (missed : (error : VMError) → Agree w (f (NoValue (refusal_of error))) (err error)) (l : List ℕ) (left right : ℕ) where
+module _ {w : World} (g : ℕ → ℕ) (f : Result ℕ Refusal → StepResult) (k : ℕ → Out VM) (given : (value : ℕ) → Agree w (f (Ok value)) (k (g value)))
+    (missed : (error : VMError) → Agree w (f (Err (refusal_of error))) (err error)) (l : List ℕ) (left right : ℕ) where
   -- the Rust's arm, with what it does with two scalars of one tag
   abbrev arm : Out VM → Out VM
   arm scalars =
@@ -118,17 +117,17 @@ module _ (w : World) (stale : ℕ) (h : Facts w) (bytes : Bytes w.pool) (next : 
   unfolding op_eq on_two turned_if rust.eq view registers_of inner_result
   eq not_left_out =
       two_off w.stack w.machine.height h.height
-      (λ (o : PopTwoResult). stepped w (kept (on_two (λ right left. eq_values (take w.machine.memory w.memory) left right) w.stack r next o) w.memory)) _ refl
-      (λ i e. eq_agree (λ v. v) (λ (v : ValueResult). stepped w (kept (finish w.stack r next i v) w.memory)) (λ v. pushes (view stale w) next (values_of i w.stack) v)
+      (λ (o : Result (ℕ × ℕ × ℕ) Refusal). stepped w (kept (on_two (λ right left. eq_values (take w.machine.memory w.memory) left right) w.stack r next o) w.memory)) _ refl
+      (λ i e. eq_agree (λ v. v) (λ (v : Result ℕ Refusal). stepped w (kept (finish w.stack r next i v) w.memory)) (λ v. pushes (view stale w) next (values_of i w.stack) v)
       (finished w stale h bytes next i) (missed w stale h bytes next i) (take w.machine.memory w.memory) _ _ (in_memory i (omega arith)) (in_memory (suc i) (omega arith))
       (not_left_out i e).0 (not_left_out i e).1 _
-      (scalars_agree (λ (v : ValueResult). stepped w (kept (finish w.stack r next i v) w.memory)) _ (finished w stale h bytes next i) (missed w stale h bytes next i) _ _))
+      (scalars_agree (λ (v : Result ℕ Refusal). stepped w (kept (finish w.stack r next i v) w.memory)) _ (finished w stale h bytes next i) (missed w stale h bytes next i) _ _))
 
-  turned_given : (height value : ℕ) → Agree w (stepped w (kept (finish w.stack r next height (turned (Value value))) w.memory)) (pushes (view stale w) next (values_of height w.stack) (bool_not value))
+  turned_given : (height value : ℕ) → Agree w (stepped w (kept (finish w.stack r next height (turned (Ok value))) w.memory)) (pushes (view stale w) next (values_of height w.stack) (bool_not value))
   unfolding turned
   turned_given height value = finished w stale h bytes next height (bool_not value)
 
-  turned_missed : (height : ℕ) (error : VMError) → Agree w (stepped w (kept (finish w.stack r next height (turned (NoValue (refusal_of error)))) w.memory)) (err error)
+  turned_missed : (height : ℕ) (error : VMError) → Agree w (stepped w (kept (finish w.stack r next height (turned (Err (refusal_of error)))) w.memory)) (err error)
   unfolding turned
   turned_missed height error = missed w stale h bytes next height error
 
@@ -136,8 +135,8 @@ module _ (w : World) (stale : ℕ) (h : Facts w) (bytes : Bytes w.pool) (next : 
   unfolding op_eq on_two turned_if rust.neq view registers_of inner_result
   neq not_left_out =
       two_off w.stack w.machine.height h.height
-      (λ (o : PopTwoResult). stepped w (kept (on_two (λ right left. turned (eq_values (take w.machine.memory w.memory) left right)) w.stack r next o) w.memory)) _ refl
-      (λ i e. eq_agree bool_not (λ (v : ValueResult). stepped w (kept (finish w.stack r next i (turned v)) w.memory)) (λ v. pushes (view stale w) next (values_of i w.stack) v)
+      (λ (o : Result (ℕ × ℕ × ℕ) Refusal). stepped w (kept (on_two (λ right left. turned (eq_values (take w.machine.memory w.memory) left right)) w.stack r next o) w.memory)) _ refl
+      (λ i e. eq_agree bool_not (λ (v : Result ℕ Refusal). stepped w (kept (finish w.stack r next i (turned v)) w.memory)) (λ v. pushes (view stale w) next (values_of i w.stack) v)
       (turned_given i) (turned_missed i) (take w.machine.memory w.memory) _ _ (in_memory i (omega arith)) (in_memory (suc i) (omega arith))
       (not_left_out i e).0 (not_left_out i e).1 _
-      (scalars_differ (λ (v : ValueResult). stepped w (kept (finish w.stack r next i v) w.memory)) _ (finished w stale h bytes next i) (missed w stale h bytes next i) _ _))
+      (scalars_differ (λ (v : Result ℕ Refusal). stepped w (kept (finish w.stack r next i v) w.memory)) _ (finished w stale h bytes next i) (missed w stale h bytes next i) _ _))

@@ -15,7 +15,6 @@ use Rattle.inlinevec.proofs.Lists.{length_values}
 use Rattle.pools.proofs.Laws.{getD_entries}
 use Rattle.values.specs.Values.{is_qnan, is_scalar, is_vec, raw_tag, fat_pointer, is_bool, one_vector, of_one_kind, alike, value_eq, to_u32, to_bool_val, bool_not}
 use Rattle.values.specs.declared.FatPointer.{FatPointer}
-use Rattle.values.specs.declared.ValueResult.TheVariants.{Value}
 use Rattle.values.proofs.Laws.{scalar_no_vec, scalar_boxed, bool_turned}
 use Rattle.machine.specs.Machines.{current, code_of, op_at}
 use Rattle.machine.specs.declared.Outcome.TheVariants.{Paused}
@@ -35,6 +34,7 @@ use Rattle.agreement.specs.View.{view}
 use Rattle.agreement.specs.Exceptions.{scalar_with_vector, true_with_false, excepted, excepted_answer, rust_excepted_answer, comes_later, comes_to_excepted}
 use Rattle.agreement.proofs.Facts.{both, facts}
 use Rattle.agreement.proofs.Laws as laws
+use Rattle.std.specs.Prelude.{Ok}
 
 -- ---- two such values
 
@@ -85,11 +85,11 @@ bool_scalar v = by (is_scalar v)
     by false e = absurd (true≢false (sym e))
 
 -- bools are compared by the whole word
-bools_alike : (left right : ℕ) → is_bool left ≡ true → alike (raw_tag left) left right ≡ Value (to_bool_val (eqb left right))
+bools_alike : (left right : ℕ) → is_bool left ≡ true → alike (raw_tag left) left right ≡ Ok (to_bool_val (eqb left right))
 unfolding is_bool alike
 bools_alike left right = by (is_scalar left) (eqb (raw_tag left) 3) (eqb (raw_tag left) 2) refl refl
   where
-    by : (s a b : Bool) → eqb (raw_tag left) 3 ≡ a → eqb (raw_tag left) 2 ≡ b → cond s (cond a true b) false ≡ true → alike (raw_tag left) left right ≡ Value (to_bool_val (eqb left right))
+    by : (s a b : Bool) → eqb (raw_tag left) 3 ≡ a → eqb (raw_tag left) 2 ≡ b → cond s (cond a true b) false ≡ true → alike (raw_tag left) left right ≡ Ok (to_bool_val (eqb left right))
     by false a b p q e = absurd (true≢false (sym e))
     by true true b p q e = let tag : raw_tag left ≡ 3 = eqb-true _ _ p in ap (λ (n : ℕ). alike n left right) tag
     by true false true p q e = let tag : raw_tag left ≡ 2 = eqb-true _ _ q in ap (λ (n : ℕ). alike n left right) tag

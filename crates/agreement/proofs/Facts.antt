@@ -9,7 +9,6 @@ use lib.Dec.{eqb}
 use lib.ListN.{length, get_or, get_or-eq_default}
 use borrow.Author.Tests.{ltb-true, eqb-true}
 use Rattle.inlinevec.specs.Stacks.{last_two}
-use Rattle.inlinevec.specs.declared.Frames.{Frames}
 use Rattle.pools.specs.Pool.{end_to_end}
 use Rattle.storage.specs.declared.Task.{Task}
 use Rattle.storage.specs.Tasks.{blank}
@@ -20,6 +19,8 @@ use Rattle.machine.specs.Sound.{names, sound_frames}
 use Rattle.machine.specs.World.{World}
 use Rattle.laws.specs.Sound.{Sound, Inside}
 use Rattle.laws.proofs.Parts.{machined, tabled}
+use Rattle.inlinevec.specs.declared.Two.{Two}
+use Rattle.inlinevec.specs.declared.Frame.{Frame}
 
 pub record Facts (w : World) : Type 0 where
   pub height : w.machine.height ≤ 1000
@@ -29,7 +30,7 @@ pub record Facts (w : World) : Type 0 where
   pub pool : w.machine.pool ≤ length w.pool
   pub some_frame : 1 ≤ w.machine.frames.count
   pub few_frames : w.machine.frames.count ≤ 2
-  pub main : w.machine.frames.main.entry.0 < w.machine.entries
+  pub main : w.machine.frames.first.entry.0 < w.machine.entries
   pub frame : (current w.machine.frames).entry.0 < w.machine.entries
   pub ends : end_to_end w.ends w.machine.pool w.machine.entries ≡ true
   pub counts : Counts (length w.table) w.machine.next_id.0 w.machine.count
@@ -43,24 +44,24 @@ pub record Facts (w : World) : Type 0 where
 pub both : (a b : Bool) → (a && b) ≡ true → (a ≡ true) × (b ≡ true)
 both a b e = (and-eq-true_iff a b).0 e
 
-record Framed (frames : Frames) (entries : ℕ) : Type 0 where
+record Framed (frames : Two Frame) (entries : ℕ) : Type 0 where
   some_frame : 1 ≤ frames.count
   few : frames.count ≤ 2
-  main : frames.main.entry.0 < entries
+  main : frames.first.entry.0 < entries
   frame : (current frames).entry.0 < entries
 
-framed : (frames : Frames) (entries : ℕ) → sound_frames frames entries ≡ true → Framed frames entries
+framed : (frames : Two Frame) (entries : ℕ) → sound_frames frames entries ≡ true → Framed frames entries
 unfolding sound_frames current last_two
 framed frames entries e = by (eqb frames.count 1) (eqb frames.count 2) refl refl e
   where
     by : (one two : Bool) → eqb frames.count 1 ≡ one → eqb frames.count 2 ≡ two
-        → cond one (names frames.main entries) (cond two (names frames.main entries && names frames.task entries) false) ≡ true → Framed frames entries
+        → cond one (names frames.first entries) (cond two (names frames.first entries && names frames.second entries) false) ≡ true → Framed frames entries
     by true two p q e =
         let n : frames.count ≡ 1 = eqb-true _ _ p in
         record { some_frame = omega arith; few = omega arith; main = ltb-true _ _ e; frame = rw p (ltb-true _ _ e) }
     by false true p q e =
         let n : frames.count ≡ 2 = eqb-true _ _ q in
-        let b = both (names frames.main entries) (names frames.task entries) e in
+        let b = both (names frames.first entries) (names frames.second entries) e in
         record { some_frame = omega arith; few = omega arith; main = ltb-true _ _ b.0; frame = rw p (ltb-true _ _ b.1) }
     by false false p q e = absurd (false≢true e)
 

@@ -5,8 +5,6 @@ use mathlib.Core.Path.{◌≡◌, refl, sym, ap, subst, ◌∙◌}
 use mathlib.Core.List.{List, [], ◌∷◌}
 use Rattle.errors.specs.declared.Refusal.{Refusal}
 use Rattle.slices.specs.Numbers.{Bytes}
-use Rattle.image.specs.declared.SaveResult.{SaveResult}
-use Rattle.image.specs.declared.SaveResult.TheVariants.{Saved, NotSaved}
 use Rattle.inlinevec.specs.Stacks.{values_of}
 use Rattle.machine.specs.declared.Phase.{Phase}
 use Rattle.machine.specs.declared.Phase.TheVariants.{New, Paused, Done, Stopped}
@@ -34,6 +32,7 @@ use Rattle.agreement.specs.Demand.{is_added, meets_added, call_meets, NoneMet, n
 use Rattle.agreement.specs.Exceptions.{call_comes, host_call_comes}
 use Rattle.agreement.proofs.Aligned.{Lined, Given, given, not_yet, while_given, run_given}
 use Rattle.agreement.proofs.Calls.{phase_by, Leaves, Told, told_end, told_pause, told_err, told_panic, told_met, Ready, DoneIfAny, done_if_any, start_told, rerun_told, go_on_told}
+use Rattle.std.specs.Prelude.{Ok, Err, Result}
 
 -- a machine beside the Rust: both rest, both are in a run, the Rust has failed, the Rust has panicked
 pub data Related (w : World) : Ran → Type 0 where
@@ -107,7 +106,7 @@ module _ {w : World} where
   no_continue (it_panicked s phase) not_there = ap may_continue phase
 
   -- each of them that the Rust takes
-  told_start : {ran : Ran} (fuel : ℕ) → BothRest w ran → w.machine.frames.main.entry.0 ≡ 0 → call_comes Start fuel w ≡ false → Told (call Start fuel w) (rust_call Start fuel ran)
+  told_start : {ran : Ran} (fuel : ℕ) → BothRest w ran → w.machine.frames.first.entry.0 ≡ 0 → call_comes Start fuel w ≡ false → Told (call Start fuel w) (rust_call Start fuel ran)
   unfolding rust_call if_rests
   told_start fuel (resting ready is) main common = subst (λ (v : VM). Told (call Start fuel w) (loop.run fuel (from_main v))) is (start_told fuel w ready main common)
 
@@ -119,7 +118,7 @@ module _ {w : World} where
   unfolding rust_call if_running may_continue
   told_continue fuel (going stale s bytes phase lined is) common = subst (λ (v : VM). Told (call Continue fuel w) (loop.while fuel v)) is (go_on_told fuel stale w s bytes (ap may_continue phase) common)
 
-  pub told_call : {ran : Ran} (verb : Verb) (fuel : ℕ) → Related w ran → w.machine.frames.main.entry.0 ≡ 0 → rust_takes verb ran ≡ true → call_comes verb fuel w ≡ false → Told (call verb fuel w) (rust_call verb fuel ran)
+  pub told_call : {ran : Ran} (verb : Verb) (fuel : ℕ) → Related w ran → w.machine.frames.first.entry.0 ≡ 0 → rust_takes verb ran ≡ true → call_comes verb fuel w ≡ false → Told (call verb fuel w) (rust_call verb fuel ran)
   unfolding rust_takes
   told_call Start fuel related main takes common = told_start fuel (at_rest_both related takes) main common
   told_call Rerun fuel related main takes common = told_rerun fuel (at_rest_both related takes) common
@@ -191,7 +190,7 @@ left_related {r} (told_err stale error e leaves f) g none-met = it_failed stale 
 left_related {r} (told_panic stale e leaves f) g none-met = it_panicked leaves.is_sound (stopped_is r e leaves)
 left_related {r} (told_met stale number vm e f over ran) g none-met = is_met r.report.outcome e over none-met
 
-call_related : {w : World} {ran : Ran} (verb : Verb) (fuel : ℕ) → Related w ran → w.machine.frames.main.entry.0 ≡ 0 → meets_added (call verb fuel w).report.outcome ≡ false → call_comes verb fuel w ≡ false → Related (world_after (call verb fuel w)) (rust_call verb fuel ran)
+call_related : {w : World} {ran : Ran} (verb : Verb) (fuel : ℕ) → Related w ran → w.machine.frames.first.entry.0 ≡ 0 → meets_added (call verb fuel w).report.outcome ≡ false → call_comes verb fuel w ≡ false → Related (world_after (call verb fuel w)) (rust_call verb fuel ran)
 call_related {w} {ran} verb fuel related main none-met common = by (rust_takes verb ran) refl
   where
     by : (b : Bool) → rust_takes verb ran ≡ b → Related (world_after (call verb fuel w)) (rust_call verb fuel ran)
@@ -208,10 +207,10 @@ with_image w length save = world (with_saved w.machine length) w.table w.stack w
 data SavesOnly (w : World) : World → Type 0 where
   saves_only : (length : ℕ) (save : List ℕ) → SavesOnly w (with_image w length save)
 
-saved_only : (w : World) (save : List ℕ) (result : SaveResult) → SavesOnly w (world_saved (host_save_as w (record { answer = result; save = save })))
+saved_only : (w : World) (save : List ℕ) (result : Result ℕ Refusal) → SavesOnly w (world_saved (host_save_as w (record { answer = result; save = save })))
 unfolding host_saved
-saved_only w save (Saved length) = saves_only length save
-saved_only w save (NotSaved refusal) = saves_only w.machine.saved save
+saved_only w save (Ok length) = saves_only length save
+saved_only w save (Err refusal) = saves_only w.machine.saved save
 
 save_is : (w : World) → SavesOnly w (world_saved (host_save w))
 unfolding host_save
@@ -237,7 +236,7 @@ sound_related (it_panicked s phase) = s
 
 -- ---- a history
 
-left_by_related : {w : World} {ran : Ran} (one : HostCall) → Related w ran → w.machine.frames.main.entry.0 ≡ 0 → call_meets one w ≡ false → host_call_comes one w ≡ false → Related (left_by one w) (rust_left_by one ran)
+left_by_related : {w : World} {ran : Ran} (one : HostCall) → Related w ran → w.machine.frames.first.entry.0 ≡ 0 → call_meets one w ≡ false → host_call_comes one w ≡ false → Related (left_by one w) (rust_left_by one ran)
 unfolding left_by rust_left_by call_meets host_call_comes value_read task_read
 left_by_related (runs verb fuel) related main none-met common = call_related verb fuel related main none-met common
 left_by_related {w} saves related main none-met common = image_related (save_is w) (left_sound saves w (sound_related related)) related
@@ -245,7 +244,7 @@ left_by_related (reads_value position) related main none-met common = related
 left_by_related (reads_task id) related main none-met common = related
 
 -- main is the program all along
-pub history_related : {w : World} {ran : Ran} (calls : List HostCall) → NoneMet calls w → w.machine.frames.main.entry.0 ≡ 0 → Related w ran → Related (history calls w) (rust_history calls ran)
+pub history_related : {w : World} {ran : Ran} (calls : List HostCall) → NoneMet calls w → w.machine.frames.first.entry.0 ≡ 0 → Related w ran → Related (history calls w) (rust_history calls ran)
 unfolding history rust_history
 history_related {w = w} [] no_call main related = related
 history_related {w = w} (one ∷ others) (not_met none-met common later) main related =

@@ -10,13 +10,7 @@ use Rattle.errors.specs.declared.Refusal.{Refusal}
 use Rattle.errors.specs.declared.Refusal.TheVariants as refusal
 use Rattle.slices.specs.Numbers.{Bytes}
 use Rattle.inlinevec.specs.Stacks.{if_some, pop, last, values_of}
-use Rattle.inlinevec.specs.declared.PopResult.{PopResult}
-use Rattle.inlinevec.specs.declared.PopResult.TheVariants.{Popped, NotPopped}
-use Rattle.inlinevec.specs.declared.LastResult.{LastResult}
-use Rattle.inlinevec.specs.declared.LastResult.TheVariants.{Last, NoLast}
 use Rattle.mechanism.specs.Stack.{pop_two, pop_first, pop_second}
-use Rattle.mechanism.specs.declared.PopTwoResult.{PopTwoResult}
-use Rattle.mechanism.specs.declared.PopTwoResult.TheVariants.{PoppedTwo, NotPoppedTwo}
 use Rattle.machine.specs.World.{World}
 use Rattle.machine.specs.Words.{StepResult, next, refused}
 use Rattle.rust.specs.Errors.{StackUnderflow, Out, ok}
@@ -24,25 +18,26 @@ use Rattle.rust.specs.InlineVec as rust
 use Rattle.rust.specs.Vm.{VM}
 use Rattle.agreement.specs.View.{view}
 use Rattle.agreement.specs.Agreement.{Agree, goes_on, lacks, errs, Over}
+use Rattle.std.specs.Prelude.{Ok, Err, Result}
 
 -- one off a stack that holds some
-pub popped : (stack : List ℕ) (height : ℕ) → suc height ≤ 1000 → pop stack (suc height) ≡ Popped (get_or stack height 0) height
+pub popped : (stack : List ℕ) (height : ℕ) → suc height ≤ 1000 → pop stack (suc height) ≡ Ok (get_or stack height 0, height)
 unfolding pop if_some
 popped stack height most = let z : suc height - 1 ≡ height = omega arith in rw (ne_eqb (suc height) 0 (λ e. omega arith), le-leb (suc height) 1000 most, z)
 
-pub looked : (stack : List ℕ) (height : ℕ) → suc height ≤ 1000 → last stack (suc height) ≡ Last (get_or stack height 0)
+pub looked : (stack : List ℕ) (height : ℕ) → suc height ≤ 1000 → last stack (suc height) ≡ Ok (get_or stack height 0)
 unfolding last if_some
 looked stack height most = let z : suc height - 1 ≡ height = omega arith in rw (ne_eqb (suc height) 0 (λ e. omega arith), le-leb (suc height) 1000 most, z)
 
-pub popped_both : (stack : List ℕ) (height : ℕ) → suc (suc height) ≤ 1000 → pop_two stack (suc (suc height)) ≡ PoppedTwo (get_or stack (suc height) 0) (get_or stack height 0) height
+pub popped_both : (stack : List ℕ) (height : ℕ) → suc (suc height) ≤ 1000 → pop_two stack (suc (suc height)) ≡ Ok (get_or stack (suc height) 0, get_or stack height 0, height)
 unfolding pop_two pop_first pop_second
 popped_both stack height most = rw (popped stack (suc height) most) (rw (popped stack height (omega arith)))
 
-pub popped_none : (stack : List ℕ) → pop stack 0 ≡ NotPopped refusal.StackUnderflow
+pub popped_none : (stack : List ℕ) → pop stack 0 ≡ Err refusal.StackUnderflow
 unfolding pop if_some
 popped_none stack = refl
 
-pub popped_not_both : (stack : List ℕ) → pop_two stack 1 ≡ NotPoppedTwo refusal.StackUnderflow
+pub popped_not_both : (stack : List ℕ) → pop_two stack 1 ≡ Err refusal.StackUnderflow
 unfolding pop_two pop_first pop_second
 popped_not_both stack = rw (popped stack 0 (omega arith)) (rw (popped_none stack))
 
@@ -76,18 +71,18 @@ module _ {w : World} where
   room f false e over fits = fits refl
 
   -- one value off
-  pub one_off : (stack : List ℕ) (height : ℕ) → height ≤ 1000 → (f : PopResult → StepResult) (k : ℕ → List ℕ → Out VM)
-      → f (NotPopped refusal.StackUnderflow) ≡ refused refusal.StackUnderflow
-      → ((h : ℕ) → height ≡ suc h → Agree w (f (Popped (get_or stack h 0) h)) (k (get_or stack h 0) (values_of h stack)))
+  pub one_off : (stack : List ℕ) (height : ℕ) → height ≤ 1000 → (f : Result (ℕ × ℕ) Refusal → StepResult) (k : ℕ → List ℕ → Out VM)
+      → f (Err refusal.StackUnderflow) ≡ refused refusal.StackUnderflow
+      → ((h : ℕ) → height ≡ suc h → Agree w (f (Ok (get_or stack h 0, h))) (k (get_or stack h 0) (values_of h stack)))
       → Agree w (f (pop stack height)) (rust.pop (values_of height stack) k)
   unfolding values_of rust.pop
   one_off stack zero most f k under onto = rw (popped_none stack, under) (errs StackUnderflow)
   one_off stack (suc h) most f k under onto = rw (popped stack h most) (onto h refl)
 
   -- two values off
-  pub two_off : (stack : List ℕ) (height : ℕ) → height ≤ 1000 → (f : PopTwoResult → StepResult) (k : ℕ → ℕ → List ℕ → Out VM)
-      → f (NotPoppedTwo refusal.StackUnderflow) ≡ refused refusal.StackUnderflow
-      → ((h : ℕ) → height ≡ suc (suc h) → Agree w (f (PoppedTwo (get_or stack (suc h) 0) (get_or stack h 0) h)) (k (get_or stack (suc h) 0) (get_or stack h 0) (values_of h stack)))
+  pub two_off : (stack : List ℕ) (height : ℕ) → height ≤ 1000 → (f : Result (ℕ × ℕ × ℕ) Refusal → StepResult) (k : ℕ → ℕ → List ℕ → Out VM)
+      → f (Err refusal.StackUnderflow) ≡ refused refusal.StackUnderflow
+      → ((h : ℕ) → height ≡ suc (suc h) → Agree w (f (Ok (get_or stack (suc h) 0, get_or stack h 0, h))) (k (get_or stack (suc h) 0) (get_or stack h 0) (values_of h stack)))
       → Agree w (f (pop_two stack height)) (rust.pop (values_of height stack) λ a above. rust.pop above λ b below. k a b below)
   unfolding values_of rust.pop pop_two pop_first
   two_off stack zero most f k under onto = rw (popped_none stack, under) (errs StackUnderflow)
@@ -95,9 +90,9 @@ module _ {w : World} where
   two_off stack (suc (suc h)) most f k under onto = rw (popped_both stack h most) (onto h refl)
 
   -- a look at the last one
-  pub one_seen : (stack : List ℕ) (height : ℕ) → height ≤ 1000 → (f : LastResult → StepResult) (k : ℕ → Out VM)
-      → f (NoLast refusal.StackUnderflow) ≡ refused refusal.StackUnderflow
-      → ((h : ℕ) → height ≡ suc h → Agree w (f (Last (get_or stack h 0))) (k (get_or stack h 0)))
+  pub one_seen : (stack : List ℕ) (height : ℕ) → height ≤ 1000 → (f : Result ℕ Refusal → StepResult) (k : ℕ → Out VM)
+      → f (Err refusal.StackUnderflow) ≡ refused refusal.StackUnderflow
+      → ((h : ℕ) → height ≡ suc h → Agree w (f (Ok (get_or stack h 0))) (k (get_or stack h 0)))
       → Agree w (f (last stack height)) (rust.last (values_of height stack) k)
   unfolding values_of rust.last last if_some
   one_seen stack zero most f k under onto = rw under (errs StackUnderflow)

@@ -13,7 +13,6 @@ use Rattle.pools.specs.Pool.{entries_of}
 use Rattle.pools.proofs.Laws.{length_entries, getD_entries, found, not_found}
 use Rattle.storage.specs.declared.Task.{Task}
 use Rattle.storage.specs.declared.TaskId.{TaskId}
-use Rattle.storage.specs.declared.FindResult.TheVariants.{Found, NotFound}
 use Rattle.storage.specs.Storage.{slot_of, find}
 use Rattle.storage.specs.Tasks.{blank}
 use Rattle.image.specs.Slots.{title_in}
@@ -32,6 +31,7 @@ use Rattle.agreement.specs.Reads.{TaskReads, readable, no_task, no_entry, no_tex
 use Rattle.agreement.specs.Demand.{instructions_in, instructions_of, rust_instructions_in, rust_instructions_of, SameMachine}
 use Rattle.agreement.proofs.Facts.{Facts, facts}
 use Rattle.agreement.proofs.Slots as slots
+use Rattle.std.specs.Prelude.{Ok, Err}
 
 module _ (w : World) (h : Facts w) where
   abbrev all : List (List ℕ)
@@ -54,11 +54,11 @@ module _ (w : World) (h : Facts w) where
       by true false l n = rw (slots.a_task slot l, l, length_entries w.pool w.ends w.machine.entries, n)
       by false names l n = rw (slots.no_task slot l, l)
 
-  finds : (id : TaskId) (slot : Task) → slot.living ≡ true → find slot id ≡ Found
+  finds : (id : TaskId) (slot : Task) → slot.living ≡ true → find slot id ≡ Ok tt
   unfolding find
   finds id slot l = rw l
 
-  finds_none : (id : TaskId) (slot : Task) → slot.living ≡ false → find slot id ≡ NotFound (refusal.TaskNotFound id.0)
+  finds_none : (id : TaskId) (slot : Task) → slot.living ≡ false → find slot id ≡ Err (refusal.TaskNotFound id.0)
   unfolding find
   finds_none id slot l = rw l
 

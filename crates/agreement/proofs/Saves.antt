@@ -19,8 +19,6 @@ use Rattle.image.specs.Slots.{saved_task, task_in}
 use Rattle.image.specs.Writing.{size_of, sized, measure, added, measure_slot}
 use Rattle.image.specs.Table.{SavedTable}
 use Rattle.table_image.specs.Loops.{Measured, measured, refused, count_slot, grown, measures, saved_as, save_by_slots}
-use Rattle.image.specs.declared.SizeResult.{SizeResult}
-use Rattle.image.specs.declared.SizeResult.TheVariants.{Size}
 use Rattle.table_image.proofs.Saves.{header_length, save_table_is}
 use Rattle.inlinevec.specs.Stacks.{values_of}
 use Rattle.pools.specs.Pool.{entries_of}
@@ -48,6 +46,8 @@ use Rattle.agreement.proofs.Laws.{goes_by, same}
 use Rattle.agreement.proofs.Views.{current_is, callers_are}
 use Rattle.agreement.proofs.Slots.{a_task, no_task, get_is, count_length}
 use Rattle.agreement.proofs.Frames.{entries_length}
+use Rattle.std.specs.Prelude.{Ok, Result}
+use Rattle.errors.specs.declared.Refusal.{Refusal}
 
 module _ (w : World) (stale : ℕ) (h : Facts w) (bytes : Bytes w.pool) where
   abbrev m : Machine
@@ -90,7 +90,7 @@ module _ (w : World) (stale : ℕ) (h : Facts w) (bytes : Bytes w.pool) where
             → Agree w (f (grown (added limit size (measure w.pool w.ends m.entries task)) others)) (to_task (held task) entries λ t. rust-storage.to_tasks entries rest λ ts. o)
         by true e =
             rw (entries_length w stale h bytes, e, found w.ends m.pool m.entries h.ends task.instructions_ref (ltb-true _ _ e))
-            (same (λ (r : SizeResult). f (grown (added limit size r) others)) (valid (take task.title_len task.title))
+            (same (λ (r : Result ℕ Refusal). f (grown (added limit size r) others)) (valid (take task.title_len task.title))
             (λ t. onto (ltb-true _ _ e) _ (omega arith))
             (λ t. missed BytesToStringConversionError))
         by false e =
@@ -115,7 +115,7 @@ module _ (w : World) (stale : ℕ) (h : Facts w) (bytes : Bytes w.pool) where
         → ((count' size' : ℕ) → ((count'' size'' : ℕ) → size'' ≤ size' + length (records (image_tasks entries rest)) → Agree w (f (measured size'' count'')) o)
         → Agree w (f (measures n (i + 1) w.table w.pool w.ends m.entries limit count' size')) (rust-storage.to_tasks entries rest λ ts. o))
         → ((count' size' : ℕ) → size' ≤ size + length (records (image_tasks entries (task_in_slot (slot i) ∷ rest))) → Agree w (f (measured size' count')) o)
-        → Agree w (f (grown (cond b (added limit size (measure w.pool w.ends m.entries (slot i))) (Size size)) (measures n (i + 1) w.table w.pool w.ends m.entries limit (count_slot (slot i) count))))
+        → Agree w (f (grown (cond b (added limit size (measure w.pool w.ends m.entries (slot i))) (Ok size)) (measures n (i + 1) w.table w.pool w.ends m.entries limit (count_slot (slot i) count))))
         (rust-storage.to_tasks entries (task_in_slot (slot i) ∷ rest) λ ts. o)
     unfolding grown rust-storage.to_tasks
     one_by limit n i count size true e rest others fits =

@@ -9,8 +9,6 @@ use native.Mathlib.Omega.{arith}
 use borrow.Author.Tests.{leb-false, eqb-true, le-leb, lt-leb}
 use Rattle.bytecode.specs.Opcodes.{PUSH_U32, PUSH_STATE, PUSH_CALLDATA, PUSH_TASK_FIELD, PUSH_MAX_STATES, T_CREATE, T_GET_FIELD, T_SET_FIELD, T_DELETE, S_SAVE, S_LEN, DO, LOOP, LOOP_INDEX, CALL, END_CALL, DROP, DUP, SWAP, EQ, NEQ, LT, GT, JUMP_IF_FALSE, M_STI, M_ST, M_MUTA, MULI, MUL, operand_size}
 use Rattle.bytecode.specs.Operands.{extent}
-use Rattle.bytecode.specs.declared.Extent.{Extent}
-use Rattle.bytecode.specs.declared.Extent.TheVariants as extents
 use Rattle.slices.specs.Numbers.{Bytes}
 use Rattle.inlinevec.specs.Stacks.{values_of}
 use Rattle.pools.proofs.Laws.{getD_entries}
@@ -51,6 +49,7 @@ use Rattle.agreement.proofs.Tasks as tasks
 use Rattle.agreement.proofs.Tasks.{acted_as}
 use Rattle.agreement.proofs.Frames as frames
 use Rattle.agreement.proofs.Saves as saving
+use Rattle.std.specs.Prelude.{Option, Some}
 
 -- neither of two
 none_of : (a b : Bool) → (a || b) ≡ false → (a ≡ false) × (b ≡ false)
@@ -88,19 +87,19 @@ module _ (w : World) (stale : ℕ) (h : Facts w) (bytes : Bytes w.pool) (inside 
   vm = view stale w
 
   -- an opcode that needs no task, frame or pool
-  inner_step : (n : ℕ) → get_or c p 0 ≡ n → is_outer n ≡ false → (reach : Extent) → extent c p ≡ reach → {o : Out VM}
+  inner_step : (n : ℕ) → get_or c p 0 ≡ n → is_outer n ≡ false → (reach : Option ℕ) → extent c p ≡ reach → {o : Out VM}
       → Agree w (stepped w (by_extent w.stack w.memory c r n m.count reach)) o → Agree w (step_by_parts w) o
   unfolding step_by_parts op_at inner instruct registers_of
   inner_step n e out reach is agrees = rw (e, out, is) agrees
 
   -- one that does, and does not save
-  acts_step : (n : ℕ) → get_or c p 0 ≡ n → is_outer n ≡ true → eqb n S_SAVE ≡ false → (reach : Extent) → extent c p ≡ reach → {o : Out VM}
+  acts_step : (n : ℕ) → get_or c p 0 ≡ n → is_outer n ≡ true → eqb n S_SAVE ≡ false → (reach : Option ℕ) → extent c p ≡ reach → {o : Out VM}
       → Agree w (acted_as w (wanted w.stack m n) (act_by w.stack w.memory w.pool w.ends m (get_or w.table (wanted w.stack m n) blank) n p reach)) o → Agree w (step_by_parts w) o
   unfolding step_by_parts op_at outer acts act act_at
   acts_step n e out saves-not reach is agrees = rw (e, out, saves-not, is, lt-leb (length c) p inside) agrees
 
   -- the next place
-  abbrev reach_next : (n : ℕ) → get_or c p 0 ≡ n → operand_size n ≡ 0 → eqb n PUSH_CALLDATA ≡ false → eqb n M_STI ≡ false → extent c p ≡ extents.Next (p + 1)
+  abbrev reach_next : (n : ℕ) → get_or c p 0 ≡ n → operand_size n ≡ 0 → eqb n PUSH_CALLDATA ≡ false → eqb n M_STI ≡ false → extent c p ≡ Some (p + 1)
   reach_next n = reaches_next c p n inside
 
   mul : get_or c p 0 ≡ MUL → Agree w (step_by_parts w) (rust.mul (p + 1) vm)
@@ -227,7 +226,7 @@ module _ (w : World) (stale : ℕ) (h : Facts w) (bytes : Bytes w.pool) (inside 
 
   end_call : get_or c p 0 ≡ END_CALL → Agree w (step_by_parts w) (rust.end_call (p + 1) vm)
   unfolding is_outer operand_size act_by on_frames
-  end_call e = acts_step END_CALL e refl refl _ (reach_next END_CALL e refl refl refl) (frames.end_call w stale h bytes (p + 1) _ _)
+  end_call e = acts_step END_CALL e refl refl _ (reach_next END_CALL e refl refl refl) (frames.end_call w stale h bytes (p + 1) _)
 
   s_save : get_or c p 0 ≡ S_SAVE → Agree w (step_by_parts w) (rust.s_save (p + 1) vm)
   unfolding step_by_parts op_at outer is_outer

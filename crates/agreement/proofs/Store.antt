@@ -10,34 +10,23 @@ use lib.Seq.{sets, length-sets, length-take-le, take_at}
 use borrow.Author.Tests.{leb-true, leb-false, lt-ltb, le-ltb, le-leb, lt-leb, eqb-true, eq-eqb}
 use Rattle.bytecode.specs.Opcodes.{M_STI, M_ST}
 use Rattle.bytecode.specs.Operands.{big_endian}
-use Rattle.bytecode.specs.declared.Extent.{Extent}
-use Rattle.bytecode.specs.declared.Extent.TheVariants as extents
 use Rattle.slices.specs.Numbers as numbers
 use Rattle.slices.specs.Numbers.{Bytes}
 use Rattle.image.proofs.Endian.{bytes_drop, byte_at}
 use Rattle.inlinevec.specs.Stacks.{values_of}
-use Rattle.inlinevec.specs.declared.PopResult.{PopResult}
-use Rattle.inlinevec.specs.declared.LastResult.{LastResult}
 use Rattle.inlinevec.proofs.Lists.{pushed_values, length_values}
 use Rattle.pools.specs.Pool.{start_of, end_of, entry_of}
 use Rattle.values.specs.Values.{is_qnan, is_vec, head, raw_tag, fat_pointer, to_u32, to_vec_val}
 use Rattle.values.specs.declared.FatPointer.{FatPointer}
-use Rattle.values.specs.declared.PointerResult.{PointerResult}
-use Rattle.values.specs.declared.ValueResult.{ValueResult}
-use Rattle.values.specs.declared.ValueResult.TheVariants.{Value, NoValue}
 use Rattle.memory.specs.Allocation as allocation
 use Rattle.memory.specs.Allocation.{offset_aligned, is_element_tag, vector, filling, alloc}
 use Rattle.memory.specs.Change as change
 use Rattle.slices.specs.Numbers.{little_endian}
 use Rattle.memory.specs.Change.{element_size_bytes, scaled, mut_vec}
-use Rattle.memory.specs.declared.SizeResult.{SizeResult}
-use Rattle.memory.specs.declared.SizeResult.TheVariants.{Size}
 use Rattle.memory.proofs.Placed.{aligned_above}
 use Rattle.mechanism.specs.Registers.{on_memory, moved}
 use Rattle.mechanism.specs.Store.{full_by, full, placed, store, sized, op_m_st, mut_in_use, changed_to, mutated, mutate_at, mutate, mutate_last, mutate_two, op_m_muta}
 use Rattle.mechanism.specs.declared.Registers.{Registers}
-use Rattle.mechanism.specs.declared.PopTwoResult.{PopTwoResult}
-use Rattle.mechanism.specs.declared.RegistersResult.TheVariants.{Next, Refused}
 use Rattle.mechanism.specs.Cut.{cut, cut_size, cut_m_st}
 use Rattle.mechanism.specs.Operated.{with_operand, m_st, payload_of, m_sti_of, m_sti}
 use Rattle.mechanism.specs.Execute.{is_equality, execute, by_extent, changed}
@@ -62,6 +51,8 @@ use Rattle.agreement.proofs.Values.{pointer_agrees}
 use Rattle.mechanism.proofs.Operands.{up_to, operand_there, one_byte}
 use Rattle.agreement.proofs.Grown.{grown, grown_empty, grown_length}
 use Rattle.agreement.proofs.Equality.{in_memory, is_inside}
+use Rattle.std.specs.Prelude.{Ok, Err, Result, Option, Some, None}
+use Rattle.errors.specs.declared.Refusal.{Refusal}
 
 -- a payload of the vector's size, or none
 pub data Fills (size : ℕ) : List ℕ → Type 0 where
@@ -121,17 +112,17 @@ module _ (w : World) (stale : ℕ) (h : Facts w) (bytes : Bytes w.pool) where
     offset = offset_aligned used tag
 
     -- an allocation by the box of its vector
-    abbrev boxing : ValueResult → StepResult
+    abbrev boxing : Result ℕ Refusal → StepResult
     boxing value =
         stepped w
-        (cond (leb 1000 height) (on_memory (Refused (full_by value)) w.stack w.memory)
+        (cond (leb 1000 height) (on_memory (Err (full_by value)) w.stack w.memory)
         (placed w.stack r next height (allocation.vector_stored w.memory payload used size offset value).memory (allocation.vector_stored w.memory payload used size offset value).answer))
 
-    not_boxed : (error : VMError) → Agree w (boxing (NoValue (refusal_of error))) (err error)
+    not_boxed : (error : VMError) → Agree w (boxing (Err (refusal_of error))) (err error)
     unfolding allocation.vector_stored placed full_by inner_result
     not_boxed error = by (leb 1000 height)
       where
-        by : (b : Bool) → Agree w (stepped w (cond b (on_memory (Refused (refusal_of error)) w.stack w.memory) (on_memory (Refused (refusal_of error)) w.stack w.memory))) (err error)
+        by : (b : Bool) → Agree w (stepped w (cond b (on_memory (Err (refusal_of error)) w.stack w.memory) (on_memory (Err (refusal_of error)) w.stack w.memory))) (err error)
         by true = errs error
         by false = errs error
 
@@ -140,7 +131,7 @@ module _ (w : World) (stale : ℕ) (h : Facts w) (bytes : Bytes w.pool) where
 
     -- the vector fits
     fits_in : (value : ℕ) → height < 1000 → offset + size ≤ length w.memory
-        → Agree w (stepped w (on_memory (Next (record { place = next; height = height + 1; loops = r.loops; memory = offset + size })) (set w.stack height value) (sets w.memory used (replicate (offset - used) 0 ++ filling size payload))))
+        → Agree w (stepped w (on_memory (Ok (record { place = next; height = height + 1; loops = r.loops; memory = offset + size })) (set w.stack height value) (sets w.memory used (replicate (offset - used) 0 ++ filling size payload))))
         (ok (with_memory (at (view stale w) next (value ∷ values_of height w.stack)) grows))
     unfolding registers_of view
     fits_in value room fits =
@@ -148,12 +139,12 @@ module _ (w : World) (stale : ℕ) (h : Facts w) (bytes : Bytes w.pool) where
         let b = fills_grown fills w.memory used offset h.memory (aligned_above used tag) fits in
         goes w stale bytes _ _ _ _ (rw (a, b))
 
-    is_boxed : (value : ℕ) → Agree w (boxing (Value value)) (inlinevec.push 1000 (values_of height w.stack) value λ after. ok (with_memory (at (view stale w) next after) grows))
+    is_boxed : (value : ℕ) → Agree w (boxing (Ok value)) (inlinevec.push 1000 (values_of height w.stack) value λ after. ok (with_memory (at (view stale w) next after) grows))
     unfolding allocation.vector_stored placed full_by inner_result inlinevec.push
     is_boxed value = by (leb 1000 height) (leb (offset + size) (length w.memory)) refl refl
       where
         by : (b d : Bool) → leb 1000 height ≡ b → leb (offset + size) (length w.memory) ≡ d
-            → Agree w (boxing (Value value)) (inlinevec.push 1000 (values_of height w.stack) value λ after. ok (with_memory (at (view stale w) next after) grows))
+            → Agree w (boxing (Ok value)) (inlinevec.push 1000 (values_of height w.stack) value λ after. ok (with_memory (at (view stale w) next after) grows))
         by true d e f = rw (e, length_values w.stack height, le-ltb height 1000 (leb-true _ _ e)) (errs StackOverflow)
         by false true e f = rw (e, f, length_values w.stack height, lt-ltb height 1000 (leb-false _ _ e)) (fits_in value (leb-false _ _ e) (leb-true _ _ f))
         by false false e f =
@@ -174,22 +165,22 @@ module _ (w : World) (stale : ℕ) (h : Facts w) (bytes : Bytes w.pool) where
   -- ---- M_MUTA
 
   module _ (next height index payload : ℕ) (pointer : FatPointer) (lies : pointer.offset + pointer.size ≤ length (take used w.memory)) where
-    abbrev changing : SizeResult → change.AfterChange
+    abbrev changing : Result ℕ Refusal → change.AfterChange
     changing width = change.changed (take used w.memory) pointer index payload width
 
     -- a change by the width of an element
-    abbrev sizing : SizeResult → StepResult
+    abbrev sizing : Result ℕ Refusal → StepResult
     sizing width = stepped w (changed w.stack (changed_to (mutated r next height (changing width).answer) ((changing width).memory ++ drop used w.memory)))
 
     change_goes : (start : ℕ) (new : List ℕ)
-        → Agree w (stepped w (on_memory (Next (moved r next height)) w.stack (sets (take used w.memory) start new ++ drop used w.memory))) (ok (with_memory (at (view stale w) next (values_of height w.stack)) (sets (take used w.memory) start new)))
+        → Agree w (stepped w (on_memory (Ok (moved r next height)) w.stack (sets (take used w.memory) start new ++ drop used w.memory))) (ok (with_memory (at (view stale w) next (values_of height w.stack)) (sets (take used w.memory) start new)))
     unfolding registers_of view
     change_goes start new =
         let a = take_at (sets (take used w.memory) start new) (drop used w.memory) used (length-sets (take used w.memory) start new ∙ used_length) in
         goes w stale bytes _ _ _ _ (rw a)
 
     change_agrees : (width : ℕ) → take width (little_endian 4 payload) ≡ little_endian width payload → (index < pointer.size / width → index * width + width ≤ pointer.size)
-        → Agree w (sizing (Size width))
+        → Agree w (sizing (Ok width))
         (cond (leb (pointer.size / width) index) (err (MSliceOutOfBounds (index * width % 2 ^ 32) pointer.size))
         (cond (leb (pointer.offset + index * width + width) (length (take used w.memory)))
         (ok (with_memory (at (view stale w) next (values_of height w.stack)) (sets (take used w.memory) (pointer.offset + index * width) (take width (little_endian 4 payload))))) panic))
@@ -216,9 +207,9 @@ module _ (w : World) (stale : ℕ) (h : Facts w) (bytes : Bytes w.pool) where
   pub m_muta : (next : ℕ) → Agree w (stepped w (changed w.stack (op_m_muta w.stack w.memory r next))) (rust.m_muta next (view stale w))
   unfolding op_m_muta mutate_two mutate_last mutate mutate_at mut_in_use mut_vec rust.m_muta values.tag view registers_of inner_result
   m_muta next =
-      two_off w.stack w.machine.height h.height (λ (o : PopTwoResult). stepped w (changed w.stack (mutate_two w.stack w.memory r next o))) _ refl
-      (λ i e. one_seen w.stack i (omega (arith, h.height)) (λ (o : LastResult). stepped w (changed w.stack (mutate_last w.memory r next i (get_or w.stack (suc i) 0) (get_or w.stack i 0) o))) _ refl
-      (λ j f. pointer_agrees (λ (o : PointerResult). stepped w (changed w.stack (mutate_at w.memory r next i (record { 0 = to_u32 (get_or w.stack i 0) }) (to_u32 (get_or w.stack (suc i) 0)) (raw_tag (get_or w.stack j 0)) o))) _ (get_or w.stack j 0)
+      two_off w.stack w.machine.height h.height (λ (o : Result (ℕ × ℕ × ℕ) Refusal). stepped w (changed w.stack (mutate_two w.stack w.memory r next o))) _ refl
+      (λ i e. one_seen w.stack i (omega (arith, h.height)) (λ (o : Result ℕ Refusal). stepped w (changed w.stack (mutate_last w.memory r next i (get_or w.stack (suc i) 0) (get_or w.stack i 0) o))) _ refl
+      (λ j f. pointer_agrees (λ (o : Result FatPointer Refusal). stepped w (changed w.stack (mutate_at w.memory r next i (record { 0 = to_u32 (get_or w.stack i 0) }) (to_u32 (get_or w.stack (suc i) 0)) (raw_tag (get_or w.stack j 0)) o))) _ (get_or w.stack j 0)
       (λ v. holds _ (vec_qnan (get_or w.stack j 0) v) _
       (mut_agrees next i (to_u32 (get_or w.stack i 0)) (to_u32 (get_or w.stack (suc i) 0)) (fat_pointer (get_or w.stack j 0)) (in_memory w stale h bytes next j (omega arith) v) (raw_tag (get_or w.stack j 0))))
       (errs InvalidType)))
@@ -231,22 +222,22 @@ module _ (w : World) (stale : ℕ) (h : Facts w) (bytes : Bytes w.pool) where
   abbrev p : ℕ
   p = place w
 
-  abbrev by_op : ℕ → Extent → StepResult
+  abbrev by_op : ℕ → Option ℕ → StepResult
   by_op op reach = stepped w (by_extent w.stack w.memory c r op w.machine.count reach)
 
   -- M_ST pops and tests the size before its operand is looked at
   m_st_by : (b : Bool) → leb (p + 1 + 1) (length c) ≡ b
-      → Agree w (by_op M_ST (cond b (extents.Next (p + 1 + 1)) extents.Cut))
+      → Agree w (by_op M_ST (cond b (Some (p + 1 + 1)) None))
       (inlinevec.pop (values_of w.machine.height w.stack) λ size st.
       cond (ltb 65535 (to_u32 size)) (err MSliceParamOverflow) (cond b (allocs (view stale w) (p + 1 + 1) st (to_u32 size) (get_or c (p + 1) 0) []) panic))
   unfolding by_extent execute is_equality m_st with_operand op_m_st sized registers_of cut cut_m_st cut_size inner_result
   m_st_by true t =
       rw (operand_there 1 c (p + 1) t, one_byte c (p + 1), byte_below c (p + 1) (code_bytes w bytes))
-      (one_off w.stack w.machine.height h.height (λ (o : PopResult). stepped w (sized w.stack w.memory [] r (p + 1 + 1) (get_or c (p + 1) 0) o)) _ refl
+      (one_off w.stack w.machine.height h.height (λ (o : Result (ℕ × ℕ) Refusal). stepped w (sized w.stack w.memory [] r (p + 1 + 1) (get_or c (p + 1) 0) o)) _ refl
       (λ i e. same (stepped w) (ltb 65535 (to_u32 (get_or w.stack i 0))) (λ u. errs MSliceParamOverflow)
       (λ u. stores (p + 1 + 1) i (to_u32 (get_or w.stack i 0)) (get_or c (p + 1) 0) [] nothing)))
   m_st_by false t =
-      one_off w.stack w.machine.height h.height (λ (o : PopResult). stepped w (on_memory (cut_size o) w.stack w.memory)) _ refl
+      one_off w.stack w.machine.height h.height (λ (o : Result (ℕ × ℕ) Refusal). stepped w (on_memory (cut_size o) w.stack w.memory)) _ refl
       (λ i e. same (λ d. stepped w (on_memory d w.stack w.memory)) (ltb 65535 (to_u32 (get_or w.stack i 0))) (λ u. errs MSliceParamOverflow) (λ u. panics))
 
   pub m_st_agrees : Agree w (by_op M_ST (up_to c (p + 1 + 1))) (rust.m_st c (p + 1) (view stale w))
@@ -257,7 +248,7 @@ module _ (w : World) (stale : ℕ) (h : Facts w) (bytes : Bytes w.pool) where
 
   -- its operands being there
   m_sti_whole : leb (p + 1 + 4) (length c) ≡ true → (next : ℕ) (payload : List ℕ) → Fills (big_endian 2 c (p + 1)) payload → payload_of c p (big_endian 2 c (p + 1)) (get_or c (p + 4) 0) ≡ payload
-      → Agree w (by_op M_STI (extents.Next next)) (allocs (view stale w) next (values_of w.machine.height w.stack) (big_endian 2 c (p + 1)) (get_or c (p + 1 + 2) 0) payload)
+      → Agree w (by_op M_STI (Some next)) (allocs (view stale w) next (values_of w.machine.height w.stack) (big_endian 2 c (p + 1)) (get_or c (p + 1 + 2) 0) payload)
   unfolding by_extent execute is_equality m_sti m_sti_of with_operand registers_of
   m_sti_whole t next payload fills is =
       let l : p + 1 + 4 ≤ length c = leb-true _ _ t in
@@ -276,7 +267,7 @@ module _ (w : World) (stale : ℕ) (h : Facts w) (bytes : Bytes w.pool) where
       (stores next w.machine.height (big_endian 2 c (p + 1)) (get_or c (p + 3) 0) payload fills)
 
   -- a cut one panics at the first operand that is not there
-  m_sti_cut : (a b : Bool) → Agree w (by_op M_STI extents.Cut) (cond a (cond b panic panic) panic)
+  m_sti_cut : (a b : Bool) → Agree w (by_op M_STI None) (cond a (cond b panic panic) panic)
   unfolding by_extent cut inner_result
   m_sti_cut true true = panics
   m_sti_cut true false = panics

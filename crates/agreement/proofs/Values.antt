@@ -5,10 +5,6 @@ use mathlib.Core.Path.{◌≡◌, refl}
 use lib.Dec.{eqb, ltb}
 use Rattle.values.specs.Values.{is_qnan, is_vec, is_u32_val, raw_tag, to_u32, to_bool_val, bool_not, fat_pointer, product, mul_checked, mul_checked_i, is_bool, one_vector, of_one_kind, alike, value_eq, turned, value_cmp, to_fat_pointer}
 use Rattle.values.specs.declared.FatPointer.{FatPointer}
-use Rattle.values.specs.declared.ValueResult.{ValueResult}
-use Rattle.values.specs.declared.ValueResult.TheVariants.{Value, NoValue}
-use Rattle.values.specs.declared.PointerResult.{PointerResult}
-use Rattle.values.specs.declared.PointerResult.TheVariants.{Pointer, NoPointer}
 use Rattle.errors.specs.declared.Refusal.TheVariants as refusal
 use Rattle.machine.specs.World.{World}
 use Rattle.machine.specs.Words.{StepResult}
@@ -18,9 +14,11 @@ use Rattle.rust.specs.Vm.{VM}
 use Rattle.agreement.specs.Agreement.{Agree, refusal_of}
 use Rattle.agreement.specs.Exceptions.{scalar_with_vector, true_with_false}
 use Rattle.agreement.proofs.Laws.{same}
+use Rattle.std.specs.Prelude.{Ok, Err, Result}
+use Rattle.errors.specs.declared.Refusal.{Refusal}
 
-module _ {w : World} (f : ValueResult → StepResult) (k : ℕ → Out VM) (given : (value : ℕ) → Agree w (f (Value value)) (k value))
-    (missed : (error : VMError) → Agree w (f (NoValue (refusal_of error))) (err error)) where
+module _ {w : World} (f : Result ℕ Refusal → StepResult) (k : ℕ → Out VM) (given : (value : ℕ) → Agree w (f (Ok value)) (k value))
+    (missed : (error : VMError) → Agree w (f (Err (refusal_of error))) (err error)) where
   product_agrees : (left right : ℕ) → Agree w (f (product left right)) (rust.product left right k)
   unfolding product rust.product
   product_agrees left right = same f (ltb (left * right) (2 ^ 32)) (λ t. given _) (λ t. missed MultiplicationOverflowed)
@@ -29,7 +27,7 @@ module _ {w : World} (f : ValueResult → StepResult) (k : ℕ → Out VM) (give
   unfolding mul_checked rust.mul_checked
   mul_agrees lhs rhs = by (is_u32_val lhs) (is_u32_val rhs)
     where
-      by : (a b : Bool) → Agree w (f (cond a (cond b (product (to_u32 lhs) (to_u32 rhs)) (NoValue refusal.InvalidType)) (NoValue refusal.InvalidType)))
+      by : (a b : Bool) → Agree w (f (cond a (cond b (product (to_u32 lhs) (to_u32 rhs)) (Err refusal.InvalidType)) (Err refusal.InvalidType)))
           (cond (a && b) (rust.product (to_u32 lhs) (to_u32 rhs) k) (err InvalidType))
       by true true = product_agrees (to_u32 lhs) (to_u32 rhs)
       by true false = missed InvalidType
@@ -44,7 +42,7 @@ module _ {w : World} (f : ValueResult → StepResult) (k : ℕ → Out VM) (give
   cmp_agrees left right is_lt = by (is_u32_val left) (is_u32_val right)
     where
       by : (a b : Bool)
-          → Agree w (f (cond a (cond b (Value (to_bool_val (cond is_lt (ltb (to_u32 left) (to_u32 right)) (ltb (to_u32 right) (to_u32 left))))) (NoValue refusal.InvalidType)) (NoValue refusal.InvalidType)))
+          → Agree w (f (cond a (cond b (Ok (to_bool_val (cond is_lt (ltb (to_u32 left) (to_u32 right)) (ltb (to_u32 right) (to_u32 left))))) (Err refusal.InvalidType)) (Err refusal.InvalidType)))
           (cond (a && b) (k (to_bool_val (cond is_lt (ltb (to_u32 left) (to_u32 right)) (ltb (to_u32 right) (to_u32 left))))) (err InvalidType))
       by true true = given _
       by true false = missed InvalidType
@@ -56,10 +54,10 @@ module _ {w : World} (f : ValueResult → StepResult) (k : ℕ → Out VM) (give
     where
       by : (a b c d : Bool)
           → Agree w
-          (f (cond a (Value (to_bool_val (eqb (to_u32 left) (to_u32 right))))
-          (cond b (Value (to_bool_val (eqb (to_u32 left) (to_u32 right))))
-          (cond c (Value (to_bool_val (eqb left right)))
-          (cond d (Value (to_bool_val (eqb left right))) (NoValue refusal.InvalidType))))))
+          (f (cond a (Ok (to_bool_val (eqb (to_u32 left) (to_u32 right))))
+          (cond b (Ok (to_bool_val (eqb (to_u32 left) (to_u32 right))))
+          (cond c (Ok (to_bool_val (eqb left right)))
+          (cond d (Ok (to_bool_val (eqb left right))) (Err refusal.InvalidType))))))
           (cond (a || b) (k (to_bool_val (eqb (to_u32 left) (to_u32 right)))) (cond (c || d) (k (to_bool_val (eqb left right))) (err InvalidType)))
       by true b c d = given _
       by false true c d = given _
@@ -80,7 +78,7 @@ module _ {w : World} (f : ValueResult → StepResult) (k : ℕ → Out VM) (give
       (λ t. missed InvalidType)
     where
       by : (one same_tag a b : Bool) → (one && same_tag) ≡ false → (a && b && not same_tag) ≡ false → (same_tag ≡ true → one ≡ false → Agree w (f (alike (raw_tag left) left right)) o)
-          → Agree w (f (cond one (NoValue refusal.TypeMismatch) (cond (cond same_tag true (cond a b false)) (alike (raw_tag left) left right) (NoValue refusal.TypeMismatch)))) (cond same_tag o (err TypeMismatch))
+          → Agree w (f (cond one (Err refusal.TypeMismatch) (cond (cond same_tag true (cond a b false)) (alike (raw_tag left) left right) (Err refusal.TypeMismatch)))) (cond same_tag o (err TypeMismatch))
       by true true a b no_vector no_bools compares = absurd (true≢false no_vector)
       by false true a b no_vector no_bools compares = compares refl refl
       by true false a b no_vector no_bools compares = missed TypeMismatch
@@ -94,13 +92,13 @@ module _ {w : World} (f : ValueResult → StepResult) (k : ℕ → Out VM) (give
   scalars_agree left right t u e = rw (t, u, e) (alike_agrees (raw_tag left) left right)
 
 -- NEQ: the answer turned round on both sides
-module _ {w : World} (f : ValueResult → StepResult) (k : ℕ → Out VM) (given : (value : ℕ) → Agree w (f (Value value)) (k value))
-    (missed : (error : VMError) → Agree w (f (NoValue (refusal_of error))) (err error)) where
-  turned_missed : (error : VMError) → Agree w (f (turned (NoValue (refusal_of error)))) (err error)
+module _ {w : World} (f : Result ℕ Refusal → StepResult) (k : ℕ → Out VM) (given : (value : ℕ) → Agree w (f (Ok value)) (k value))
+    (missed : (error : VMError) → Agree w (f (Err (refusal_of error))) (err error)) where
+  turned_missed : (error : VMError) → Agree w (f (turned (Err (refusal_of error)))) (err error)
   unfolding turned
   turned_missed error = missed error
 
-  turned_given : (value : ℕ) → Agree w (f (turned (Value value))) (k (bool_not value))
+  turned_given : (value : ℕ) → Agree w (f (turned (Ok value))) (k (bool_not value))
   unfolding turned
   turned_given value = given (bool_not value)
 
@@ -109,7 +107,7 @@ module _ {w : World} (f : ValueResult → StepResult) (k : ℕ → Out VM) (give
   scalars_differ left right = scalars_agree (λ r. f (turned r)) (λ v. k (bool_not v)) turned_given turned_missed left right
 
 -- the place of a vector
-pub pointer_agrees : {w : World} (f : PointerResult → StepResult) (k : FatPointer → Out VM) (v : ℕ) → (is_vec v ≡ true → Agree w (f (Pointer (fat_pointer v))) (k (fat_pointer v)))
-    → Agree w (f (NoPointer refusal.InvalidType)) (err InvalidType) → Agree w (f (to_fat_pointer v)) (rust.to_fat_pointer v k)
+pub pointer_agrees : {w : World} (f : Result FatPointer Refusal → StepResult) (k : FatPointer → Out VM) (v : ℕ) → (is_vec v ≡ true → Agree w (f (Ok (fat_pointer v))) (k (fat_pointer v)))
+    → Agree w (f (Err refusal.InvalidType)) (err InvalidType) → Agree w (f (to_fat_pointer v)) (rust.to_fat_pointer v k)
 unfolding to_fat_pointer rust.to_fat_pointer
 pointer_agrees f k v given missed = same f (is_vec v) given (λ t. missed)

@@ -9,7 +9,6 @@ use lib.ListN.{length, take, set}
 use Rattle.slices.specs.Numbers.{Bytes}
 use Rattle.inlinevec.specs.Stacks.{if_room, push, values_of, loops_of, last_two, change_two}
 use Rattle.inlinevec.specs.declared.Frame.{Frame}
-use Rattle.inlinevec.specs.declared.Frames.{Frames}
 use Rattle.inlinevec.proofs.Lists.{pushed_values, length_values}
 use borrow.Author.Tests.{ltb-true}
 use Rattle.pools.specs.Pool.{entries_of}
@@ -17,7 +16,6 @@ use Rattle.storage.specs.declared.Task.{Task}
 use Rattle.mechanism.specs.Registers.{OnMemory, on_memory, moved}
 use Rattle.mechanism.specs.Stack.{push_value, pushed_to}
 use Rattle.mechanism.specs.declared.Registers.{Registers}
-use Rattle.mechanism.specs.declared.RegistersResult.TheVariants.{Next}
 use Rattle.mechanism.specs.Execute.{kept}
 use Rattle.machine.specs.declared.Machine.{Machine}
 use Rattle.machine.specs.Machines.{current, with_current, with_ids}
@@ -32,8 +30,10 @@ use Rattle.agreement.specs.View.{callers, storage_of, shown, view}
 use Rattle.agreement.specs.Agreement.{Agree, errs}
 use Rattle.agreement.proofs.Facts.{Facts}
 use Rattle.agreement.proofs.Laws.{goes_by}
+use Rattle.std.specs.Prelude.{Ok}
+use Rattle.inlinevec.specs.declared.Two.{Two}
 
-module _ (frames : Frames) (frame : Frame) where
+module _ (frames : Two Frame) (frame : Frame) where
   by_current : (one : Bool) → eqb frames.count 1 ≡ one → current (with_current frames frame) ≡ frame
   unfolding current with_current last_two change_two
   by_current true e = rw (e) (rw e)
@@ -79,14 +79,14 @@ module _ (w : World) (stale : ℕ) (bytes : Bytes w.pool) where
       → shown (record { instructions_ref = (current w.machine.frames).entry.0; pc = registers.place }) stale (callers w.machine.frames)
       (values_of registers.height stack) (loops_of registers.loops) (take registers.memory memory)
       (entries_of w.pool w.ends w.machine.entries) (storage_of w.machine.next_id.0 w.machine.count w.table) ≡ vm
-      → Agree w (stepped w (on_memory (Next registers) stack memory)) (ok vm)
+      → Agree w (stepped w (on_memory (Ok registers) stack memory)) (ok vm)
   unfolding inner_result
   goes registers stack memory vm e =
       goes_by stale bytes (view_settled stale w.machine registers w.table stack memory w.pool w.ends w.save ∙ e)
 
   -- on at another place with other values
   pub moves : (place height : ℕ) (stack values : List ℕ) → values_of height stack ≡ values
-      → Agree w (stepped w (on_memory (Next (moved (registers_of w.machine) place height)) stack w.memory)) (ok (at (view stale w) place values))
+      → Agree w (stepped w (on_memory (Ok (moved (registers_of w.machine) place height)) stack w.memory)) (ok (at (view stale w) place values))
   unfolding registers_of view
   moves place height stack values e =
       goes (moved (registers_of w.machine) place height) stack w.memory _

@@ -4,7 +4,6 @@ use Rattle.std.proofs.Math.Option.{Option, none, some}
 use Rattle.inlinevec.specs.Stacks.{values_of, loops_of}
 use Rattle.inlinevec.specs.declared.Loop.{Loop}
 use Rattle.inlinevec.specs.declared.Frame.{Frame}
-use Rattle.inlinevec.specs.declared.Frames.{Frames}
 use Rattle.pools.specs.Pool.{entries_of}
 use Rattle.storage.specs.declared.Task.{Task}
 use Rattle.machine.specs.Machines.{current}
@@ -12,14 +11,15 @@ use Rattle.machine.specs.World.{World}
 use Rattle.rust.specs.TaskTypes.{TaskVM}
 use Rattle.rust.specs.Storage.{Storage}
 use Rattle.rust.specs.Vm.{VM, InstructionsFrame}
+use Rattle.inlinevec.specs.declared.Two.{Two}
 
 -- a frame
 abbrev pub frame_of : Frame → InstructionsFrame
 frame_of frame = record { instructions_ref = frame.entry.0; pc = frame.place }
 
 -- the frames below the current one
-unfoldable pub callers : Frames → List InstructionsFrame
-callers frames = cond (eqb frames.count 1) [] (frame_of frames.main ∷ [])
+unfoldable pub callers : Two Frame → List InstructionsFrame
+callers frames = cond (eqb frames.count 1) [] (frame_of frames.first ∷ [])
 
 -- a living slot is a task
 abbrev pub held : Task → TaskVM

@@ -1,11 +1,8 @@
 -- Operands in the code: big_endian numbers, and how far an instruction reaches.
-use Rattle.std.specs.Prelude.{ℕ, zero, suc, ◌+◌, ◌*◌, ◌<◌, cond, List, ◌≡◌, get_or, length, eqb, leb}
+use Rattle.std.specs.Prelude.{ℕ, zero, suc, ◌+◌, ◌*◌, ◌<◌, cond, List, ◌≡◌, get_or, length, eqb, leb, Ok, Err, Some, None, Result, Option}
 use Rattle.bytecode.specs.Opcodes.{operand_size, PUSH_CALLDATA, M_STI}
-use Rattle.bytecode.specs.declared.OperandResult.{OperandResult}
-use Rattle.bytecode.specs.declared.OperandResult.TheVariants.{Operand, NoOperand}
-use Rattle.bytecode.specs.declared.Extent.{Extent}
-use Rattle.bytecode.specs.declared.Extent.TheVariants.{Next, Cut}
 use Rattle.errors.specs.declared.Refusal.TheVariants.{UnexpectedEOB}
+use Rattle.errors.specs.declared.Refusal.{Refusal}
 
 -- the number in `size` bytes of the code from a place, the first byte highest
 unfoldable pub big_endian : ℕ → List ℕ → ℕ → ℕ
@@ -13,8 +10,8 @@ big_endian zero code at = 0
 big_endian (suc size) code at = big_endian size code at * 256 + get_or code (at + size) 0
 
 -- the operand of `size` bytes at a place, or that the code is too short
-unfoldable pub operand : ℕ → List ℕ → ℕ → OperandResult
-operand size code at = cond (leb (at + size) (length code)) (Operand (big_endian size code at)) (NoOperand UnexpectedEOB)
+unfoldable pub operand : ℕ → List ℕ → ℕ → Result ℕ Refusal
+operand size code at = cond (leb (at + size) (length code)) (Ok (big_endian size code at)) (Err UnexpectedEOB)
 
 -- the bytes behind the operands: PUSH_CALLDATA's data, and M_STI's payload if its signal is 1
 unfoldable pub data_size : List ℕ → ℕ → ℕ
@@ -27,12 +24,12 @@ unfoldable pub behind : List ℕ → ℕ → ℕ
 behind code at = at + 1 + operand_size (get_or code at 0) + data_size code at
 
 -- the next instruction's place, or that the code's end cuts this one
-unfoldable pub extent : List ℕ → ℕ → Extent
-extent code at = cond (leb (behind code at) (length code)) (Next (behind code at)) Cut
+unfoldable pub extent : List ℕ → ℕ → Option ℕ
+extent code at = cond (leb (behind code at) (length code)) (Some (behind code at)) None
 
 -- the same for an instruction with so many bytes of operands
-unfoldable pub reaching : List ℕ → ℕ → ℕ → Extent
-reaching code at operands = cond (leb (at + 1 + operands + data_size code at) (length code)) (Next (at + 1 + operands + data_size code at)) Cut
+unfoldable pub reaching : List ℕ → ℕ → ℕ → Option ℕ
+reaching code at operands = cond (leb (at + 1 + operands + data_size code at) (length code)) (Some (at + 1 + operands + data_size code at)) None
 
 -- a table that has the operand size of each opcode byte
 pub record Follows (sizes : List ℕ) : Type 0 where
@@ -42,5 +39,5 @@ pub record Follows (sizes : List ℕ) : Type 0 where
 unfoldable pub behind_by : List ℕ → List ℕ → ℕ → ℕ
 behind_by sizes code at = at + 1 + get_or sizes (get_or code at 0) 0 + data_size code at
 
-unfoldable pub extent_by : List ℕ → List ℕ → ℕ → Extent
-extent_by sizes code at = cond (leb (behind_by sizes code at) (length code)) (Next (behind_by sizes code at)) Cut
+unfoldable pub extent_by : List ℕ → List ℕ → ℕ → Option ℕ
+extent_by sizes code at = cond (leb (behind_by sizes code at) (length code)) (Some (behind_by sizes code at)) None

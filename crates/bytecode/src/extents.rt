@@ -1,99 +1,83 @@
 // How far an instruction reaches: its operands, by a table of their sizes, and the data behind them.
-ghost use Rattle.std.specs.Prelude.{◌≡◌, ◌<◌, length, get_or};
+ghost use Rattle.std.specs.Prelude.{◌≡◌, ◌+◌, ◌<◌, length, get_or};
 ghost use Rattle.bytecode.specs.Opcodes.{operand_size};
-ghost use Rattle.bytecode.specs.Operands.{data_size, reaching, extent, Follows, extent_by};
+ghost use Rattle.bytecode.specs.Operands.{big_endian, data_size, reaching, extent, Follows, extent_by};
 
-use crate::Extent;
 use crate::opcodes::*;
-
-// A byte as a wider number.
-fn wide(byte: u8) -> u32
-    ensures { (result ≡ byte) × (result < 256) }
-{
-    byte as u32
-}
+use slices::get_or;
 
 // The table of operand sizes, to be lent to `extent_by`: a constant that is indexed is built anew at each call.
+#[tactic(auto, using(crate::proofs::OperandRule::table_rule))]
 pub fn operand_sizes() -> [u8; 256]
     ensures { Follows result }
 {
     OPERAND_SIZES
 }
 
-// The byte at a place, 0 past the end.
-fn byte(code: &[u8], at: usize) -> u32
-    ensures { (result ≡ get_or code.now at 0) × (result < 256) }
+// The two bytes behind an opcode as a size.
+#[tactic(auto, using(crate::proofs::BigEndian::two_behind))]
+fn size_behind(code: &[u8], at: usize) -> usize
+    requires { at < length code.now }
+    ensures { (result ≡ big_endian 2 code.now (at + 1)) × (result < 65536) }
 {
-    if at < code.len() {
-        return wide(code[at]);
-    }
-    0
+    let size = u16::from_be_bytes([get_or(code, at + 1, 0), get_or(code, at + 2, 0)]);
+    usize::from(size)
 }
 
 // How many bytes stand behind the operands of the instruction at a place.
+#[tactic(auto, unfolding(crate::specs::Operands::data_size))]
 fn data_size(code: &[u8], at: usize) -> usize
     requires { at < length code.now }
     ensures { (result ≡ data_size code.now at) × (result < 65536) }
 {
-    let op = code[at];
-    if op == PUSH_CALLDATA {
-        return (byte(code, at + 1) * 256 + byte(code, at + 2)) as usize;
+    match code[at] {
+        PUSH_CALLDATA => size_behind(code, at),
+        M_STI if get_or(code, at + 4, 0) == 1 => size_behind(code, at),
+        _ => 0,
     }
-    if op == M_STI {
-        if byte(code, at + 4) == 1 {
-            return (byte(code, at + 1) * 256 + byte(code, at + 2)) as usize;
-        }
-        return 0;
-    }
-    0
 }
 
 // How many bytes of operands follow an opcode, by the table. M_STI, M_ST and M_MUTA are told first: the table is built anew at each call, and a run of
 // them would wait for it.
+#[tactic(auto, unfolding(crate::specs::Opcodes::operand_size))]
 fn operand_size(op: u8) -> usize
     ensures { (result ≡ operand_size op) × (result < 256) }
 {
     match op {
-        0x1B => 4,
-        0x1C => 1,
-        0x1D => 0,
+        M_STI => 4,
+        M_ST => 1,
+        M_MUTA => 0,
         _ => {
             let sizes = operand_sizes();
-            wide(sizes[op as usize]) as usize
+            usize::from(sizes[usize::from(op)])
         }
     }
 }
 
 // The place behind an instruction with so many bytes of operands, or that the code's end cuts it.
-fn reaching(code: &[u8], at: usize, operands: usize) -> Extent
+#[tactic(auto, unfolding(crate::specs::Operands::reaching))]
+fn reaching(code: &[u8], at: usize, operands: usize) -> Option<usize>
     requires { (at < length code.now) × (operands < 256) }
     ensures { result ≡ reaching code.now at operands }
 {
     let next = at + 1 + operands + data_size(code, at);
-    if next <= code.len() {
-        return Extent::Next(next);
-    }
-    Extent::Cut
+    (next <= code.len()).then_some(next)
 }
 
 // The place behind the instruction at a place, or that the code's end cuts it.
-pub fn extent(code: &[u8], at: usize) -> Extent
+#[tactic(auto, unfolding(crate::specs::Operands::extent, crate::specs::Operands::behind, crate::specs::Operands::reaching))]
+pub fn extent(code: &[u8], at: usize) -> Option<usize>
     ensures { result ≡ extent code.now at }
 {
-    if code.len() <= at {
-        return Extent::Cut;
-    }
-    let operands = operand_size(code[at]);
-    reaching(code, at, operands)
+    let op = *code.get(at)?;
+    reaching(code, at, operand_size(op))
 }
 
 // The same, by a table of operand sizes.
-pub fn extent_by(sizes: &[u8; 256], code: &[u8], at: usize) -> Extent
+#[tactic(auto, unfolding(crate::specs::Operands::extent_by, crate::specs::Operands::behind_by, crate::specs::Operands::reaching))]
+pub fn extent_by(sizes: &[u8; 256], code: &[u8], at: usize) -> Option<usize>
     ensures { result ≡ extent_by sizes.now code.now at }
 {
-    if code.len() <= at {
-        return Extent::Cut;
-    }
-    let operands = wide(sizes[code[at] as usize]) as usize;
-    reaching(code, at, operands)
+    let op = *code.get(at)?;
+    reaching(code, at, usize::from(sizes[usize::from(op)]))
 }

@@ -2,64 +2,60 @@
 ghost use Rattle.std.specs.Prelude.{◌≡◌, ◌+◌, ◌<◌, ◌≤◌, leb, length};
 ghost use Rattle.bytecode.specs.Operands.{big_endian, operand};
 
-use crate::OperandResult;
 use errors::Refusal;
 
 // Whether so many bytes stand in the code from a place on.
 fn holds(length: usize, at: usize, size: usize) -> bool
     ensures { result ≡ leb (at + size) length }
 {
-    if length < at {
-        return false;
-    }
-    if length - at < size {
-        return false;
-    }
-    true
+    at <= length && size <= length - at
 }
 
 // Two bytes, the first one highest.
+#[tactic(auto, using(crate::proofs::BigEndian::two))]
 fn two_bytes(code: &[u8], at: usize) -> u32
     requires { at + 2 ≤ length code.now }
     ensures { (result ≡ big_endian 2 code.now at) × (result < 65536) }
 {
-    code[at] as u32 * 256 + code[at + 1] as u32
+    u32::from(u16::from_be_bytes([code[at], code[at + 1]]))
 }
 
 // Four bytes, the first one highest.
+#[tactic(auto, using(crate::proofs::BigEndian::four))]
 fn four_bytes(code: &[u8], at: usize) -> u32
     requires { at + 4 ≤ length code.now }
     ensures { result ≡ big_endian 4 code.now at }
 {
-    two_bytes(code, at) * 65536 + two_bytes(code, at + 2)
+    u32::from_be_bytes([code[at], code[at + 1], code[at + 2], code[at + 3]])
 }
 
 // The operand of one byte at a place.
-pub fn prepare_u8(code: &[u8], at: usize) -> OperandResult
+#[tactic(auto, unfolding(crate::specs::Operands::operand), using(crate::proofs::BigEndian::one))]
+pub fn prepare_u8(code: &[u8], at: usize) -> Result<u32, Refusal>
     ensures { result ≡ operand 1 code.now at }
 {
-    if holds(code.len(), at, 1) {
-        return OperandResult::Operand(code[at] as u32);
-    }
-    OperandResult::NoOperand(Refusal::UnexpectedEOB)
+    let byte = code.get(at).ok_or(Refusal::UnexpectedEOB)?;
+    Ok(u32::from(*byte))
 }
 
 // The operand of two bytes at a place.
-pub fn prepare_u16_from_be_checked(code: &[u8], at: usize) -> OperandResult
+#[tactic(auto, unfolding(crate::specs::Operands::operand))]
+pub fn prepare_u16_from_be_checked(code: &[u8], at: usize) -> Result<u32, Refusal>
     ensures { result ≡ operand 2 code.now at }
 {
-    if holds(code.len(), at, 2) {
-        return OperandResult::Operand(two_bytes(code, at));
+    if !holds(code.len(), at, 2) {
+        return Err(Refusal::UnexpectedEOB);
     }
-    OperandResult::NoOperand(Refusal::UnexpectedEOB)
+    Ok(two_bytes(code, at))
 }
 
 // The operand of four bytes at a place.
-pub fn prepare_u32_from_be_checked(code: &[u8], at: usize) -> OperandResult
+#[tactic(auto, unfolding(crate::specs::Operands::operand))]
+pub fn prepare_u32_from_be_checked(code: &[u8], at: usize) -> Result<u32, Refusal>
     ensures { result ≡ operand 4 code.now at }
 {
-    if holds(code.len(), at, 4) {
-        return OperandResult::Operand(four_bytes(code, at));
+    if !holds(code.len(), at, 4) {
+        return Err(Refusal::UnexpectedEOB);
     }
-    OperandResult::NoOperand(Refusal::UnexpectedEOB)
+    Ok(four_bytes(code, at))
 }

@@ -16,10 +16,7 @@ use Rattle.machine.specs.Run as machine-run
 use Rattle.machine.specs.declared.Outcome.TheVariants as outcome
 use Rattle.storage.specs.Tasks.{blank}
 use Rattle.values.specs.Values.{to_calldata_val}
-use Rattle.image.specs.declared.SaveResult.TheVariants.{Saved, NotSaved}
-use Rattle.memory.specs.declared.unbox.Return.TheVariants.{U32, CallData, NoReturn}
-use Rattle.machine.specs.declared.CreateResult.TheVariants.{Created, NotCreated}
-use Rattle.machine.specs.declared.TaskResult.TheVariants.{Readable, NotReadable}
+use Rattle.memory.specs.declared.unbox.Return.TheVariants.{U32, CallData}
 use Rattle.machine.specs.Machines.{with_frames}
 use Rattle.machine.specs.World.{World, world, moved}
 use Rattle.machine.specs.Run.{run}
@@ -52,6 +49,7 @@ use Rattle.machine.specs.Sound as vm-sound
 use Rattle.machine.specs.Calls as vm-calls
 use Rattle.machine.specs.Creation as vm-creation
 use Rattle.machine.specs.Reads as vm-reads
+use Rattle.std.specs.Prelude.{Ok, Err}
 
 -- 12
 abbrev End_call : List ℕ
@@ -92,7 +90,7 @@ high height = raised height C1
 -- one in a task, whose frame names this entry
 abbrev in_task : ℕ → World
 in_task entry =
-    with_machine (fresh_world C1) (with_frames (fresh_world C1).machine (record { count = 2; main = (fresh_world C1).machine.frames.main; task = record { entry = record { 0 = entry }; place = 0 } }))
+    with_machine (fresh_world C1) (with_frames (fresh_world C1).machine (record { count = 2; first = (fresh_world C1).machine.frames.first; second = record { entry = record { 0 = entry }; place = 0 } }))
 
 -- one with a length of the pool in use, and a next id and an S_LEN count
 abbrev counting : ℕ → ℕ → ℕ → World
@@ -132,7 +130,7 @@ pub record Examples : Type 0 where
   -- with one value
   pub start_values : (started C1).report.machine.height ≡ 1
   -- and the current frame's place becomes 0
-  pub start_place : (started C1).report.machine.frames.main.place ≡ 0
+  pub start_place : (started C1).report.machine.frames.first.place ≡ 0
   -- with fuel 2 it is paused
   pub pause_outcome : (start 2 (fresh_world C1)).report.outcome ≡ outcome.Paused
   -- after two instructions
@@ -162,15 +160,15 @@ pub record Examples : Type 0 where
   -- a run ended inside task 0: two frames
   pub ends_in_a_task : (started In_task).report.machine.frames.count ≡ 2
   -- and main is left behind its CALL
-  pub ends_behind_call : (started In_task).report.machine.frames.main.place ≡ 15
+  pub ends_behind_call : (started In_task).report.machine.frames.first.place ≡ 15
   -- a start begins at main, place 0: all seven instructions again
   pub start_from_main : (start 9 (after (started In_task))).report.finished ≡ 7
   -- whose S_LEN finds two tasks
-  pub start_from_main_value : (value_read 0 (after (start 9 (after (started In_task))))).answer ≡ U32 2
+  pub start_from_main_value : (value_read 0 (after (start 9 (after (started In_task))))).answer ≡ Ok (U32 2)
   -- a rerun begins inside the task: its one instruction
   pub rerun_in_a_task : (rerun 9 (after (started In_task))).report.finished ≡ 1
   -- whose S_LEN finds one task
-  pub rerun_in_a_task_value : (value_read 0 (after (rerun 9 (after (started In_task))))).answer ≡ U32 1
+  pub rerun_in_a_task_value : (value_read 0 (after (rerun 9 (after (started In_task))))).answer ≡ Ok (U32 1)
   -- and after a rerun a start is at main again
   pub start_from_main_again : (start 9 (after (rerun 9 (after (started In_task))))).report.finished ≡ 7
   -- vm::sound::sound: a new machine
@@ -190,9 +188,9 @@ pub record Examples : Type 0 where
   -- pool entries not end to end
   pub unsound_pool : is_sound (counting 16 0 0) ≡ false
   -- vm::creating::create: image I1 and a program of one byte: two entries, next id 1, S_LEN count 1
-  pub create_machine : (creating 256 I1 (0x1d ∷ [])).answer ≡ Created (new_machine 1 2 1 1)
+  pub create_machine : (creating 256 I1 (0x1d ∷ [])).answer ≡ Ok (new_machine 1 2 1 1)
   -- image I1 with next id 2: S_LEN is still 1
-  pub create_next_id : (creating 256 (set I1 6 2) (0x1d ∷ [])).answer ≡ Created (new_machine 1 2 2 1)
+  pub create_next_id : (creating 256 (set I1 6 2) (0x1d ∷ [])).answer ≡ Ok (new_machine 1 2 2 1)
   -- task 0 lives
   pub create_living : (get_or (creating 256 I1 (0x1d ∷ [])).table 0 blank).living ≡ true
   -- its instructions are the entry behind the program
@@ -200,46 +198,46 @@ pub record Examples : Type 0 where
   -- the slot behind it is blank
   pub create_blank : (get_or (creating 256 I1 (0x1d ∷ [])).table 1 blank).living ≡ false
   -- an empty program is 1, before 25
-  pub create_empty : (creating 256 (0x00 ∷ []) []).answer ≡ NotCreated EmptyInstructions
+  pub create_empty : (creating 256 (0x00 ∷ []) []).answer ≡ Err EmptyInstructions
   -- a table not of 256 slots is 26, before 1
-  pub create_short_table : (creating 255 I1 []).answer ≡ NotCreated WrongPhaseOrUnsound
+  pub create_short_table : (creating 255 I1 []).answer ≡ Err WrongPhaseOrUnsound
   -- a bad image is 25 with the record's start
-  pub create_bad_image : (creating 256 (0x00 ∷ []) (0x1d ∷ [])).answer ≡ NotCreated (BadImage 0)
+  pub create_bad_image : (creating 256 (0x00 ∷ []) (0x1d ∷ [])).answer ≡ Err (BadImage 0)
   -- vm::value_reading::read_value: C1's value
-  pub value_first : (value_read 0 (after (started C1))).answer ≡ U32 99
+  pub value_first : (value_read 0 (after (started C1))).answer ≡ Ok (U32 99)
   -- a position past the values is 26
-  pub value_past : (value_read 1 (after (started C1))).answer ≡ NoReturn WrongPhaseOrUnsound
+  pub value_past : (value_read 1 (after (started C1))).answer ≡ Err WrongPhaseOrUnsound
   -- values bottom first
-  pub value_at_the_bottom : (value_read 0 (after (started Two_values))).answer ≡ U32 5
+  pub value_at_the_bottom : (value_read 0 (after (started Two_values))).answer ≡ Ok (U32 5)
   -- calldata, its part being entry 1 of the pool
-  pub value_calldata : (value_read 0 (after (started Calldata))).answer ≡ CallData (record { 0 = 1 })
+  pub value_calldata : (value_read 0 (after (started Calldata))).answer ≡ Ok (CallData (record { 0 = 1 }))
   -- on a machine that is not done it is 26
-  pub value_paused : (value_read 0 (after (start 2 (fresh_world C1)))).answer ≡ NoReturn WrongPhaseOrUnsound
+  pub value_paused : (value_read 0 (after (start 2 (fresh_world C1)))).answer ≡ Err WrongPhaseOrUnsound
   -- vm::task_reading::read_task: no such task is 9 with the id
-  pub task_missing : (task_read (record { 0 = 3 }) (fresh_world C1)).answer.result ≡ NotReadable (TaskNotFound 3)
+  pub task_missing : (task_read (record { 0 = 3 }) (fresh_world C1)).answer.result ≡ Err (TaskNotFound 3)
   -- an unsound record is 26, before 9
-  pub task_unsound : (task_read (record { 0 = 3 }) (high 1001)).answer.result ≡ NotReadable WrongPhaseOrUnsound
+  pub task_unsound : (task_read (record { 0 = 3 }) (high 1001)).answer.result ≡ Err WrongPhaseOrUnsound
   -- task 0 of image I1
-  pub task_loaded : (task_read (record { 0 = 0 }) (loaded 2)).answer.result ≡ Readable
+  pub task_loaded : (task_read (record { 0 = 0 }) (loaded 2)).answer.result ≡ Ok tt
   -- has a title of two bytes
   pub task_title : (task_read (record { 0 = 0 }) (loaded 2)).answer.task.title_len ≡ 2
   -- with the program alone in the pool its entry is missing, 12
-  pub task_without_entry : (task_read (record { 0 = 0 }) (loaded 1)).answer.result ≡ NotReadable (InvalidInstructionsIndex 1)
+  pub task_without_entry : (task_read (record { 0 = 0 }) (loaded 1)).answer.result ≡ Err (InvalidInstructionsIndex 1)
   -- vm::saving::save: after a zero-length image a lone kind 1 of zeros
   pub save_bytes : (saved 14 (fresh_world C1)).save ≡ 0x08 ∷ 0x00 ∷ 0x00 ∷ 0x00 ∷ 0x01 ∷ 0x00 ∷ 0x00 ∷ 0x00 ∷ 0x00 ∷ 0x00 ∷ 0x00 ∷ 0x00 ∷ 0x00 ∷ 0x00 ∷ []
   -- of 14 bytes
-  pub save_length : (saved 14 (fresh_world C1)).report.result ≡ Saved 14
+  pub save_length : (saved 14 (fresh_world C1)).report.result ≡ Ok 14
   -- a buffer that is too short is 24
-  pub save_short : (saved 13 (fresh_world C1)).report.result ≡ NotSaved SaveBufferTooShort
+  pub save_short : (saved 13 (fresh_world C1)).report.result ≡ Err SaveBufferTooShort
   -- and nothing is written
   pub save_short_bytes : (saved 13 (fresh_world C1)).save ≡ replicate 13 0xff
   -- after image I1 the same bytes; those past it stay
   pub save_loaded : (saved 31 (loaded 2)).save ≡ I1 ++ (0xff ∷ [])
   -- an unsound record is 26, before 24
-  pub save_unsound : (saved 13 (high 1001)).report.result ≡ NotSaved WrongPhaseOrUnsound
+  pub save_unsound : (saved 13 (high 1001)).report.result ≡ Err WrongPhaseOrUnsound
 
 pub examples : Examples
-unfolding bytecode-opcodes.operand_size bytecode-operands.big_endian bytecode-operands.operand bytecode-operands.data_size bytecode-operands.behind bytecode-operands.extent inlinevec-stacks.if_room inlinevec-stacks.if_some inlinevec-stacks.push inlinevec-stacks.pop inlinevec-stacks.push_two inlinevec-stacks.last_two inlinevec-stacks.pop_two inlinevec-stacks.change_two inlinevec-stacks.push_loop inlinevec-stacks.pop_loop values-values.make_scalar_tagged values-values.is_qnan values-values.is_scalar values-values.is_vec values-values.raw_tag values-values.tag_of values-values.to_u32 values-values.scalar_type values-values.get_value_type pools-pool.end_of pools-pool.start_of pools-pool.bounds pools-pool.entry_of pools-pool.has_room pools-pool.interned pools-pool.part_in_use pools-pool.never_fall pools-pool.end_to_end storage-tasks.blank storage-tasks.title_of storage-tasks.new_task storage-storage.slot_of storage-storage.find storage-table.sound_slot storage-table.sound_slots storage-table.sound_counts storage-table.sound_table vm-sound.sound_frames vm-sound.sound_lengths vm-sound.sound_record vm-sound.sound_world vm-calls.may_start vm-calls.may_continue vm-calls.allowed vm-calls.ended vm-calls.report vm-calls.call_with vm-calls.call vm-reads.is_done vm-reads.readable vm-reads.value_at vm-reads.value_read vm-reads.readable_unless vm-reads.if_found vm-reads.task_result vm-reads.task_read vm-reads.host_saved vm-reads.host_save vm-creation.create vm-creation.create_fit vm-creation.create_behind creation-creation.image_tests creation-creation.creation_tests unbox-unbox.where_bounded unbox-unbox.by_type unbox-unbox.unbox_value image-image.record_of image-image.header image-image.body image-image.task_at image-image.headed image-image.good image-image.task_before image-image.read_from image-image.with_count image-image.read_image slices-numbers.little_endian slices-numbers.number_at image-reading.s_len_of image-reading.instruction_bytes image-reading.image_result image-slots.loaded_task image-slots.saved_task image-table.living_tasks image-table.refusal_by image-table.task_refusal image-table.or_else image-table.first_refusal image-table.image_of_tasks image-table.saved_over image-table.saved_unless image-table.save_tasks image-table.save_table image-table.bytes_after image-table.entries_after image-table.next_reference image-slots.task_in utf8-grammar.UTF8_char utf8-utf8.holds utf8-utf8.lead utf8-utf8.from utf8-utf8.valid machine-machines.current machine-machines.with_current machine-machines.code_of machine-machines.op_at machine-machines.placed machine-machines.rewound machine-fields.within machine-world.at_end machine-words.test machine-words.operand_found machine-words.popped machine-words.looked_at machine-words.push machine-words.calculated machine-words.pointed machine-words.bytes_of machine-words.allocated machine-words.store machine-words.element_changed machine-words.loop_pushed machine-words.loop_popped machine-words.loop_looked_at machine-words.frame_pushed machine-words.frame_popped machine-words.bounds_found machine-words.interned machine-words.found machine-words.first_state machine-words.has_state machine-words.with_room machine-words.saved machine-opcodes.push_u32 machine-opcodes.push_byte machine-opcodes.push_calldata machine-opcodes.mul machine-opcodes.muli machine-opcodes.compare machine-opcodes.t_create machine-opcodes.get_field machine-opcodes.t_get_field machine-opcodes.set_field machine-opcodes.t_set_field machine-opcodes.t_delete machine-opcodes.s_save machine-opcodes.s_len machine-opcodes.«do» machine-opcodes.loop machine-opcodes.loop_index machine-opcodes.enter machine-opcodes.call_task machine-opcodes.end_call machine-opcodes.jump_if_false machine-opcodes.drops machine-opcodes.dup machine-opcodes.swap machine-opcodes.equal machine-opcodes.eq machine-opcodes.neq machine-opcodes.m_sti machine-opcodes.m_st machine-opcodes.m_muta machine-step.execute machine-step.step machine-run.follow machine-run.run image-image.written image-image.records image-table.load_slot image-table.load_tasks image-table.load_read image-table.load_table inlinevec-stacks.push_frame memory-allocation.alloc memory-allocation.filling memory-allocation.is_element_tag memory-allocation.offset_aligned memory-allocation.vector memory-allocation.vector_stored storage-storage.len_after storage-storage.room storage-tasks.default_state values-values.fat_pointer values-values.make_vec_tagged values-values.to_fat_pointer values-values.to_vec_val memory-change.inside
+unfolding bytecode-opcodes.operand_size bytecode-operands.big_endian bytecode-operands.operand bytecode-operands.data_size bytecode-operands.behind bytecode-operands.extent inlinevec-stacks.if_room inlinevec-stacks.if_some inlinevec-stacks.push inlinevec-stacks.pop inlinevec-stacks.push_two inlinevec-stacks.last_two inlinevec-stacks.pop_two inlinevec-stacks.change_two inlinevec-stacks.push_onto inlinevec-stacks.pop_off values-values.make_scalar_tagged values-values.is_qnan values-values.is_scalar values-values.is_vec values-values.raw_tag values-values.tag_of values-values.to_u32 values-values.scalar_type values-values.get_value_type pools-pool.end_of pools-pool.start_of pools-pool.bounds pools-pool.entry_of pools-pool.has_room pools-pool.interned pools-pool.part_in_use pools-pool.never_fall pools-pool.end_to_end storage-tasks.blank storage-tasks.title_of storage-tasks.new_task storage-storage.slot_of storage-storage.find storage-table.sound_slot storage-table.sound_slots storage-table.sound_counts storage-table.sound_table vm-sound.sound_frames vm-sound.sound_lengths vm-sound.sound_record vm-sound.sound_world vm-calls.may_start vm-calls.may_continue vm-calls.allowed vm-calls.ended vm-calls.report vm-calls.call_with vm-calls.call vm-reads.is_done vm-reads.readable vm-reads.value_at vm-reads.value_read vm-reads.readable_unless vm-reads.if_found vm-reads.task_result vm-reads.task_read vm-reads.host_saved vm-reads.host_save vm-creation.create vm-creation.create_fit vm-creation.create_behind creation-creation.image_tests creation-creation.creation_tests unbox-unbox.where_bounded unbox-unbox.by_type unbox-unbox.unbox_value image-image.record_of image-image.header image-image.body image-image.task_at image-image.headed image-image.good image-image.task_before image-image.read_from image-image.with_count image-image.read_image slices-numbers.little_endian slices-numbers.number_at image-reading.s_len_of image-reading.instruction_bytes image-reading.image_result image-slots.loaded_task image-slots.saved_task image-table.living_tasks image-table.refusal_by image-table.task_refusal image-table.or_else image-table.first_refusal image-table.image_of_tasks image-table.saved_over image-table.saved_unless image-table.save_tasks image-table.save_table image-table.bytes_after image-table.entries_after image-table.next_reference image-slots.task_in utf8-grammar.UTF8_char utf8-utf8.holds utf8-utf8.lead utf8-utf8.from utf8-utf8.valid machine-machines.current machine-machines.with_current machine-machines.code_of machine-machines.op_at machine-machines.placed machine-machines.rewound machine-fields.within machine-world.at_end machine-words.test machine-words.operand_found machine-words.popped machine-words.looked_at machine-words.push machine-words.calculated machine-words.pointed machine-words.bytes_of machine-words.allocated machine-words.store machine-words.element_changed machine-words.loop_pushed machine-words.loop_popped machine-words.loop_looked_at machine-words.frame_pushed machine-words.frame_popped machine-words.bounds_found machine-words.interned machine-words.found machine-words.first_state machine-words.has_state machine-words.with_room machine-words.saved machine-opcodes.push_u32 machine-opcodes.push_byte machine-opcodes.push_calldata machine-opcodes.mul machine-opcodes.muli machine-opcodes.compare machine-opcodes.t_create machine-opcodes.get_field machine-opcodes.t_get_field machine-opcodes.set_field machine-opcodes.t_set_field machine-opcodes.t_delete machine-opcodes.s_save machine-opcodes.s_len machine-opcodes.«do» machine-opcodes.loop machine-opcodes.loop_index machine-opcodes.enter machine-opcodes.call_task machine-opcodes.end_call machine-opcodes.jump_if_false machine-opcodes.drops machine-opcodes.dup machine-opcodes.swap machine-opcodes.equal machine-opcodes.eq machine-opcodes.neq machine-opcodes.m_sti machine-opcodes.m_st machine-opcodes.m_muta machine-step.execute machine-step.step machine-run.follow machine-run.run image-image.written image-image.records image-table.load_slot image-table.load_tasks image-table.load_read image-table.load_table memory-allocation.alloc memory-allocation.filling memory-allocation.is_element_tag memory-allocation.offset_aligned memory-allocation.vector memory-allocation.vector_stored storage-storage.len_after storage-storage.room storage-tasks.default_state values-values.fat_pointer values-values.make_vec_tagged values-values.to_fat_pointer values-values.to_vec_val memory-change.inside
 examples = record {
   end_call_in_main = refl;
   calldata_value = refl;

@@ -12,12 +12,12 @@ use Rattle.image.specs.Image.{read_image}
 use Rattle.image.specs.Reading.{s_len_of, instruction_bytes, image_result}
 use Rattle.image.specs.Table.{load_tasks, load_read, load_table}
 use Rattle.table_image.specs.Creation.{image_tests, creation_tests}
-use Rattle.machine.specs.declared.CreateResult.TheVariants.{Created}
 use Rattle.machine.specs.Creation.{new_machine, Made, made, create_behind, create_fit, create}
 use Rattle.machine.specs.History.{FreshWorld, is_created, new_world}
 use Rattle.cases.specs.Cases.{Save, lent, I1_world}
 use Rattle.roundtrips.specs.Images.{I1}
 use Rattle.cases.proofs.Table.{cases}
+use Rattle.std.specs.Prelude.{Ok}
 
 module _ (save program : List ℕ) (some : 1 ≤ length program) (short : length program ≤ 65535) where
   abbrev pool : List ℕ
@@ -39,7 +39,7 @@ module _ (save program : List ℕ) (some : 1 ≤ length program) (short : length
       let none_more : length program + 0 ≡ length program = omega arith in
       let none_before : 0 + length program ≡ length program = omega arith in
       let fits = le-leb (length program) (min 65536 (length pool)) roomy in
-      let created : create (replicate 256 blank) pool ends [] program ≡ made (Created (new_machine (length program) 1 0 0)) (replicate 256 blank) pool ends =
+      let created : create (replicate 256 blank) pool ends [] program ≡ made (Ok (new_machine (length program) 1 0 0)) (replicate 256 blank) pool ends =
       rw (ne_eqb (length program) 0 (λ (z : length program ≡ 0). omega (arith, some)), le-ltb 65535 (length program) short, none_more, fits) (rw (none_before, fits, written)) in
       subst (λ (m : Made). FreshWorld program [] (new_world (new_machine (length program) 1 0 0) m (replicate 1000 0) (replicate 64 0) save)) created
       (is_created (replicate 256 blank) pool ends (new_machine (length program) 1 0 0) (replicate 1000 0) (replicate 64 0) save refl refl (ap (λ (m : Made). m.answer) created))

@@ -6,15 +6,22 @@ use mathlib.Core.Path.{◌≡◌, refl}
 use lib.ListN.{get_or}
 use Rattle.errors.specs.declared.Refusal.TheVariants.{StackUnderflow, StackOverflow, InvalidType}
 use Rattle.inlinevec.specs.declared.Frame.{Frame}
-use Rattle.values.specs.declared.ValueResult.TheVariants.{Value, NoValue}
 use Rattle.storage.specs.Tasks.{blank}
 use Rattle.machine.specs.declared.Machine.{Machine}
 use Rattle.machine.specs.Machines.{current, code_of, with_frames, with_used}
 use Rattle.machine.specs.Creation.{new_machine}
 use Rattle.mechanism.specs.declared.Registers.{Registers}
-use Rattle.mechanism.specs.declared.RegistersResult.TheVariants.{Next, Refused}
-use Rattle.mechanism.specs.declared.PopTwoResult.TheVariants.{PoppedTwo, NotPoppedTwo}
-use Rattle.mechanism.specs.Changes.{keep, put, restate, refused}
+use Rattle.mechanism.specs.Changes.{applied}
+use Rattle.mechanism.specs.Changes as changes
+use Rattle.mechanism.specs.Create.{op_t_delete}
+use Rattle.mechanism.specs.Create as creating
+use Rattle.mechanism.specs.Act.{keeping}
+use Rattle.mechanism.specs.Act as acting
+use Rattle.mechanism.specs.declared.Change.{Change}
+use Rattle.mechanism.specs.declared.Change.TheVariants.{Keep, Put, Restate}
+use Rattle.storage.specs.declared.Task as records
+use Rattle.storage.specs.Table as tables
+use Rattle.storage.specs.Tasks as tasks
 use Rattle.mechanism.specs.Registers.{moved, registers_of, settled}
 use Rattle.mechanism.specs.Stack.{pop_two, push_value, finish}
 use Rattle.inlinevec.specs.Stacks as stacks
@@ -22,6 +29,7 @@ use Rattle.pools.specs.Pool as pools
 use Rattle.machine.specs.Machines as machines
 use Rattle.mechanism.specs.Registers as registers
 use Rattle.mechanism.specs.Stack as stack
+use Rattle.std.specs.Prelude.{Ok, Err}
 
 -- three bytes, or three values
 abbrev Three : List ℕ
@@ -36,7 +44,7 @@ Task = record { entry = record { 0 = 1 }; place = 2 }
 
 -- a machine with so many of them, 3 bytes in its pool and 5 of memory in use
 abbrev with_open : ℕ → Machine
-with_open count = with_frames (with_used (new_machine 3 2 0 0) 5) (record { count = count; main = Main; task = Task })
+with_open count = with_frames (with_used (new_machine 3 2 0 0) 5) (record { count = count; first = Main; second = Task })
 
 -- registers
 abbrev at : ℕ → ℕ → Registers
@@ -45,27 +53,37 @@ at place height =
       memory = 9;
       place = place;
       height = height;
-      loops = record { count = 0; outer = record { place = 0; index = 0; limit = 0 }; inner = record { place = 0; index = 0; limit = 0 } };
+      loops = record { count = 0; first = record { place = 0; index = 0; limit = 0 }; second = record { place = 0; index = 0; limit = 0 } };
     }
+
+-- a living task in the first of four states; its slot, alone in the table, after a change
+abbrev One : records.Task
+One = record blank { living = true; state = record { len = 4; state = 0 } }
+
+abbrev changed : Change → List records.Task
+changed change = applied (One ∷ []) 0 change
+
+abbrev first : List records.Task → records.Task
+first table = get_or table 0 blank
 
 -- the table
 pub record Parts : Type 0 where
-  -- keep: the record is not put
-  pub keep_puts : (keep blank).puts ≡ false
-  -- and no state is set
-  pub keep_states : (keep blank).states ≡ false
-  -- put: the record is put
-  pub put_puts : (put blank).puts ≡ true
+  -- a change that keeps the slot puts nothing
+  pub keep_puts : changed Keep ≡ One ∷ []
+  -- and sets no state
+  pub keep_states : (first (changed Keep)).state.state ≡ 0
+  -- one that puts a record puts it
+  pub put_puts : changed (Put blank) ≡ blank ∷ []
   -- and not its state alone
-  pub put_states : (put blank).states ≡ false
-  -- restate: the record is not put
-  pub restate_puts : (restate blank 3).puts ≡ false
+  pub put_states : (first (changed (Put blank))).living ≡ false
+  -- one of the state does not put the record
+  pub restate_puts : (first (changed (Restate 3))).living ≡ true
   -- but its state, the one that is given
-  pub restate_state : (restate blank 3).state ≡ 3
-  -- refused: the record is not put
-  pub refused_puts : (refused blank StackOverflow).change.puts ≡ false
+  pub restate_state : (first (changed (Restate 3))).state.state ≡ 3
+  -- a refused instruction has no change
+  pub refused_puts : op_t_delete Three (at 6 0) 7 One ≡ Err StackUnderflow
   -- and the refusal is the one that is given
-  pub refused_with : (refused blank StackOverflow).result ≡ Refused StackOverflow
+  pub refused_with : keeping (Err StackOverflow) ≡ Err StackOverflow
   -- current: main, where there is no other frame
   pub current_main : current (with_open 1).frames ≡ Main
   -- else the task's
@@ -79,10 +97,10 @@ pub record Parts : Type 0 where
   -- the place of the frame that runs
   pub registers_place : (registers_of (with_open 2)).place ≡ 2
   -- settled: it goes back into that frame
-  pub settled_place : (settled (with_open 2) (at 6 1)).frames.task.place ≡ 6
+  pub settled_place : (settled (with_open 2) (at 6 1)).frames.second.place ≡ 6
   -- and the length of memory in use into the machine
   pub settled_memory : (settled (with_open 2) (at 6 1)).memory ≡ 9
-  -- byte_at: the byte at a place
+  -- the byte at a place
   pub byte_at_2 : get_or Three 2 0 ≡ 9
   -- 0 past the code's end
   pub byte_at_3 : get_or Three 3 0 ≡ 0
@@ -91,20 +109,20 @@ pub record Parts : Type 0 where
   -- the length of memory in use stays
   pub moved_memory : (moved (at 6 1) 8 2).memory ≡ 9
   -- pop_two: the topmost value first
-  pub popped_two : pop_two Three 3 ≡ PoppedTwo 9 8 1
+  pub popped_two : pop_two Three 3 ≡ Ok (9, 8, 1)
   -- of one value alone it is 3
-  pub popped_one : pop_two (7 ∷ []) 1 ≡ NotPoppedTwo StackUnderflow
+  pub popped_one : pop_two (7 ∷ []) 1 ≡ Err StackUnderflow
   -- push_value: on at the place that is given, one higher than the height
-  pub pushed : (push_value (7 ∷ 0 ∷ []) (at 6 1) 8 1 4).result ≡ Next (at 8 2)
+  pub pushed : (push_value (7 ∷ 0 ∷ []) (at 6 1) 8 1 4).result ≡ Ok (at 8 2)
   -- the value at the height
   pub pushed_value : (push_value (7 ∷ 0 ∷ []) (at 6 1) 8 1 4).stack ≡ 7 ∷ 4 ∷ []
   -- finish: a result is pushed
-  pub finished : (finish (7 ∷ 0 ∷ []) (at 6 1) 8 1 (Value 4)).stack ≡ 7 ∷ 4 ∷ []
+  pub finished : (finish (7 ∷ 0 ∷ []) (at 6 1) 8 1 (Ok 4)).stack ≡ 7 ∷ 4 ∷ []
   -- a refusal is handed on
-  pub finished_with : (finish (7 ∷ 0 ∷ []) (at 6 1) 8 1 (NoValue InvalidType)).result ≡ Refused InvalidType
+  pub finished_with : (finish (7 ∷ 0 ∷ []) (at 6 1) 8 1 (Err InvalidType)).result ≡ Err InvalidType
 
 pub parts : Parts
-unfolding stacks.if_room stacks.if_some stacks.push stacks.pop stacks.last_two stacks.change_two pools.end_of pools.start_of pools.entry_of machines.current machines.with_current machines.code_of registers.registers_of registers.settled stack.pop_second stack.pop_first stack.pop_two stack.pushed_to stack.push_value stack.finish
+unfolding changes.applied tasks.blank tables.set_state_at tasks.set_state tasks.with_state creating.delete_popped creating.op_t_delete acting.keeping stacks.if_room stacks.if_some stacks.push stacks.pop stacks.last_two stacks.change_two pools.end_of pools.start_of pools.entry_of machines.current machines.with_current machines.code_of registers.registers_of registers.settled stack.pop_second stack.pop_first stack.pop_two stack.pushed_to stack.push_value stack.finish
 parts = record {
   keep_puts = refl;
   keep_states = refl;

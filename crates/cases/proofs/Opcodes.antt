@@ -10,7 +10,6 @@ use Rattle.inlinevec.specs.declared.Loop.{Loop}
 use Rattle.storage.specs.declared.Task.{Task}
 use Rattle.storage.specs.Tasks.{blank}
 use Rattle.values.specs.Values.{to_u32_val, to_calldata_val, to_bool_val, to_vec_val}
-use Rattle.values.specs.declared.ValueResult.TheVariants.{Value}
 use Rattle.machine.specs.declared.Outcome.{Outcome}
 use Rattle.machine.specs.declared.Outcome.TheVariants.{Done, Refused}
 use Rattle.machine.specs.Machines.{with_used}
@@ -36,6 +35,7 @@ use Rattle.machine.specs.Words as machine-words
 use Rattle.machine.specs.Opcodes as machine-opcodes
 use Rattle.machine.specs.Step as machine-step
 use Rattle.machine.specs.Run as machine-run
+use Rattle.std.specs.Prelude.{Ok}
 
 -- ---- programs
 
@@ -113,10 +113,10 @@ abbrev stepped : ℕ → List ℕ → World
 stepped count program = (run count (fresh_world program)).world
 
 abbrev place : ℕ → List ℕ → ℕ
-place count program = (stepped count program).machine.frames.main.place
+place count program = (stepped count program).machine.frames.first.place
 
 abbrev opened : ℕ → List ℕ → Loop
-opened count program = (stepped count program).machine.loops.outer
+opened count program = (stepped count program).machine.loops.first
 
 -- the record of a slot
 abbrev task : ℕ → List ℕ → Task
@@ -159,7 +159,7 @@ pub record Opcodes : Type 0 where
   -- field 3 is 10 of a living task, too
   pub get_field_3 : (run_end (A ++ Field_3)).outcome ≡ Refused (InvalidTaskField 3)
   -- a title of 128 bytes comes back as long as it is
-  pub get_title_of_128 : to_vec_val 128 128 4 ≡ Value (get_or (run 100 (roomy (zeros 128 ++ Create ++ read 0))).world.stack 0 0)
+  pub get_title_of_128 : to_vec_val 128 128 4 ≡ Ok (get_or (run 100 (roomy (zeros 128 ++ Create ++ read 0))).world.stack 0 0)
   -- T_SET_FIELD: a state below the count
   pub set_state : (task 0 (Text ++ Create ++ number 1 ++ set_to 1)).state.state ≡ 1
   -- instructions, which are not tested
@@ -249,7 +249,7 @@ pub record Opcodes : Type 0 where
   pub m_muta_outside : with_less_memory 1 3 Changed ≡ Refused (MSliceOutOfBounds 0 2)
 
 pub opcodes : Opcodes
-unfolding bytecode-operands.big_endian bytecode-operands.operand inlinevec-stacks.if_room inlinevec-stacks.if_some inlinevec-stacks.pop inlinevec-stacks.last inlinevec-stacks.push_two inlinevec-stacks.last_two inlinevec-stacks.pop_two inlinevec-stacks.change_two inlinevec-stacks.push_loop inlinevec-stacks.pop_loop inlinevec-stacks.last_loop inlinevec-stacks.push_frame values-values.make_scalar_tagged values-values.make_vec_tagged values-values.to_vec_val values-values.to_bool_val values-values.is_qnan values-values.is_scalar values-values.is_vec values-values.raw_tag values-values.tag_of values-values.is_u32_val values-values.to_u32 values-values.fat_pointer values-values.to_fat_pointer values-values.bool_not values-values.product values-values.mul_checked values-values.mul_checked_i values-values.is_bool values-values.one_vector values-values.of_one_kind values-values.alike values-values.value_eq values-values.value_cmp memory-allocation.offset_aligned memory-allocation.is_element_tag memory-allocation.vector memory-allocation.filling memory-allocation.vector_stored memory-allocation.alloc memory-change.element_size_bytes memory-change.inside memory-change.changed memory-change.mut_vec slices-numbers.little_endian pools-pool.end_of pools-pool.start_of pools-pool.bounds pools-pool.entry_of pools-pool.has_room pools-pool.interned pools-pool.part_in_use storage-tasks.blank storage-tasks.default_state storage-tasks.with_state storage-tasks.title_of storage-tasks.new_task storage-storage.slot_of storage-storage.find storage-storage.room storage-storage.len_after machine-machines.current machine-machines.with_current machine-machines.code_of machine-machines.op_at machine-machines.placed machine-titles.title_bytes machine-world.at_end machine-words.test machine-words.operand_found machine-words.popped machine-words.looked_at machine-words.push machine-words.calculated machine-words.pointed machine-words.bytes_of machine-words.allocated machine-words.store machine-words.element_changed machine-words.loop_pushed machine-words.loop_popped machine-words.loop_looked_at machine-words.frame_pushed machine-words.bounds_found machine-words.interned machine-words.found machine-words.first_state machine-words.has_state machine-words.with_room machine-opcodes.push_u32 machine-opcodes.push_byte machine-opcodes.push_calldata machine-opcodes.mul machine-opcodes.muli machine-opcodes.compare machine-opcodes.t_create machine-opcodes.get_field machine-opcodes.t_get_field machine-opcodes.set_field machine-opcodes.t_set_field machine-opcodes.t_delete machine-opcodes.s_len machine-opcodes.«do» machine-opcodes.loop machine-opcodes.loop_index machine-opcodes.enter machine-opcodes.call_task machine-opcodes.end_call machine-opcodes.jump_if_false machine-opcodes.drops machine-opcodes.dup machine-opcodes.swap machine-opcodes.equal machine-opcodes.eq machine-opcodes.neq machine-opcodes.m_sti machine-opcodes.m_st machine-opcodes.m_muta machine-step.execute machine-step.step machine-run.follow machine-run.run memory-reads.is_m_slice_eq slices-same.same
+unfolding bytecode-operands.big_endian bytecode-operands.operand inlinevec-stacks.if_room inlinevec-stacks.if_some inlinevec-stacks.pop inlinevec-stacks.last inlinevec-stacks.push_two inlinevec-stacks.last_two inlinevec-stacks.pop_two inlinevec-stacks.change_two inlinevec-stacks.push_onto inlinevec-stacks.pop_off inlinevec-stacks.last_on values-values.make_scalar_tagged values-values.make_vec_tagged values-values.to_vec_val values-values.to_bool_val values-values.is_qnan values-values.is_scalar values-values.is_vec values-values.raw_tag values-values.tag_of values-values.is_u32_val values-values.to_u32 values-values.fat_pointer values-values.to_fat_pointer values-values.bool_not values-values.product values-values.mul_checked values-values.mul_checked_i values-values.is_bool values-values.one_vector values-values.of_one_kind values-values.alike values-values.value_eq values-values.value_cmp memory-allocation.offset_aligned memory-allocation.is_element_tag memory-allocation.vector memory-allocation.filling memory-allocation.vector_stored memory-allocation.alloc memory-change.element_size_bytes memory-change.inside memory-change.changed memory-change.mut_vec slices-numbers.little_endian pools-pool.end_of pools-pool.start_of pools-pool.bounds pools-pool.entry_of pools-pool.has_room pools-pool.interned pools-pool.part_in_use storage-tasks.blank storage-tasks.default_state storage-tasks.with_state storage-tasks.title_of storage-tasks.new_task storage-storage.slot_of storage-storage.find storage-storage.room storage-storage.len_after machine-machines.current machine-machines.with_current machine-machines.code_of machine-machines.op_at machine-machines.placed machine-titles.title_bytes machine-world.at_end machine-words.test machine-words.operand_found machine-words.popped machine-words.looked_at machine-words.push machine-words.calculated machine-words.pointed machine-words.bytes_of machine-words.allocated machine-words.store machine-words.element_changed machine-words.loop_pushed machine-words.loop_popped machine-words.loop_looked_at machine-words.frame_pushed machine-words.bounds_found machine-words.interned machine-words.found machine-words.first_state machine-words.has_state machine-words.with_room machine-opcodes.push_u32 machine-opcodes.push_byte machine-opcodes.push_calldata machine-opcodes.mul machine-opcodes.muli machine-opcodes.compare machine-opcodes.t_create machine-opcodes.get_field machine-opcodes.t_get_field machine-opcodes.set_field machine-opcodes.t_set_field machine-opcodes.t_delete machine-opcodes.s_len machine-opcodes.«do» machine-opcodes.loop machine-opcodes.loop_index machine-opcodes.enter machine-opcodes.call_task machine-opcodes.end_call machine-opcodes.jump_if_false machine-opcodes.drops machine-opcodes.dup machine-opcodes.swap machine-opcodes.equal machine-opcodes.eq machine-opcodes.neq machine-opcodes.m_sti machine-opcodes.m_st machine-opcodes.m_muta machine-step.execute machine-step.step machine-run.follow machine-run.run memory-reads.is_m_slice_eq slices-same.same
 opcodes = record {
   push_u32 = refl;
   push_u32_place = refl;

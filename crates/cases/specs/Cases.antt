@@ -1,16 +1,14 @@
 -- The cases C1 to C12 (docs/REFERENCE.md, 'Cases') as one table, and beside it small programs for single instructions.
-use Rattle.std.specs.Prelude.{ℕ, false, List, [], ◌∷◌, ◌++◌, ◌≡◌, length, replicate, take, get_or}
+use Rattle.std.specs.Prelude.{ℕ, false, List, [], ◌∷◌, ◌++◌, ◌≡◌, length, replicate, take, get_or, Ok}
 use Rattle.errors.specs.declared.Refusal.TheVariants.{UnexpectedEOB, TypeMismatch, MultiplicationOverflowed, MaxStatesError, TaskNotFound, InvalidTaskField, InvalidStatus, MSliceOutOfBounds, SaveBufferTooShort}
 use Rattle.machine.specs.declared.Outcome.TheVariants.{Done, Paused, Refused}
 use Rattle.machine.specs.declared.Phase.TheVariants.{New}
 use Rattle.storage.specs.Tasks.{blank}
 use Rattle.values.specs.Values.{to_u32_val, to_vec_val, to_bool_val}
-use Rattle.values.specs.declared.ValueResult.TheVariants.{Value}
 use Rattle.image.specs.Table.{living_tasks, image_of_tasks}
 use Rattle.roundtrips.specs.Images.{I1, Ab}
 use Rattle.machine.specs.World.{World, world, moved}
 use Rattle.machine.specs.Run.{End, run}
-use Rattle.machine.specs.declared.CreateResult.TheVariants.{Created}
 use Rattle.machine.specs.Calls.{start}
 use Rattle.machine.specs.Creation.{new_machine, Made, create}
 use Rattle.machine.specs.Reads.{host_save}
@@ -122,8 +120,8 @@ lent save program =
     world (record {
       phase = New;
       height = 0;
-      loops = record { count = 0; outer = record { place = 0; index = 0; limit = 0 }; inner = record { place = 0; index = 0; limit = 0 } };
-      frames = record { count = 1; main = record { entry = record { 0 = 0 }; place = 0 }; task = record { entry = record { 0 = 0 }; place = 0 } };
+      loops = record { count = 0; first = record { place = 0; index = 0; limit = 0 }; second = record { place = 0; index = 0; limit = 0 } };
+      frames = record { count = 1; first = record { entry = record { 0 = 0 }; place = 0 }; second = record { entry = record { 0 = 0 }; place = 0 } };
       memory = 0;
       pool = length program;
       entries = 1;
@@ -159,7 +157,7 @@ pub record Cases : Type 0 where
   -- 99 boxed
   pub c2 : to_u32_val 99 ≡ 0x7FFC0000018C0006
   -- numbers at 4, size 6
-  pub c3 : to_vec_val 4 6 6 ≡ Value 0xFFFC000008000C06
+  pub c3 : to_vec_val 4 6 6 ≡ Ok 0xFFFC000008000C06
   -- number 512 on the left of C3, which reads as 512, gives 6: the two values before EQ, which stay
   pub c4 : (take 2 (run 4 (fresh_world C4)).world.stack ≡ to_u32_val 512 ∷ 0xFFFC000008000C06 ∷ []) × (((run_end C4).world.machine.height ≡ 2) × ((run_end C4).outcome ≡ Refused TypeMismatch))
   -- M_MUTA on C3: index 0 works, and writes 7 in 4 bytes from 4 on; 1 gives 14
@@ -179,7 +177,7 @@ pub record Cases : Type 0 where
   -- TRUE EQ FALSE gives FALSE
   pub c11 : ((run_end C11).outcome ≡ Done) × (((run_end C11).world.machine.height ≡ 1) × (get_or (run_end C11).world.stack 0 0 ≡ to_bool_val false))
   -- image I1 loads: the machine that is created, its tasks, and the same bytes from the host's save and from S_SAVE
-  pub c12 : (I1_made.answer ≡ Created (new_machine 1 2 1 1))
+  pub c12 : (I1_made.answer ≡ Ok (new_machine 1 2 1 1))
       × ((image_of_tasks 1 (living_tasks I1_made.table) I1_made.pool I1_made.ends ≡ Ab) × (((host_save I1_world).save ≡ I1 ++ (9 ∷ [])) × ((start 1 I1_world).save ≡ I1 ++ (9 ∷ []))))
 
 -- single instructions
@@ -191,7 +189,7 @@ pub record Instructions : Type 0 where
   -- T_GET_FIELD tests the field, 10, before the id, 9
   pub get_field : ((run_end Field_3).outcome ≡ Refused (InvalidTaskField 3)) × ((run_end Title).outcome ≡ Refused (TaskNotFound 0))
   -- and reads a title as a new text behind the memory in use
-  pub get_title : to_vec_val 1 1 4 ≡ Value (get_or (run_end (A ++ Title)).world.stack 0 0)
+  pub get_title : to_vec_val 1 1 4 ≡ Ok (get_or (run_end (A ++ Title)).world.stack 0 0)
   -- T_SET_FIELD: a state not below the count is 11
   pub set_state : (run_end (A ++ State_1)).outcome ≡ Refused (InvalidStatus 1)
   -- a title replaces the old one

@@ -2,22 +2,29 @@
 use Prim.Native.Nat.{ℕ}
 use mathlib.Core.List.{List, [], ◌∷◌}
 use seplogic.Ra.Ura.{Ura}
-use base.Logic.{emp}
+use base.Fml.{Lft}
+use base.Logic.{emp, sep}
 use prog.Model.{Model}
 use prog.Routine.{Callee}
 use prog.Wired.{Code, Wired}
 use types.Logic.{Logic}
+use contract.BorrowLft.{◌⊑◌}
 use contract.Lifetimes.{Lfts}
 use contract.Monad.{fact, fact_mono, fm→mono}
 use contract.Running.{Running}
 use denote.Exit.{Seen}
-use denote.RattleType.{Denots}
+use denote.Param.{bounded}
+use denote.Param.Laws.{Laws, IsCopy}
+use denote.RattleType.{RattleType, Denots}
+use mir.Syntax.{Args, Dict, a_type, dcons, dnil}
+use Rattle.std.specs.declared.clone.Clone.{Ghosts}
+use Rattle.std.specs.contracts.clone.Clone.TheBound.{Met}
 use denote.Signature.{Slot, types_at}
 use denote.Triple.Both.{Both}
 use denote.Triple.Clauses.{Clauses, Ended, at_exit, closing}
 use denote.Triple.End.{Kepts, Outs}
 use denote.Triple.Entry.{Res}
-use denote.Triple.Spec.{Meets}
+use denote.Triple.Spec.{Meets, Spec, exits}
 use denote.Triple.Table.{run_framed}
 use denote.Triple.Weaken.{weaken}
 
@@ -58,6 +65,23 @@ ensuring 𝓤 T line κs at-entry = record {
 abbrev pub Answers : (M : Type 1) (T : Ended) → Callee → Code → Line T → Type 2
 Answers M T name code line =
     (𝓤 : Ura M) (𝓛 : Logic 𝓤) (𝓜 : Model 𝓤 𝓛.H) (𝓡 : Running 𝓤 𝓛.H 𝓜) → Wired 𝓡.env code → Meets 𝓛 T.signature (𝓡.run (𝓡.env name)) (closing 𝓛 T (ensuring 𝓤 T line))
+
+-- the contract that asks that a type is there as long as the call lasts, and nothing else, and ensures the equation
+abbrev asking : {M : Type 1} (𝓤 : Ura M) (𝓛 : Logic 𝓤) (T : Ended) → (Lfts T.signature.lifetimes → Lft) → Lft → Line T → Spec 𝓤 T.signature
+asking 𝓤 𝓛 T call lives line κs at-entry = record {
+  ghost = Unit {0};
+  requires = λ _. sep 𝓤 (fact 𝓤 (call κs ⊑ lives)) (emp 𝓤);
+  ensures = λ _ r. exits 𝓛 T.signature T.kept κs at-entry (λ at-exit. fact 𝓤 (Holds κs (Res T.signature κs) T.signature.params T.kept (line κs) at-entry at-exit r));
+}
+
+-- the same of a function over each type whose values are copied: it takes every call with values of a type that is there as long as the call lasts
+abbrev pub AnswersEach : (M : Type 1) (T : (t : RattleType) → Ghosts t.Denot → Dict → Ended)
+    → ((t : RattleType) (clone : Ghosts t.Denot) (dict : Dict) → Lfts (T t clone dict).signature.lifetimes → Lft)
+    → (Args → Callee) → Code → ((t : RattleType) (clone : Ghosts t.Denot) (dict : Dict) → Line (T t clone dict)) → Type 2
+AnswersEach M T call name code line =
+    (𝓤 : Ura M) (𝓛 : Logic 𝓤) (𝓜 : Model 𝓤 𝓛.H) (𝓡 : Running 𝓤 𝓛.H 𝓜) → Wired 𝓡.env code
+    → (t : RattleType) → Laws t → IsCopy t → (clone : Ghosts t.Denot) (dict : Dict) → Met 𝓛 𝓜 𝓡 𝓡.env t clone dict
+    → Meets 𝓛 (T t clone dict).signature (𝓡.run (𝓡.env (name (bounded (a_type ∷ []) (t, tt) (dcons dict dnil))))) (asking 𝓤 𝓛 (T t clone dict) (call t clone dict) t.lives (line t clone dict))
 
 -- and so with what follows from the equation
 pub so : {M : Type 1} (T : Ended) (name : Callee) (code : Code) (line other : Line T) → Answers M T name code line → ((κs : Lfts T.signature.lifetimes) → Follows κs (Res T.signature κs) T.signature.params T.kept (line κs) (other κs)) → Answers M T name code other

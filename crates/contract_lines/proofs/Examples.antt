@@ -13,9 +13,6 @@ use Rattle.memory.specs.declared.unbox.Return.TheVariants.{U32}
 use Rattle.machine.specs.declared.Outcome.TheVariants.{Done}
 use Rattle.machine.specs.World.{World, world}
 use Rattle.machine.specs.Run.{run}
-use Rattle.image.specs.declared.SaveResult.TheVariants.{NotSaved}
-use Rattle.machine.specs.declared.CreateResult.TheVariants.{NotCreated}
-use Rattle.machine.specs.declared.TaskResult.TheVariants.{NotReadable}
 use Rattle.machine.specs.declared.Verb.TheVariants.{Start}
 use Rattle.machine.specs.Sound.{sound_world}
 use Rattle.machine.specs.Creation.{create}
@@ -45,6 +42,7 @@ use Rattle.vm.proofs.task_reading as task-reading
 use Rattle.vm.specs.contracts.task_reading as task-reading-contracts
 use Rattle.contract_lines.proofs.Answers.{Line, Answers, so}
 use Rattle.contract_lines.proofs.Lines as lines
+use Rattle.std.specs.Prelude.{Ok, Err}
 
 -- a new machine of C1, started with fuel 9
 abbrev started : Reported
@@ -93,7 +91,7 @@ sound_of_C1_says met =
 -- an empty program is 1, before 25
 abbrev pub create_of_nothing : Line creating-contracts.create.ended
 create_of_nothing _ table pool ends image program r =
-    table.entry.now ≡ replicate 256 blank → pool.entry.now ≡ replicate 16 0 → ends.entry.now ≡ replicate 1024 0 → image.entry.now ≡ 0x00 ∷ [] → program.entry.now ≡ [] → r ≡ NotCreated EmptyInstructions
+    table.entry.now ≡ replicate 256 blank → pool.entry.now ≡ replicate 16 0 → ends.entry.now ≡ replicate 1024 0 → image.entry.now ≡ 0x00 ∷ [] → program.entry.now ≡ [] → r ≡ Err EmptyInstructions
 
 pub create_of_nothing_says : {M : Type 1} → creating.create.Statement.statement M → Answers M creating-contracts.create.ended creating.create.Symbol.name creating.create.Symbol.code create_of_nothing
 create_of_nothing_says met =
@@ -111,7 +109,7 @@ call_of_C1_says met =
 -- a save buffer that is too short is 24, and nothing is written
 abbrev pub save_of_C1 : Line saving-contracts.save.ended
 save_of_C1 _ table stack memory pool ends save machine r =
-    world machine.entry table.entry.now stack.entry.now memory.entry.now pool.entry.now ends.entry.now save.entry.now ≡ world (fresh_world C1).machine (fresh_world C1).table (fresh_world C1).stack (fresh_world C1).memory (fresh_world C1).pool (fresh_world C1).ends (replicate 13 0xff) → (r.result ≡ NotSaved SaveBufferTooShort) × (save.exit.now ≡ replicate 13 0xff)
+    world machine.entry table.entry.now stack.entry.now memory.entry.now pool.entry.now ends.entry.now save.entry.now ≡ world (fresh_world C1).machine (fresh_world C1).table (fresh_world C1).stack (fresh_world C1).memory (fresh_world C1).pool (fresh_world C1).ends (replicate 13 0xff) → (r.result ≡ Err SaveBufferTooShort) × (save.exit.now ≡ replicate 13 0xff)
 
 pub save_of_C1_says : {M : Type 1} → saving.save.Statement.statement M → Answers M saving-contracts.save.ended saving.save.Symbol.name saving.save.Symbol.code save_of_C1
 save_of_C1_says met =
@@ -120,7 +118,7 @@ save_of_C1_says met =
 -- C1's value
 abbrev pub value_of_C1 : Line value-reading-contracts.read_value.ended
 value_of_C1 _ table stack memory pool ends save machine position r =
-    world machine.entry table.entry.now stack.entry.now memory.entry.now pool.entry.now ends.entry.now save.entry.now ≡ after → position.entry ≡ 0 → r ≡ U32 99
+    world machine.entry table.entry.now stack.entry.now memory.entry.now pool.entry.now ends.entry.now save.entry.now ≡ after → position.entry ≡ 0 → r ≡ Ok (U32 99)
 
 pub value_of_C1_says : {M : Type 1} → value-reading.read_value.Statement.statement M → Answers M value-reading-contracts.read_value.ended value-reading.read_value.Symbol.name value-reading.read_value.Symbol.code value_of_C1
 value_of_C1_says met =
@@ -129,7 +127,7 @@ value_of_C1_says met =
 -- no such task is 9 with the id
 abbrev pub task_of_C1 : Line task-reading-contracts.read_task.ended
 task_of_C1 _ table stack memory pool ends save machine id r =
-    world machine.entry table.entry.now stack.entry.now memory.entry.now pool.entry.now ends.entry.now save.entry.now ≡ fresh_world C1 → id.entry ≡ record { 0 = 3 } → r.result ≡ NotReadable (TaskNotFound 3)
+    world machine.entry table.entry.now stack.entry.now memory.entry.now pool.entry.now ends.entry.now save.entry.now ≡ fresh_world C1 → id.entry ≡ record { 0 = 3 } → r.result ≡ Err (TaskNotFound 3)
 
 pub task_of_C1_says : {M : Type 1} → task-reading.read_task.Statement.statement M → Answers M task-reading-contracts.read_task.ended task-reading.read_task.Symbol.name task-reading.read_task.Symbol.code task_of_C1
 task_of_C1_says met =

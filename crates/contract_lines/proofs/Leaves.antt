@@ -1,7 +1,7 @@
 -- The contract line of each exported function of the leaves, said a second time; what this shows stands in Lines.
 use mathlib.Core.Path.{◌≡◌}
 use Rattle.bytecode.specs.Operands.{Follows, extent, extent_by, operand}
-use Rattle.inlinevec.specs.Stacks.{last, pop, pop_frame, push, push_frame, push_loop, stacked}
+use Rattle.inlinevec.specs.Stacks.{last, last_on, last_two, pop, pop_off, push, push_onto, stacked}
 use Rattle.memory.specs.Allocation.{alloc, vector}
 use Rattle.memory.specs.Change.{mut_vec}
 use Rattle.memory.specs.Reads.{get_slice_bytes, is_m_slice_eq}
@@ -20,7 +20,10 @@ use Rattle.inlinevec.proofs as inlinevec
 use Rattle.inlinevec.specs.contracts as inlinevec-contracts
 use Rattle.memory.proofs as memory
 use Rattle.memory.specs.contracts as memory-contracts
-use Rattle.contract_lines.proofs.Answers.{Line, Answers}
+use denote.RattleType.{RattleType}
+use mir.Syntax.{Dict}
+use Rattle.std.specs.declared.clone.Clone.{Ghosts}
+use Rattle.contract_lines.proofs.Answers.{Line, Answers, AnswersEach}
 
 abbrev pub bytecode_operand_sizes : Line bytecode-contracts.extents.operand_sizes.ended
 bytecode_operand_sizes _ r =
@@ -246,26 +249,37 @@ inlinevec_last _ stack height r =
 pub inlinevec_last_says : {M : Type 1} → inlinevec.last.Statement.statement M → Answers M inlinevec-contracts.last.ended inlinevec.last.Symbol.name inlinevec.last.Symbol.code inlinevec_last
 inlinevec_last_says met = met
 
-abbrev pub inlinevec_push_loop : Line inlinevec-contracts.push_loop.ended
-inlinevec_push_loop _ loops opened r =
-    r ≡ push_loop loops.entry opened.entry
+abbrev pub inlinevec_two_top : (T : RattleType) (clone : Ghosts T.Denot) (dict : Dict) → Line (inlinevec-contracts.Two.top.ended T clone dict)
+inlinevec_two_top T clone dict _ self r =
+    r ≡ last_two self.entry
 
-pub inlinevec_push_loop_says : {M : Type 1} → inlinevec.push_loop.Statement.statement M → Answers M inlinevec-contracts.push_loop.ended inlinevec.push_loop.Symbol.name inlinevec.push_loop.Symbol.code inlinevec_push_loop
-inlinevec_push_loop_says met = met
+pub inlinevec_two_top_says : {M : Type 1} → inlinevec.Two.top.Statement.statement M
+    → AnswersEach M inlinevec-contracts.Two.top.ended (λ t clone dict κs. κs.0) inlinevec.Two.top.Symbol.name inlinevec.Two.top.Symbol.code inlinevec_two_top
+inlinevec_two_top_says met = met
 
-abbrev pub inlinevec_push_frame : Line inlinevec-contracts.push_frame.ended
-inlinevec_push_frame _ frames entered r =
-    r ≡ push_frame frames.entry entered.entry
+abbrev pub inlinevec_two_push : (T : RattleType) (clone : Ghosts T.Denot) (dict : Dict) → Line (inlinevec-contracts.Two.push.ended T clone dict)
+inlinevec_two_push T clone dict _ self item r =
+    r ≡ push_onto self.entry item.entry
 
-pub inlinevec_push_frame_says : {M : Type 1} → inlinevec.push_frame.Statement.statement M → Answers M inlinevec-contracts.push_frame.ended inlinevec.push_frame.Symbol.name inlinevec.push_frame.Symbol.code inlinevec_push_frame
-inlinevec_push_frame_says met = met
+pub inlinevec_two_push_says : {M : Type 1} → inlinevec.Two.push.Statement.statement M
+    → AnswersEach M inlinevec-contracts.Two.push.ended (λ t clone dict κs. κs.0) inlinevec.Two.push.Symbol.name inlinevec.Two.push.Symbol.code inlinevec_two_push
+inlinevec_two_push_says met = met
 
-abbrev pub inlinevec_pop_frame : Line inlinevec-contracts.pop_frame.ended
-inlinevec_pop_frame _ frames r =
-    r ≡ pop_frame frames.entry
+abbrev pub inlinevec_two_pop : (T : RattleType) (clone : Ghosts T.Denot) (dict : Dict) → Line (inlinevec-contracts.Two.pop.ended T clone dict)
+inlinevec_two_pop T clone dict _ self r =
+    r ≡ pop_off self.entry
 
-pub inlinevec_pop_frame_says : {M : Type 1} → inlinevec.pop_frame.Statement.statement M → Answers M inlinevec-contracts.pop_frame.ended inlinevec.pop_frame.Symbol.name inlinevec.pop_frame.Symbol.code inlinevec_pop_frame
-inlinevec_pop_frame_says met = met
+pub inlinevec_two_pop_says : {M : Type 1} → inlinevec.Two.pop.Statement.statement M
+    → AnswersEach M inlinevec-contracts.Two.pop.ended (λ t clone dict κs. κs.0) inlinevec.Two.pop.Symbol.name inlinevec.Two.pop.Symbol.code inlinevec_two_pop
+inlinevec_two_pop_says met = met
+
+abbrev pub inlinevec_two_last : (T : RattleType) (clone : Ghosts T.Denot) (dict : Dict) → Line (inlinevec-contracts.Two.last.ended T clone dict)
+inlinevec_two_last T clone dict _ self r =
+    r ≡ last_on self.entry
+
+pub inlinevec_two_last_says : {M : Type 1} → inlinevec.Two.last.Statement.statement M
+    → AnswersEach M inlinevec-contracts.Two.last.ended (λ t clone dict κs. κs.0) inlinevec.Two.last.Symbol.name inlinevec.Two.last.Symbol.code inlinevec_two_last
+inlinevec_two_last_says met = met
 
 abbrev pub memory_vector : Line memory-contracts.allocation.vector.ended
 memory_vector _ used size tag r =

@@ -1,9 +1,7 @@
 -- The contract line of each exported function that takes an instruction apart, said a second time; what this shows stands in Lines.
-use lib.ListN.{get_or}
 use mathlib.Core.Path.{◌≡◌}
 use Rattle.machine.specs.Machines.{current, code_of}
 use Rattle.mechanism.specs.Advance.{progress_on, advance}
-use Rattle.mechanism.specs.Changes.{keep, put, restate, refused}
 use Rattle.mechanism.specs.Create.{op_t_create, op_t_delete}
 use Rattle.mechanism.specs.Registers.{on_stack, on_memory, moved, registers_of, settled}
 use Rattle.mechanism.specs.Stack.{pop_two, push_value, finish}
@@ -15,34 +13,6 @@ use Rattle.stepper.specs.contracts as stepper-contracts
 use Rattle.task_opcodes.proofs as task-opcodes
 use Rattle.task_opcodes.specs.contracts as task-opcodes-contracts
 use Rattle.contract_lines.proofs.Answers.{Line, Answers}
-
-abbrev pub mechanism_keep : Line mechanism-contracts.changes.keep.ended
-mechanism_keep _ task r =
-    r ≡ keep task.entry
-
-pub mechanism_keep_says : {M : Type 1} → mechanism.changes.keep.Statement.statement M → Answers M mechanism-contracts.changes.keep.ended mechanism.changes.keep.Symbol.name mechanism.changes.keep.Symbol.code mechanism_keep
-mechanism_keep_says met = met
-
-abbrev pub mechanism_put : Line mechanism-contracts.changes.put.ended
-mechanism_put _ task r =
-    r ≡ put task.entry
-
-pub mechanism_put_says : {M : Type 1} → mechanism.changes.put.Statement.statement M → Answers M mechanism-contracts.changes.put.ended mechanism.changes.put.Symbol.name mechanism.changes.put.Symbol.code mechanism_put
-mechanism_put_says met = met
-
-abbrev pub mechanism_restate : Line mechanism-contracts.changes.restate.ended
-mechanism_restate _ task state r =
-    r ≡ restate task.entry state.entry
-
-pub mechanism_restate_says : {M : Type 1} → mechanism.changes.restate.Statement.statement M → Answers M mechanism-contracts.changes.restate.ended mechanism.changes.restate.Symbol.name mechanism.changes.restate.Symbol.code mechanism_restate
-mechanism_restate_says met = met
-
-abbrev pub mechanism_refused : Line mechanism-contracts.changes.refused.ended
-mechanism_refused _ task refusal r =
-    r ≡ refused task.entry refusal.entry
-
-pub mechanism_refused_says : {M : Type 1} → mechanism.changes.refused.Statement.statement M → Answers M mechanism-contracts.changes.refused.ended mechanism.changes.refused.Symbol.name mechanism.changes.refused.Symbol.code mechanism_refused
-mechanism_refused_says met = met
 
 abbrev pub mechanism_current : Line mechanism-contracts.machines.current.ended
 mechanism_current _ frames r =
@@ -71,13 +41,6 @@ mechanism_settled _ machine registers r =
 
 pub mechanism_settled_says : {M : Type 1} → mechanism.machines.settled.Statement.statement M → Answers M mechanism-contracts.machines.settled.ended mechanism.machines.settled.Symbol.name mechanism.machines.settled.Symbol.code mechanism_settled
 mechanism_settled_says met = met
-
-abbrev pub mechanism_byte_at : Line mechanism-contracts.machines.byte_at.ended
-mechanism_byte_at _ code place r =
-    r ≡ get_or code.entry.now place.entry 0
-
-pub mechanism_byte_at_says : {M : Type 1} → mechanism.machines.byte_at.Statement.statement M → Answers M mechanism-contracts.machines.byte_at.ended mechanism.machines.byte_at.Symbol.name mechanism.machines.byte_at.Symbol.code mechanism_byte_at
-mechanism_byte_at_says met = met
 
 abbrev pub mechanism_moved : Line mechanism-contracts.stack.moved.ended
 mechanism_moved _ registers place height r =
@@ -122,8 +85,8 @@ pub stepper_advance_says : {M : Type 1} → stepper.advance.advance.Statement.st
 stepper_advance_says met = met
 
 abbrev pub task_opcodes_op_t_create : Line task-opcodes-contracts.t_create.op_t_create.ended
-task_opcodes_op_t_create _ stack memory registers next next_id task r =
-    r ≡ op_t_create stack.entry.now memory.entry.now registers.entry next.entry next_id.entry.0 task.entry
+task_opcodes_op_t_create _ stack memory registers next next_id r =
+    r ≡ op_t_create stack.entry.now memory.entry.now registers.entry next.entry next_id.entry.0
 
 pub task_opcodes_op_t_create_says : {M : Type 1} → task-opcodes.t_create.op_t_create.Statement.statement M → Answers M task-opcodes-contracts.t_create.op_t_create.ended task-opcodes.t_create.op_t_create.Symbol.name task-opcodes.t_create.op_t_create.Symbol.code task_opcodes_op_t_create
 task_opcodes_op_t_create_says met = met

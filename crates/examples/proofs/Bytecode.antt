@@ -5,8 +5,7 @@ use mathlib.Core.Path.{◌≡◌, refl}
 use Rattle.errors.specs.declared.Refusal.TheVariants.{UnexpectedEOB}
 use Rattle.bytecode.specs.Opcodes.{operand_size}
 use Rattle.bytecode.specs.Operands.{extent, extent_by, operand, big_endian, data_size, behind, behind_by}
-use Rattle.bytecode.specs.declared.Extent.TheVariants.{Next, Cut}
-use Rattle.bytecode.specs.declared.OperandResult.TheVariants.{Operand, NoOperand}
+use Rattle.std.specs.Prelude.{Ok, Err, Some, None}
 
 -- PUSH_U32 5
 abbrev Five : List ℕ
@@ -30,21 +29,21 @@ pub record Examples : Type 0 where
   pub m_st : operand_size 0x1c ≡ 1
   pub muli : operand_size 0x1e ≡ 4
   -- an instruction that ends where the code ends
-  pub whole : extent Five 0 ≡ Next 5
+  pub whole : extent Five 0 ≡ Some 5
   -- with signal 0 there is no payload
-  pub no_payload : extent Zeros 0 ≡ Next 5
+  pub no_payload : extent Zeros 0 ≡ Some 5
   -- the data belongs to PUSH_CALLDATA
-  pub with_data : extent_by sizes Calldata 0 ≡ Next 4
+  pub with_data : extent_by sizes Calldata 0 ≡ Some 4
   -- by the table that is lent, PUSH_U32 has no operand
-  pub by_the_table : extent_by sizes Five 0 ≡ Next 1
-  pub byte : operand 1 (0x1c ∷ 0x06 ∷ []) 1 ≡ Operand 6
+  pub by_the_table : extent_by sizes Five 0 ≡ Some 1
+  pub byte : operand 1 (0x1c ∷ 0x06 ∷ []) 1 ≡ Ok 6
   -- past the end is 2
-  pub no_byte : operand 1 (0x1c ∷ []) 1 ≡ NoOperand UnexpectedEOB
-  pub two_bytes : operand 2 (0x01 ∷ 0x02 ∷ []) 0 ≡ Operand 258
-  pub cut_operand : operand 2 (0x04 ∷ 0x01 ∷ []) 1 ≡ NoOperand UnexpectedEOB
+  pub no_byte : operand 1 (0x1c ∷ []) 1 ≡ Err UnexpectedEOB
+  pub two_bytes : operand 2 (0x01 ∷ 0x02 ∷ []) 0 ≡ Ok 258
+  pub cut_operand : operand 2 (0x04 ∷ 0x01 ∷ []) 1 ≡ Err UnexpectedEOB
   -- the first byte is the highest
-  pub four_bytes : operand 4 Five 1 ≡ Operand 5
-  pub three_bytes : operand 4 Five 2 ≡ NoOperand UnexpectedEOB
+  pub four_bytes : operand 4 Five 1 ≡ Ok 5
+  pub three_bytes : operand 4 Five 2 ≡ Err UnexpectedEOB
 
 pub examples : Examples
 unfolding operand_size big_endian operand data_size behind extent behind_by extent_by

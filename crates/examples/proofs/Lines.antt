@@ -14,7 +14,6 @@ use Rattle.text.specs.Ascii.{ascii}
 use Rattle.text.specs.Numbers.{digit, digits, decimal, hex, spaced, words, filled_in, numbers_left, filled}
 use Rattle.text.specs.Escapes.{capital, is_escaped, shown, escaped}
 use Rattle.text.specs.declared.Form.TheVariants.{Plain}
-use Rattle.text.specs.declared.LineResult.TheVariants.{Line, NoLine}
 use Rattle.text.specs.Lines.{formed, line, said, lined, put_line, measure_line, tell_line, hex_count, parted, hex_part}
 use Rattle.utf8.specs.Grammar.{UTF8_char}
 use Rattle.utf8.specs.Utf8.{holds, lead, from, valid}
@@ -22,23 +21,24 @@ use Rattle.values.specs.Values.{make_vec_tagged, is_vec, raw_tag, fat_pointer, t
 use Rattle.memory.specs.Change.{inside}
 use Rattle.memory.specs.Reads.{get_slice_as_str}
 use Rattle.memory.specs.Unbox.{unbox_value, where_readable, text_at, by_type}
-use Rattle.memory.specs.declared.unbox.Return.TheVariants.{U32, CallData, VecU32, Null, NoReturn, String}
+use Rattle.memory.specs.declared.unbox.Return.TheVariants.{U32, CallData, VecU32, Null, String}
 use Rattle.listing.specs.declared.Head.TheVariants.{Done, Paused, Refused}
 use Rattle.listing.specs.declared.Counted.TheVariants.{Values, Tasks}
 use Rattle.listing.specs.Listing.{ValueRead, values_read, line_of_refusal, line_of_head, line_of_count, line_of_numbers, line_of_value, title_form, line_of_task, lines_of_values, lines_of_tasks, listing, height_of, line_behind, line_by, line_count, slot_shown}
 use Rattle.listing.specs.Told.{ValueTold, value_told, values_told, tasks_told, told}
+use Rattle.std.specs.Prelude.{Ok, Err}
 
 -- C1, whole
-pub c1 : listing (Done 5) (record { answer = U32 99; part = [] } ∷ []) [] ≡ ascii "done 5\nvalues 1\nu32 99\ntasks 0\n"
+pub c1 : listing (Done 5) (record { answer = Ok (U32 99); part = [] } ∷ []) [] ≡ ascii "done 5\nvalues 1\nu32 99\ntasks 0\n"
 unfolding listing line_of_head line_of_count lines_of_values lines_of_tasks line_of_value said line formed filled filled_in numbers_left decimal digits digit ascii living_of
 c1 = refl
 
 -- its line 2, counted from 0, is the value, and line 3 the count of tasks
-pub c1_value : line_by (Done 5) (record { answer = U32 99; part = [] } ∷ []) 0 blank 2 ≡ ascii "u32 99\n"
+pub c1_value : line_by (Done 5) (record { answer = Ok (U32 99); part = [] } ∷ []) 0 blank 2 ≡ ascii "u32 99\n"
 unfolding line_by line_behind line_of_value said line formed filled filled_in numbers_left decimal digits digit ascii
 c1_value = refl
 
-pub c1_tasks : line_by (Done 5) (record { answer = U32 99; part = [] } ∷ []) 0 blank 3 ≡ ascii "tasks 0\n"
+pub c1_tasks : line_by (Done 5) (record { answer = Ok (U32 99); part = [] } ∷ []) 0 blank 3 ≡ ascii "tasks 0\n"
 unfolding line_by line_behind line_of_count said line formed filled filled_in numbers_left decimal digits digit ascii
 c1_tasks = refl
 
@@ -96,27 +96,27 @@ unfolding line_of_count said line formed filled filled_in numbers_left decimal d
 tasks = refl
 
 -- null
-pub null : line_of_value Null [] ≡ ascii "null\n"
+pub null : line_of_value (Ok Null) [] ≡ ascii "null\n"
 unfolding line_of_value said line formed filled filled_in numbers_left ascii
 null = refl
 
 -- calldata in lower-case hex
-pub calldata : line_of_value (CallData (record { 0 = 1 })) (0x4a ∷ 0x62 ∷ []) ≡ ascii "calldata 4a62\n"
+pub calldata : line_of_value (Ok (CallData (record { 0 = 1 }))) (0x4a ∷ 0x62 ∷ []) ≡ ascii "calldata 4a62\n"
 unfolding line_of_value line formed filled filled_in numbers_left hex digit ascii
 calldata = refl
 
 -- numbers, one space between
-pub numbers : line_of_value (VecU32 (record { offset = 0; size = 8 })) (0 ∷ 1 ∷ 0 ∷ 0 ∷ 255 ∷ 255 ∷ 255 ∷ 255 ∷ []) ≡ ascii "vec 256 4294967295\n"
+pub numbers : line_of_value (Ok (VecU32 (record { offset = 0; size = 8 }))) (0 ∷ 1 ∷ 0 ∷ 0 ∷ 255 ∷ 255 ∷ 255 ∷ 255 ∷ []) ≡ ascii "vec 256 4294967295\n"
 unfolding line_of_value line_of_numbers words spaced decimal digits digit ascii
 numbers = refl
 
 -- no numbers leave the space
-pub no_numbers : line_of_value (VecU32 (record { offset = 0; size = 0 })) [] ≡ ascii "vec \n"
+pub no_numbers : line_of_value (Ok (VecU32 (record { offset = 0; size = 0 }))) [] ≡ ascii "vec \n"
 unfolding line_of_value line_of_numbers words ascii
 no_numbers = refl
 
 -- the number alone
-pub bad : line_of_value (NoReturn (InvalidInstructionsIndex 7)) [] ≡ ascii "bad 12\n"
+pub bad : line_of_value (Err (InvalidInstructionsIndex 7)) [] ≡ ascii "bad 12\n"
 unfolding line_of_value said line formed filled filled_in numbers_left decimal digits digit ascii
 bad = refl
 
@@ -132,7 +132,7 @@ controls_length zero = refl
 controls_length (suc count) = omega (arith, controls_length count)
 
 -- the longest line of a text, of 196,611 bytes
-pub longest_text : length (line_of_value (String (record { offset = 0; size = 65535 })) (replicate 65535 7)) ≡ 196611
+pub longest_text : length (line_of_value (Ok (String (record { offset = 0; size = 65535 }))) (replicate 65535 7)) ≡ 196611
 unfolding line_of_value line formed filled filled_in ascii
 longest_text = omega (arith, controls_length 65535, length-append (escaped false (replicate 65535 7)) (10 ∷ []))
 
@@ -170,26 +170,26 @@ unfolding line_of_task title_form UTF8_char holds lead from valid line formed es
 longest_plain_task = refl
 
 -- a line goes to the buffer's start, and the bytes past it stay
-pub put : put_line (7 ∷ 7 ∷ 7 ∷ []) (65 ∷ 10 ∷ []) ≡ lined (Line 2) (65 ∷ 10 ∷ 7 ∷ [])
+pub put : put_line (7 ∷ 7 ∷ 7 ∷ []) (65 ∷ 10 ∷ []) ≡ lined (Ok 2) (65 ∷ 10 ∷ 7 ∷ [])
 unfolding put_line
 put = refl
 
 -- one that the buffer does not hold is 24, and the buffer stays
-pub not_put : put_line (7 ∷ []) (65 ∷ 10 ∷ []) ≡ lined (NoLine SaveBufferTooShort) (7 ∷ [])
+pub not_put : put_line (7 ∷ []) (65 ∷ 10 ∷ []) ≡ lined (Err SaveBufferTooShort) (7 ∷ [])
 unfolding put_line
 not_put = refl
 
 -- a line that is only measured leaves the buffer, which need not hold it
-pub measured : tell_line false (7 ∷ []) (65 ∷ 10 ∷ []) ≡ lined (Line 2) (7 ∷ [])
+pub measured : tell_line false (7 ∷ []) (65 ∷ 10 ∷ []) ≡ lined (Ok 2) (7 ∷ [])
 unfolding tell_line measure_line
 measured = refl
 
-pub not_written : tell_line false (7 ∷ 8 ∷ []) (65 ∷ 10 ∷ []) ≡ lined (Line 2) (7 ∷ 8 ∷ [])
+pub not_written : tell_line false (7 ∷ 8 ∷ []) (65 ∷ 10 ∷ []) ≡ lined (Ok 2) (7 ∷ 8 ∷ [])
 unfolding tell_line measure_line
 not_written = refl
 
 -- one that is written is put
-pub written : tell_line true (7 ∷ 8 ∷ []) (65 ∷ 10 ∷ []) ≡ lined (Line 2) (65 ∷ 10 ∷ [])
+pub written : tell_line true (7 ∷ 8 ∷ []) (65 ∷ 10 ∷ []) ≡ lined (Ok 2) (65 ∷ 10 ∷ [])
 unfolding tell_line put_line
 written = refl
 
@@ -254,7 +254,7 @@ shown_before id title = line (ascii "task # # ") (id ∷ 1 ∷ []) Plain title
 
 -- a text with a backslash and a byte 127, as it is read
 abbrev odd : ValueRead
-odd = record { answer = String (record { offset = 0; size = 4 }); part = ascii "a\\b\u{7f}" }
+odd = record { answer = Ok (String (record { offset = 0; size = 4 })); part = ascii "a\\b\u{7f}" }
 
 -- two tasks; behind a line break in the first title stands what looks like a line
 abbrev first_broken : List Task

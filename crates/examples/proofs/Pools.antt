@@ -5,7 +5,7 @@ use mathlib.Core.List.{List, [], ◌∷◌}
 use mathlib.Core.Path.{◌≡◌, refl}
 use Rattle.errors.specs.declared.Refusal.TheVariants.{InvalidInstructionsIndex}
 use Rattle.pools.specs.Pool.{has_room, interned, part_in_use, bounds, entry_of, end_to_end, end_of, start_of, never_fall}
-use Rattle.pools.specs.declared.BoundsResult.TheVariants.{NoBounds, Bounds}
+use Rattle.std.specs.Prelude.{Ok, Err}
 
 -- entry 0 is 1d, entry 1 is 41 62; three bytes are left
 abbrev pool : List ℕ
@@ -26,7 +26,7 @@ pub record Examples : Type 0 where
   pub part : (interned pool ends 3 2 (part_in_use pool 3 1 2)).pool ≡ 0x1d ∷ 0x41 ∷ 0x62 ∷ 0x41 ∷ 0x62 ∷ 0 ∷ []
   pub part_past : (interned pool ends 3 2 (part_in_use pool 3 2 2)).ends ≡ 1 ∷ 3 ∷ 4 ∷ 0 ∷ []
   -- no entry in use is 12 with the index
-  pub no_bounds : bounds ends 2 (record { 0 = 2 }) ≡ NoBounds (InvalidInstructionsIndex 2)
+  pub no_bounds : bounds ends 2 (record { 0 = 2 }) ≡ Err (InvalidInstructionsIndex 2)
   pub entry : entry_of pool ends 1 ≡ 0x41 ∷ 0x62 ∷ []
   -- the last entry ends where the bytes in use do
   pub other_bytes : end_to_end ends 2 2 ≡ false

@@ -8,11 +8,8 @@ use Rattle.errors.specs.declared.Refusal.TheVariants.{TaskNotFound, TitleTooLong
 use Rattle.storage.specs.Storage.{slot_of, find, room, len_after}
 use Rattle.storage.specs.Table.{set_state_at, living_of, sound_table, lives, sound_slot, sound_slots, sound_counts}
 use Rattle.storage.specs.Tasks.{new_task, blank, default_state, no_such_state, with_state, stated, set_state, no_title, title_of}
-use Rattle.storage.specs.declared.DefaultResult.TheVariants.{State, NoState}
-use Rattle.storage.specs.declared.FindResult.TheVariants.{Found, NotFound}
-use Rattle.storage.specs.declared.RoomResult.TheVariants.{Room, NoRoom}
-use Rattle.storage.specs.declared.StateResult.TheVariants.{NotSet, Set}
 use Rattle.storage.specs.declared.Task.{Task}
+use Rattle.std.specs.Prelude.{Ok, Err}
 
 -- a living task with the id and the title "Ab", in the last but one of three states
 abbrev task : ℕ → Task
@@ -34,20 +31,20 @@ full first = first ∷ replicate 255 blank
 pub record Examples : Type 0 where
   -- an id above 255 has no slot
   pub slot : slot_of (record { 0 = 257 }) ≡ 257
-  pub found : find (task 3) (record { 0 = 3 }) ≡ Found
+  pub found : find (task 3) (record { 0 = 3 }) ≡ Ok tt
   -- no such task is 9 with the id
-  pub not_found : find blank (record { 0 = 3 }) ≡ NotFound (TaskNotFound 3)
+  pub not_found : find blank (record { 0 = 3 }) ≡ Err (TaskNotFound 3)
   -- 256 tasks, titles of 128 bytes
-  pub last_room : room 255 128 ≡ Room
-  pub long_title : room 255 129 ≡ NoRoom TitleTooLong
+  pub last_room : room 255 128 ≡ Ok tt
+  pub long_title : room 255 129 ≡ Err TitleTooLong
   -- the greatest id held plus 1
   pub lower_id : len_after 5 2 ≡ 5
   pub greater_id : len_after 1 4 ≡ 5
-  pub one_state : default_state 1 ≡ State (record { len = 1; state = 0 })
+  pub one_state : default_state 1 ≡ Ok (record { len = 1; state = 0 })
   -- 11 with the whole number that was asked for
-  pub no_state : no_such_state 259 ≡ NotSet (InvalidStatus 259)
-  pub no_state_255 : with_state (record { len = 255; state = 1 }) 255 ≡ stated 1 (NotSet (InvalidStatus 255))
-  pub no_third_state : with_state (record { len = 3; state = 1 }) 3 ≡ stated 1 (NotSet (InvalidStatus 3))
+  pub no_state : no_such_state 259 ≡ Err (InvalidStatus 259)
+  pub no_state_255 : with_state (record { len = 255; state = 1 }) 255 ≡ stated 1 (Err (InvalidStatus 255))
+  pub no_third_state : with_state (record { len = 3; state = 1 }) 3 ≡ stated 1 (Err (InvalidStatus 3))
   -- the state byte is written, and where it is refused it stays
   pub set_to_2 : (set_state (task 1) 2).lent ≡ in_state 2
   pub not_set : (set_state (task 1) 3).lent ≡ in_state 1

@@ -7,7 +7,6 @@ use Rattle.storage.specs.declared.Task.{Task}
 use Rattle.storage.specs.Tasks.{blank}
 use Rattle.machine.specs.declared.Machine.{Machine}
 use Rattle.machine.specs.World.{world}
-use Rattle.machine.specs.declared.CreateResult.{CreateResult}
 use Rattle.machine.specs.declared.Report.{Report}
 use Rattle.machine.specs.declared.SaveReport.{SaveReport}
 use Rattle.machine.specs.Calls.{reported, start}
@@ -17,10 +16,12 @@ use Rattle.host.specs.declared.hosting.RunSummary.{RunSummary}
 use Rattle.host.specs.declared.answering.ListingLengths.{ListingLengths}
 use Rattle.host.specs.Listings.{ListedIn, listed_in, list_run}
 use Rattle.host.specs.Hosting.{to_save, performed, RunSummaryIn, performed_in, with_listing, with_saved_image, with_run, with_creation, perform, owned, without_table, own}
+use Rattle.std.specs.Prelude.{Result}
+use Rattle.errors.specs.declared.Refusal.{Refusal}
 
 -- creation, start, save and the listing
 pub performs : (fuel : ℕ) (table : List Task) (stack memory pool ends save image program listing : List ℕ)
-    {creation : CreateResult} {t₁ : List Task} {p₁ e₁ : List ℕ} {begun : Machine}
+    {creation : Result Machine Refusal} {t₁ : List Task} {p₁ e₁ : List ℕ} {begun : Machine}
     {report : Report} {t₂ : List Task} {s₂ m₂ p₂ e₂ v₂ : List ℕ} {saving : Machine}
     {saved : SaveReport} {t₃ : List Task} {s₃ m₃ p₃ e₃ v₃ : List ℕ} {listed : ListingLengths} {t₄ : List Task} {s₄ m₄ p₄ e₄ l₄ : List ℕ} {r : RunSummary}
     → made creation t₁ p₁ e₁ ≡ create table pool ends image program

@@ -1,25 +1,24 @@
 -- The eight numbers of a run.
-use Rattle.std.specs.Prelude.{ℕ, ◌+◌, ◌*◌, cond, List, [], ◌∷◌, eqb}
+use Rattle.std.specs.Prelude.{ℕ, ◌+◌, ◌*◌, cond, List, [], ◌∷◌, eqb, Result, Ok, Err}
 use Rattle.std.proofs.lemmas.List.Edits.{sets}
-use Rattle.image.specs.declared.SaveResult.{SaveResult}
-use Rattle.image.specs.declared.SaveResult.TheVariants as save
 use Rattle.listing.specs.declared.Head.{Head}
 use Rattle.listing.specs.declared.Head.TheVariants.{Done, Paused, Refused, Saved}
 use Rattle.host.specs.declared.hosting.RunSummary.{RunSummary}
 use Rattle.host.specs.declared.reasons.Reason.{Reason}
 use Rattle.host.specs.Reasons.{as_numbers}
+use Rattle.errors.specs.declared.Refusal.{Refusal}
 
 -- no refusal
 abbrev pub no_reason : Reason
 no_reason = record { number = 0; first = 0; second = 0 }
 
 -- why the save after a run was refused
-unfoldable pub save_reason : SaveResult → Reason
-save_reason (save.Saved length) = no_reason
-save_reason (save.NotSaved refusal) = as_numbers refusal
+unfoldable pub save_reason : Result ℕ Refusal → Reason
+save_reason (Ok length) = no_reason
+save_reason (Err refusal) = as_numbers refusal
 
 -- why the run was refused, or else the save after it
-unfoldable pub reason_of : Head → SaveResult → Reason
+unfoldable pub reason_of : Head → Result ℕ Refusal → Reason
 reason_of (Refused refusal) saved = as_numbers refusal
 reason_of (Done count) saved = save_reason saved
 reason_of (Paused count) saved = save_reason saved

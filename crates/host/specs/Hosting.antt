@@ -1,12 +1,11 @@
 -- A run for a host: a machine is created, started, saved where the run was not refused, and listed.
-use Rattle.std.specs.Prelude.{ℕ, List}
+use Rattle.std.specs.Prelude.{ℕ, List, Result}
 use Rattle.storage.specs.declared.Task.{Task}
 use Rattle.machine.specs.declared.Machine.{Machine}
 use Rattle.machine.specs.Machines.{with_ids}
 use Rattle.machine.specs.declared.Outcome.{Outcome}
 use Rattle.machine.specs.declared.Outcome.TheVariants.{Done, Paused, Refused}
 use Rattle.machine.specs.World.{world}
-use Rattle.machine.specs.declared.CreateResult.{CreateResult}
 use Rattle.machine.specs.declared.Report.{Report}
 use Rattle.machine.specs.declared.SaveReport.{SaveReport}
 use Rattle.machine.specs.Calls.{Reported, start}
@@ -15,6 +14,7 @@ use Rattle.machine.specs.Reads.{SavedTo, host_save}
 use Rattle.host.specs.Listings.{head_of, ListedIn, list_run}
 use Rattle.host.specs.declared.answering.ListingLengths.{ListingLengths}
 use Rattle.host.specs.declared.hosting.RunSummary.{RunSummary}
+use Rattle.errors.specs.declared.Refusal.{Refusal}
 
 -- ---- between the calls
 
@@ -32,7 +32,7 @@ abbrev pub to_save : Report → Machine
 to_save report = machine_to_save report.outcome report.machine
 
 -- what came of it all
-unfoldable pub performed : CreateResult → Report → SaveReport → ListingLengths → RunSummary
+unfoldable pub performed : Result Machine Refusal → Report → SaveReport → ListingLengths → RunSummary
 performed creation report saved listing = record {
   head = head_of creation report;
   finished = report.finished;
@@ -59,17 +59,17 @@ performed_in answer table stack memory pool ends save listing =
     record { answer = answer; table = table; stack = stack; memory = memory; pool = pool; ends = ends; save = save; listing = listing }
 
 -- the listing comes last
-unfoldable pub with_listing : CreateResult → Report → SaveReport → List ℕ → ListedIn → RunSummaryIn
+unfoldable pub with_listing : Result Machine Refusal → Report → SaveReport → List ℕ → ListedIn → RunSummaryIn
 with_listing creation report saved save l =
     performed_in (performed creation report saved l.answer) l.table l.stack l.memory l.pool l.ends save l.listing
 
 -- before it the save
-unfoldable pub with_saved_image : CreateResult → Report → List ℕ → SavedTo → RunSummaryIn
+unfoldable pub with_saved_image : Result Machine Refusal → Report → List ℕ → SavedTo → RunSummaryIn
 with_saved_image creation report listing s =
     with_listing creation report s.report s.save (list_run creation report s.table s.stack s.memory s.pool s.ends listing)
 
 -- before it the run
-unfoldable pub with_run : CreateResult → List ℕ → Reported → RunSummaryIn
+unfoldable pub with_run : Result Machine Refusal → List ℕ → Reported → RunSummaryIn
 with_run creation listing r =
     with_saved_image creation r.report listing
     (host_save (world (to_save r.report) r.table r.stack r.memory r.pool r.ends r.save))

@@ -1,7 +1,7 @@
 // A run for a host on a machine of its own: created over the tasks of an image, started, saved and listed.
 
 use crate::answering::ListingLengths;
-use image::SaveResult;
+use errors::Refusal;
 use listing::Head;
 
 // What came of a run: how it ended, its finished instructions, what the save by the host answered, the length of the image that was saved last, and what
@@ -10,7 +10,7 @@ use listing::Head;
 pub struct RunSummary {
     pub head: Head,
     pub finished: u64,
-    pub save: SaveResult,
+    pub save: Result<usize, Refusal>,
     pub saved: usize,
     pub listing: ListingLengths,
 }

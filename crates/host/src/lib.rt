@@ -19,8 +19,6 @@ ghost use Rattle.host.specs.Numbers.{admitted, packed_admission, packed_image};
 ghost use Rattle.host.specs.Answering.{ran, rafenuma_run};
 
 use crate::reasons::{number_and_detail, number_beside};
-use admission::Admission;
-use image::ImageResult;
 use image::reading::test_image;
 
 // Runs a program on a fresh machine over the tasks of an image; writes the listing and the new image.
@@ -44,8 +42,8 @@ pub fn rafenuma_admit(program: &[u8], kinds: &mut [u8; 1000]) -> u64
     ensures { admitted result kinds.new ≡ packed_admission (answered (admission program.now) kinds.old) }
 {
     match admission::admit(program, kinds) {
-        Admission::Admitted(count) => number_and_detail(0, count),
-        Admission::Refused(refusal) => number_beside(refusal),
+        Ok(count) => number_and_detail(0, count),
+        Err(refusal) => number_beside(refusal),
     }
 }
 
@@ -55,12 +53,7 @@ pub fn rafenuma_test_image(image: &[u8]) -> u64
     ensures { result ≡ packed_image (image_result (read_image image.now)) }
 {
     match test_image(image) {
-        ImageResult::NotSound(refusal) => number_beside(refusal),
-        ImageResult::Sound {
-            next_id: _,
-            count: _,
-            s_len: _,
-            instructions: _,
-        } => 0,
+        Ok(_) => 0,
+        Err(refusal) => number_beside(refusal),
     }
 }

@@ -1,10 +1,10 @@
 // The eight numbers of a run.
 ghost use Rattle.std.specs.Prelude.{◌≡◌};
-ghost use Rattle.host.specs.AnsweringNumbers.{no_reason, save_reason, reason_of, outcome_of, listing_number, packed, answers, told};
+ghost use Rattle.host.specs.AnsweringNumbers.{no_reason, reason_of, outcome_of, listing_number, packed, answers, told};
 
 use crate::hosting::RunSummary;
 use crate::reasons::{Reason, as_numbers};
-use image::SaveResult;
+use errors::Refusal;
 use listing::Head;
 
 // No refusal.
@@ -18,27 +18,14 @@ fn no_reason() -> Reason
     }
 }
 
-// Why a save was refused.
-#[tactic(auto, unfolding(crate::specs::AnsweringNumbers::save_reason))]
-fn save_reason(save: SaveResult) -> Reason
-    ensures { result ≡ save_reason save }
-{
-    match save {
-        SaveResult::NotSaved(refusal) => as_numbers(refusal),
-        SaveResult::Saved(_) => no_reason(),
-    }
-}
-
 // Why a run was refused, or else the save after it.
-#[tactic(auto, unfolding(crate::specs::AnsweringNumbers::reason_of))]
-fn reason_of(head: Head, save: SaveResult) -> Reason
+#[tactic(auto, unfolding(crate::specs::AnsweringNumbers::reason_of, crate::specs::AnsweringNumbers::save_reason))]
+fn reason_of(head: Head, save: Result<usize, Refusal>) -> Reason
     ensures { result ≡ reason_of head save }
 {
-    match head {
-        Head::Refused(refusal) => as_numbers(refusal),
-        Head::Done(_) => save_reason(save),
-        Head::Paused(_) => save_reason(save),
-        Head::Saved(_) => save_reason(save),
+    match (head, save) {
+        (Head::Refused(refusal), _) | (_, Err(refusal)) => as_numbers(refusal),
+        (_, Ok(_)) => no_reason(),
     }
 }
 
@@ -48,10 +35,9 @@ fn outcome_of(head: Head) -> u32
     ensures { result ≡ outcome_of head }
 {
     match head {
-        Head::Done(_) => 0,
+        Head::Done(_) | Head::Saved(_) => 0,
         Head::Paused(_) => 1,
         Head::Refused(_) => 2,
-        Head::Saved(_) => 0,
     }
 }
 
@@ -60,36 +46,33 @@ fn outcome_of(head: Head) -> u32
 fn listing_number(written: usize) -> u32
     ensures { result ≡ listing_number written }
 {
-    if written == 0 {
-        return 24;
-    }
-    0
+    if written == 0 { 24 } else { 0 }
 }
 
 // The outcome, the refusal's number and the listing's number, a byte each.
 fn packed(outcome: u32, number: u32, listing: u32) -> u64
     ensures { result ≡ packed outcome number listing }
 {
-    outcome as u64 + 256 * (number as u64) + 65536 * (listing as u64)
+    u64::from(outcome) + 256 * u64::from(number) + 65536 * u64::from(listing)
 }
 
 // Writes the eight numbers of a run, and answers with its packed one.
-#[tactic(auto, unfolding(crate::specs::AnsweringNumbers::answers))]
+#[tactic(auto, unfolding(crate::specs::AnsweringNumbers::answers), using(slices::proofs::SlicesWrites::sets_whole))]
 pub(crate) fn tell(answer: &mut [u64; 8], performed: RunSummary) -> u64
     ensures { told result answer.new ≡ answers answer.old performed }
 {
-    let head = performed.head;
-    let save = performed.save;
-    let outcome = outcome_of(head);
-    let why = reason_of(head, save);
-    answer[0] = outcome as u64;
-    answer[1] = performed.finished;
-    answer[2] = why.number as u64;
-    answer[3] = why.first;
-    answer[4] = why.second;
-    answer[5] = performed.listing.written as u64;
-    answer[6] = performed.saved as u64;
-    answer[7] = performed.listing.needed as u64;
+    let outcome = outcome_of(performed.head);
+    let why = reason_of(performed.head, performed.save);
+    *answer = [
+        u64::from(outcome),
+        performed.finished,
+        u64::from(why.number),
+        why.first,
+        why.second,
+        performed.listing.written as u64,
+        performed.saved as u64,
+        performed.listing.needed as u64,
+    ];
     packed(
         outcome,
         why.number,

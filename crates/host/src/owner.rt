@@ -37,8 +37,7 @@ fn perform(
         Verb::Start,
         fuel,
     );
-    let saving = to_save(report);
-    let saved = vm::saving::save(table, stack, memory, pool, ends, save, saving);
+    let saved = vm::saving::save(table, stack, memory, pool, ends, save, to_save(report));
     let listed = list_run(table, stack, memory, pool, ends, listing, creation, report);
     performed(creation, report, saved, listed)
 }

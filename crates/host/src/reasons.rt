@@ -13,25 +13,14 @@ pub struct Reason {
     pub second: u64,
 }
 
-// The first detail of a refusal, or 0.
-fn first_detail(refusal: Refusal) -> usize
-    ensures { result ≡ get_or (details_of refusal) 0 0 }
+// The first two details of a refusal, 0 for each that there is not.
+fn two_details(refusal: Refusal) -> (usize, usize)
+    ensures { result ≡ (get_or (details_of refusal) 0 0, get_or (details_of refusal) 1 0) }
 {
     match errors::details_of(refusal) {
-        Details::Nothing => 0,
-        Details::One(detail) => detail,
-        Details::Two(detail, _) => detail,
-    }
-}
-
-// The second detail of a refusal, or 0.
-fn second_detail(refusal: Refusal) -> usize
-    ensures { result ≡ get_or (details_of refusal) 1 0 }
-{
-    match errors::details_of(refusal) {
-        Details::Nothing => 0,
-        Details::One(_) => 0,
-        Details::Two(_, second) => second,
+        Details::Nothing => (0, 0),
+        Details::One(first) => (first, 0),
+        Details::Two(first, second) => (first, second),
     }
 }
 
@@ -39,23 +28,25 @@ fn second_detail(refusal: Refusal) -> usize
 pub(crate) fn number_and_detail(number: u32, detail: usize) -> u64
     ensures { result ≡ number_and_detail number detail }
 {
-    (number % 256) as u64 + 256 * ((detail % 72057594037927936) as u64)
+    u64::from(number % 256) + 256 * ((detail % 72057594037927936) as u64)
 }
 
 // The number of a refusal, and its first detail.
 pub(crate) fn number_beside(refusal: Refusal) -> u64
     ensures { result ≡ number_beside refusal }
 {
-    number_and_detail(errors::number_of(refusal), first_detail(refusal))
+    let (first, _) = two_details(refusal);
+    number_and_detail(errors::number_of(refusal), first)
 }
 
 // A refusal as numbers.
 pub(crate) fn as_numbers(refusal: Refusal) -> Reason
     ensures { result ≡ as_numbers refusal }
 {
+    let (first, second) = two_details(refusal);
     Reason {
         number: errors::number_of(refusal),
-        first: first_detail(refusal) as u64,
-        second: second_detail(refusal) as u64,
+        first: first as u64,
+        second: second as u64,
     }
 }

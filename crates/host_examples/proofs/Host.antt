@@ -4,7 +4,6 @@ use mathlib.Core.List.{List, [], ◌∷◌, ◌++◌}
 use mathlib.Core.Path.{◌≡◌, refl}
 use lib.ListN.{replicate}
 use Rattle.errors.specs.declared.Refusal.TheVariants.{StackUnderflow, WrongPhaseOrUnsound}
-use Rattle.image.specs.declared.SaveResult.TheVariants.{Saved, NotSaved}
 use Rattle.image.specs.Image.{read_image}
 use Rattle.image.specs.Reading.{image_result}
 use Rattle.roundtrips.specs.Images.{I1}
@@ -55,6 +54,7 @@ use Rattle.labels.specs.Elements as labels-elements
 use Rattle.labels.specs.Labels as labels-labels
 use Rattle.admission.specs.Answer as admission-answer
 use Rattle.host.specs.Numbers as host-numbers
+use Rattle.std.specs.Prelude.{Ok, Err}
 
 -- 01 00000000 01 00000005 0e 01 00000063 0f
 abbrev C1 : List ℕ
@@ -130,7 +130,7 @@ pub record Examples : Type 0 where
   pub own_done : (owned 9 C1).answer ≡ record {
     head = Done 5;
     finished = 5;
-    save = Saved 14;
+    save = Ok 14;
     saved = 14;
     listing = record { written = 31; needed = 31 };
   }
@@ -140,7 +140,7 @@ pub record Examples : Type 0 where
   pub own_refused : (owned 9 Drop).answer ≡ record {
     head = Refused StackUnderflow;
     finished = 0;
-    save = NotSaved WrongPhaseOrUnsound;
+    save = Err WrongPhaseOrUnsound;
     saved = 0;
     listing = record { written = 27; needed = 27 };
   }
@@ -172,7 +172,7 @@ pub record Examples : Type 0 where
   pub image_left_over : tests (No_tasks ++ 0 ∷ []) ≡ 25 + 256 * 14
 
 pub examples : Examples
-unfolding bytecode-opcodes.operand_size bytecode-operands.big_endian bytecode-operands.operand bytecode-operands.data_size bytecode-operands.behind bytecode-operands.extent inlinevec-stacks.if_room inlinevec-stacks.if_some inlinevec-stacks.push inlinevec-stacks.pop inlinevec-stacks.push_two inlinevec-stacks.last_two inlinevec-stacks.pop_two inlinevec-stacks.change_two inlinevec-stacks.push_loop inlinevec-stacks.pop_loop values-values.make_scalar_tagged values-values.is_scalar values-values.is_vec values-values.raw_tag values-values.to_u32 values-values.scalar_type values-values.get_value_type pools-pool.end_of pools-pool.start_of pools-pool.entry_of pools-pool.has_room pools-pool.interned pools-pool.never_fall pools-pool.end_to_end storage-table.lives storage-table.living_of storage-table.sound_slot storage-table.sound_slots storage-table.sound_counts storage-table.sound_table storage-tasks.blank slices-same.same creation-creation.image_tests creation-creation.creation_tests image-image.record_of image-image.header image-image.headed image-image.good image-image.task_before image-image.read_from image-image.with_count image-image.read_image slices-numbers.little_endian slices-numbers.number_at image-reading.s_len_of image-reading.instruction_bytes image-reading.image_result image-table.living_tasks image-table.refusal_by image-table.task_refusal image-table.or_else image-table.first_refusal image-table.image_of_tasks image-table.saved_over image-table.saved_unless image-table.save_tasks image-table.save_table utf8-grammar.UTF8_char utf8-utf8.holds utf8-utf8.lead utf8-utf8.from utf8-utf8.valid vm-calls.may_start vm-calls.may_continue vm-calls.allowed vm-calls.ended vm-calls.report vm-calls.call_with vm-calls.call vm-creation.create vm-creation.create_fit vm-creation.create_behind vm-reads.host_saved vm-reads.host_save vm-sound.sound_frames vm-sound.sound_lengths vm-sound.sound_record vm-sound.sound_world vm-creation.machine_of hosting-hosting.machine_to_save answering-listings.run_head answering-listings.head_of hosting-hosting.performed hosting-hosting.with_saved_image hosting-hosting.with_run hosting-hosting.with_creation hosting-hosting.perform vm-creation.blank_table hosting-hosting.own answering-answering.new_stack answering-answering.new_ends answering-answering.new_pool answering-answering.with_owned answering-answering.rafenuma_run answering-numbers.save_reason answering-numbers.reason_of answering-numbers.outcome_of answering-numbers.listing_number answering-numbers.answers listing-listing.height_of listing-listing.values_read listing-listing.line_of_refusal listing-listing.line_of_head listing-listing.line_of_count listing-listing.line_of_value listing-listing.line_of_task text-ascii.ascii text-lines.formed text-lines.line text-lines.said text-numbers.digit text-numbers.digits text-numbers.decimal text-numbers.spaced text-numbers.filled_in text-numbers.numbers_left text-numbers.filled unbox-unbox.by_type unbox-unbox.unbox_value labels-check.label_from labels-check.label_at labels-check.first_failing labels-check.first_without_rule labels-check.first_wrong_jump labels-check.swept labels-check.admission labels-elements.joined labels-elements.element_end labels-elements.moving_element labels-elements.plain_element labels-elements.whole_element labels-elements.element labels-labels.exchanged labels-labels.kinds_after labels-labels.loops_after labels-labels.bounded labels-labels.rule labels-labels.next_label admission-answer.answered host-numbers.admission_number host-numbers.packed_image machine-machines.current machine-machines.with_current machine-machines.code_of machine-machines.op_at machine-machines.placed machine-machines.rewound machine-fields.within machine-fields.title_bytes machine-world.at_end machine-words.test machine-words.operand_found machine-words.popped machine-words.looked_at machine-words.push machine-words.calculated machine-words.pointed machine-words.bytes_of machine-words.allocated machine-words.store machine-words.element_changed machine-words.loop_pushed machine-words.loop_popped machine-words.loop_looked_at machine-words.frame_pushed machine-words.frame_popped machine-words.bounds_found machine-words.interned machine-words.found machine-words.first_state machine-words.has_state machine-words.with_room machine-words.saved machine-opcodes.push_u32 machine-opcodes.push_byte machine-opcodes.push_calldata machine-opcodes.mul machine-opcodes.muli machine-opcodes.compare machine-opcodes.t_create machine-opcodes.get_field machine-opcodes.t_get_field machine-opcodes.set_field machine-opcodes.t_set_field machine-opcodes.t_delete machine-opcodes.s_save machine-opcodes.s_len machine-opcodes.«do» machine-opcodes.loop machine-opcodes.loop_index machine-opcodes.enter machine-opcodes.call_task machine-opcodes.end_call machine-opcodes.jump_if_false machine-opcodes.drops machine-opcodes.dup machine-opcodes.swap machine-opcodes.equal machine-opcodes.eq machine-opcodes.neq machine-opcodes.m_sti machine-opcodes.m_st machine-opcodes.m_muta machine-step.execute machine-step.step machine-run.follow machine-run.run image-image.written image-image.records image-table.load_slot image-table.load_tasks image-table.load_read image-table.load_table hosting-hosting.with_listing answering-listings.list_whole answering-listings.list_run answering-listings.told_length listing-listing.listing listing-listing.lines_of_values listing-listing.lines_of_tasks
+unfolding bytecode-opcodes.operand_size bytecode-operands.big_endian bytecode-operands.operand bytecode-operands.data_size bytecode-operands.behind bytecode-operands.extent inlinevec-stacks.if_room inlinevec-stacks.if_some inlinevec-stacks.push inlinevec-stacks.pop inlinevec-stacks.push_two inlinevec-stacks.last_two inlinevec-stacks.pop_two inlinevec-stacks.change_two inlinevec-stacks.push_onto inlinevec-stacks.pop_off values-values.make_scalar_tagged values-values.is_scalar values-values.is_vec values-values.raw_tag values-values.to_u32 values-values.scalar_type values-values.get_value_type pools-pool.end_of pools-pool.start_of pools-pool.entry_of pools-pool.has_room pools-pool.interned pools-pool.never_fall pools-pool.end_to_end storage-table.lives storage-table.living_of storage-table.sound_slot storage-table.sound_slots storage-table.sound_counts storage-table.sound_table storage-tasks.blank slices-same.same creation-creation.image_tests creation-creation.creation_tests image-image.record_of image-image.header image-image.headed image-image.good image-image.task_before image-image.read_from image-image.with_count image-image.read_image slices-numbers.little_endian slices-numbers.number_at image-reading.s_len_of image-reading.instruction_bytes image-reading.image_result image-table.living_tasks image-table.refusal_by image-table.task_refusal image-table.or_else image-table.first_refusal image-table.image_of_tasks image-table.saved_over image-table.saved_unless image-table.save_tasks image-table.save_table utf8-grammar.UTF8_char utf8-utf8.holds utf8-utf8.lead utf8-utf8.from utf8-utf8.valid vm-calls.may_start vm-calls.may_continue vm-calls.allowed vm-calls.ended vm-calls.report vm-calls.call_with vm-calls.call vm-creation.create vm-creation.create_fit vm-creation.create_behind vm-reads.host_saved vm-reads.host_save vm-sound.sound_frames vm-sound.sound_lengths vm-sound.sound_record vm-sound.sound_world vm-creation.machine_of hosting-hosting.machine_to_save answering-listings.run_head answering-listings.head_of hosting-hosting.performed hosting-hosting.with_saved_image hosting-hosting.with_run hosting-hosting.with_creation hosting-hosting.perform vm-creation.blank_table hosting-hosting.own answering-answering.new_stack answering-answering.new_ends answering-answering.new_pool answering-answering.with_owned answering-answering.rafenuma_run answering-numbers.save_reason answering-numbers.reason_of answering-numbers.outcome_of answering-numbers.listing_number answering-numbers.answers listing-listing.height_of listing-listing.values_read listing-listing.line_of_refusal listing-listing.line_of_head listing-listing.line_of_count listing-listing.line_of_value listing-listing.line_of_task text-ascii.ascii text-lines.formed text-lines.line text-lines.said text-numbers.digit text-numbers.digits text-numbers.decimal text-numbers.spaced text-numbers.filled_in text-numbers.numbers_left text-numbers.filled unbox-unbox.by_type unbox-unbox.unbox_value labels-check.label_from labels-check.label_at labels-check.first_failing labels-check.first_without_rule labels-check.first_wrong_jump labels-check.swept labels-check.admission labels-elements.joined labels-elements.element_end labels-elements.moving_element labels-elements.plain_element labels-elements.whole_element labels-elements.element labels-labels.exchanged labels-labels.kinds_after labels-labels.loops_after labels-labels.bounded labels-labels.rule labels-labels.next_label admission-answer.answered host-numbers.admission_number host-numbers.packed_image machine-machines.current machine-machines.with_current machine-machines.code_of machine-machines.op_at machine-machines.placed machine-machines.rewound machine-fields.within machine-fields.title_bytes machine-world.at_end machine-words.test machine-words.operand_found machine-words.popped machine-words.looked_at machine-words.push machine-words.calculated machine-words.pointed machine-words.bytes_of machine-words.allocated machine-words.store machine-words.element_changed machine-words.loop_pushed machine-words.loop_popped machine-words.loop_looked_at machine-words.frame_pushed machine-words.frame_popped machine-words.bounds_found machine-words.interned machine-words.found machine-words.first_state machine-words.has_state machine-words.with_room machine-words.saved machine-opcodes.push_u32 machine-opcodes.push_byte machine-opcodes.push_calldata machine-opcodes.mul machine-opcodes.muli machine-opcodes.compare machine-opcodes.t_create machine-opcodes.get_field machine-opcodes.t_get_field machine-opcodes.set_field machine-opcodes.t_set_field machine-opcodes.t_delete machine-opcodes.s_save machine-opcodes.s_len machine-opcodes.«do» machine-opcodes.loop machine-opcodes.loop_index machine-opcodes.enter machine-opcodes.call_task machine-opcodes.end_call machine-opcodes.jump_if_false machine-opcodes.drops machine-opcodes.dup machine-opcodes.swap machine-opcodes.equal machine-opcodes.eq machine-opcodes.neq machine-opcodes.m_sti machine-opcodes.m_st machine-opcodes.m_muta machine-step.execute machine-step.step machine-run.follow machine-run.run image-image.written image-image.records image-table.load_slot image-table.load_tasks image-table.load_read image-table.load_table hosting-hosting.with_listing answering-listings.list_whole answering-listings.list_run answering-listings.told_length listing-listing.listing listing-listing.lines_of_values listing-listing.lines_of_tasks
 examples = record {
   run_done = refl;
   run_paused = refl;

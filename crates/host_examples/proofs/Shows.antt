@@ -88,7 +88,7 @@ pub record Examples : Type 0 where
   pub not_created : (asked 1 [] saves).save ≡ replicate 16 255
 
 pub examples : Examples
-unfolding bytecode-opcodes.operand_size bytecode-operands.big_endian bytecode-operands.operand bytecode-operands.data_size bytecode-operands.behind bytecode-operands.extent inlinevec-stacks.if_room inlinevec-stacks.if_some inlinevec-stacks.push inlinevec-stacks.pop inlinevec-stacks.push_two inlinevec-stacks.last_two inlinevec-stacks.pop_two inlinevec-stacks.change_two inlinevec-stacks.push_loop inlinevec-stacks.pop_loop values-values.make_scalar_tagged values-values.to_u32 pools-pool.end_of pools-pool.start_of pools-pool.entry_of pools-pool.has_room pools-pool.interned pools-pool.never_fall pools-pool.end_to_end storage-table.sound_slot storage-table.sound_slots storage-table.sound_counts storage-table.sound_table storage-tasks.blank creation-creation.image_tests creation-creation.creation_tests image-image.record_of image-image.header image-image.read_image slices-numbers.little_endian slices-numbers.number_at image-reading.s_len_of image-reading.instruction_bytes image-reading.image_result image-table.living_tasks image-table.refusal_by image-table.task_refusal image-table.or_else image-table.first_refusal image-table.image_of_tasks image-table.saved_over image-table.saved_unless image-table.save_tasks image-table.save_table vm-calls.may_start vm-calls.may_continue vm-calls.allowed vm-calls.ended vm-calls.report vm-calls.call_with vm-calls.call vm-creation.create vm-creation.create_fit vm-creation.create_behind vm-reads.host_save vm-sound.sound_frames vm-sound.sound_lengths vm-sound.sound_record vm-sound.sound_world shows-asked.call_at shows-asked.verb_at shows-asked.fuel_at shows-asked.verb_of shows-asked.ran vm-creation.machine_of shows-asked.count_of shows-shows.performed shows-shows.after_call shows-shows.after_calls shows-shows.played vm-creation.blank_table shows-shows.own machine-machines.current machine-machines.with_current machine-machines.code_of machine-machines.op_at machine-machines.placed machine-machines.rewound machine-fields.within machine-fields.title_bytes machine-world.at_end machine-words.test machine-words.operand_found machine-words.popped machine-words.looked_at machine-words.push machine-words.calculated machine-words.pointed machine-words.bytes_of machine-words.allocated machine-words.store machine-words.element_changed machine-words.loop_pushed machine-words.loop_popped machine-words.loop_looked_at machine-words.frame_pushed machine-words.frame_popped machine-words.bounds_found machine-words.interned machine-words.found machine-words.first_state machine-words.has_state machine-words.with_room machine-words.saved machine-opcodes.push_u32 machine-opcodes.push_byte machine-opcodes.push_calldata machine-opcodes.mul machine-opcodes.muli machine-opcodes.compare machine-opcodes.t_create machine-opcodes.get_field machine-opcodes.t_get_field machine-opcodes.set_field machine-opcodes.t_set_field machine-opcodes.t_delete machine-opcodes.s_save machine-opcodes.s_len machine-opcodes.«do» machine-opcodes.loop machine-opcodes.loop_index machine-opcodes.enter machine-opcodes.call_task machine-opcodes.end_call machine-opcodes.jump_if_false machine-opcodes.drops machine-opcodes.dup machine-opcodes.swap machine-opcodes.equal machine-opcodes.eq machine-opcodes.neq machine-opcodes.m_sti machine-opcodes.m_st machine-opcodes.m_muta machine-step.execute machine-step.step machine-run.follow machine-run.run image-image.written image-image.records image-table.load_slot image-table.load_tasks image-table.load_read image-table.load_table
+unfolding bytecode-opcodes.operand_size bytecode-operands.big_endian bytecode-operands.operand bytecode-operands.data_size bytecode-operands.behind bytecode-operands.extent inlinevec-stacks.if_room inlinevec-stacks.if_some inlinevec-stacks.push inlinevec-stacks.pop inlinevec-stacks.push_two inlinevec-stacks.last_two inlinevec-stacks.pop_two inlinevec-stacks.change_two inlinevec-stacks.push_onto inlinevec-stacks.pop_off values-values.make_scalar_tagged values-values.to_u32 pools-pool.end_of pools-pool.start_of pools-pool.entry_of pools-pool.has_room pools-pool.interned pools-pool.never_fall pools-pool.end_to_end storage-table.sound_slot storage-table.sound_slots storage-table.sound_counts storage-table.sound_table storage-tasks.blank creation-creation.image_tests creation-creation.creation_tests image-image.record_of image-image.header image-image.read_image slices-numbers.little_endian slices-numbers.number_at image-reading.s_len_of image-reading.instruction_bytes image-reading.image_result image-table.living_tasks image-table.refusal_by image-table.task_refusal image-table.or_else image-table.first_refusal image-table.image_of_tasks image-table.saved_over image-table.saved_unless image-table.save_tasks image-table.save_table vm-calls.may_start vm-calls.may_continue vm-calls.allowed vm-calls.ended vm-calls.report vm-calls.call_with vm-calls.call vm-creation.create vm-creation.create_fit vm-creation.create_behind vm-reads.host_save vm-sound.sound_frames vm-sound.sound_lengths vm-sound.sound_record vm-sound.sound_world shows-asked.call_at shows-asked.verb_at shows-asked.fuel_at shows-asked.verb_of shows-asked.ran vm-creation.machine_of shows-asked.count_of shows-shows.performed shows-shows.after_call shows-shows.after_calls shows-shows.played vm-creation.blank_table shows-shows.own machine-machines.current machine-machines.with_current machine-machines.code_of machine-machines.op_at machine-machines.placed machine-machines.rewound machine-fields.within machine-fields.title_bytes machine-world.at_end machine-words.test machine-words.operand_found machine-words.popped machine-words.looked_at machine-words.push machine-words.calculated machine-words.pointed machine-words.bytes_of machine-words.allocated machine-words.store machine-words.element_changed machine-words.loop_pushed machine-words.loop_popped machine-words.loop_looked_at machine-words.frame_pushed machine-words.frame_popped machine-words.bounds_found machine-words.interned machine-words.found machine-words.first_state machine-words.has_state machine-words.with_room machine-words.saved machine-opcodes.push_u32 machine-opcodes.push_byte machine-opcodes.push_calldata machine-opcodes.mul machine-opcodes.muli machine-opcodes.compare machine-opcodes.t_create machine-opcodes.get_field machine-opcodes.t_get_field machine-opcodes.set_field machine-opcodes.t_set_field machine-opcodes.t_delete machine-opcodes.s_save machine-opcodes.s_len machine-opcodes.«do» machine-opcodes.loop machine-opcodes.loop_index machine-opcodes.enter machine-opcodes.call_task machine-opcodes.end_call machine-opcodes.jump_if_false machine-opcodes.drops machine-opcodes.dup machine-opcodes.swap machine-opcodes.equal machine-opcodes.eq machine-opcodes.neq machine-opcodes.m_sti machine-opcodes.m_st machine-opcodes.m_muta machine-step.execute machine-step.step machine-run.follow machine-run.run image-image.written image-image.records image-table.load_slot image-table.load_tasks image-table.load_read image-table.load_table
 examples = record {
   started = refl;
   paused = refl;

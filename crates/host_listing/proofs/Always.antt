@@ -15,8 +15,6 @@ use Rattle.storage.specs.Tasks.{blank}
 use Rattle.storage.proofs.Soundness.{Counts, sound_at, sound_living, sound_counted, table_cleared}
 use Rattle.machine.specs.declared.Machine.{Machine}
 use Rattle.machine.specs.World.{World, world}
-use Rattle.machine.specs.declared.CreateResult.{CreateResult}
-use Rattle.machine.specs.declared.CreateResult.TheVariants.{Created, NotCreated}
 use Rattle.machine.specs.Calls.{Reported, is_sound, start}
 use Rattle.machine.specs.Creation.{blank_table, Made, create, stopped, machine_of}
 use Rattle.machine.specs.Reads.{SavedTo, saved_to, host_save}
@@ -38,6 +36,8 @@ use Rattle.host.specs.Listings.{head_of, values_of, Listing, listing_of, with_le
 use Rattle.host.specs.Answering.{new_stack, new_ends, new_pool, with_owned, rafenuma_run}
 use Rattle.host_listing.proofs.Refusals.{stays_stopped}
 use Rattle.host_listing.proofs.Values.{Short, taken_bytes, values_short, lines_short}
+use Rattle.std.specs.Prelude.{Ok, Err, Result}
+use Rattle.errors.specs.declared.Refusal.{Refusal}
 
 -- ---- what a run leaves
 
@@ -81,7 +81,7 @@ module _ (fuel : ℕ) (stack memory pool ends save image program : List ℕ) whe
   made = create blank_table pool ends image program
 
   -- what the run reports
-  abbrev pub reported : CreateResult → Reported
+  abbrev pub reported : Result Machine Refusal → Reported
   reported creation = start fuel (world (machine_of creation) made.table stack memory made.pool made.ends save)
 
   -- what the save answers, and what it leaves
@@ -106,11 +106,11 @@ module _ (fuel : ℕ) (stack memory pool ends save image program : List ℕ) whe
 
   module _ (stack_long : length stack ≡ 1000) (ends_long : length ends ≡ 1024) where
     -- a run leaves such ones, after a refused creation too
-    started : (creation : CreateResult) → made.answer ≡ creation → Bounded (reported creation).table (reported creation).ends (reported creation).report.machine
+    started : (creation : Result Machine Refusal) → made.answer ≡ creation → Bounded (reported creation).table (reported creation).ends (reported creation).report.machine
     unfolding machine_of
-    started (Created machine) is =
-        sound_bounded (world_after (reported (Created machine))) (start_sound fuel _ (create_sound blank_table pool ends image program machine ends_long is stack memory save stack_long))
-    started (NotCreated refusal) is =
+    started (Ok machine) is =
+        sound_bounded (world_after (reported (Ok machine))) (start_sound fuel _ (create_sound blank_table pool ends image program machine ends_long is stack memory save stack_long))
+    started (Err refusal) is =
         subst (λ (r : Reported). Bounded r.table r.ends r.report.machine) (sym (stays_stopped fuel made.table stack memory made.pool made.ends save))
         (subst (λ (t : List Task). Bounded t made.ends stopped) (sym (ap (λ (m : Made). m.table) (creation_not_created blank_table pool ends image program refusal is))) (stopped_bounded made.ends))
 

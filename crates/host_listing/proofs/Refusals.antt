@@ -12,8 +12,6 @@ use Rattle.machine.specs.declared.Machine.{Machine}
 use Rattle.machine.specs.declared.Outcome.{Outcome}
 use Rattle.machine.specs.declared.Outcome.TheVariants.{Refused}
 use Rattle.machine.specs.World.{world}
-use Rattle.machine.specs.declared.CreateResult.{CreateResult}
-use Rattle.machine.specs.declared.CreateResult.TheVariants.{NotCreated}
 use Rattle.machine.specs.Sound.{sound_record, sound_world}
 use Rattle.machine.specs.Calls.{may_start, not_allowed, Reported, reports, is_sound, start}
 use Rattle.machine.specs.Creation.{Made, stopped, machine_of}
@@ -21,6 +19,7 @@ use Rattle.machine.specs.Reads.{saved_to, not_saved, host_save}
 use Rattle.laws.proofs.Refused.{start_in_phase}
 use Rattle.host.specs.Listings.{list_run}
 use Rattle.host.specs.Hosting.{unsavable, machine_to_save, with_listing, with_saved_image, with_run, with_creation}
+use Rattle.std.specs.Prelude.{Err, Result}
 
 -- ---- a machine that does not start, and one that no save takes
 
@@ -50,7 +49,7 @@ not_taken machine table stack memory pool ends save = rw (unsound machine table 
 -- ---- a refused run
 
 -- what a refused run leaves is what is left: the save buffer is as the run left it
-pub refused_run : (creation : CreateResult) (listing : List ℕ) (r : Reported) {refusal : Refusal} → r.report.outcome ≡ Refused refusal
+pub refused_run : (creation : Result Machine Refusal) (listing : List ℕ) (r : Reported) {refusal : Refusal} → r.report.outcome ≡ Refused refusal
     → with_run creation listing r
     ≡ with_saved_image creation r.report listing (saved_to (not_saved (unsavable r.report.machine)) r.table r.stack r.memory r.pool r.ends r.save)
 unfolding with_run machine_to_save
@@ -61,12 +60,12 @@ refused_run creation listing r is =
 -- ---- a refused creation
 
 -- a refused creation leaves memory, the save buffer and the stack; the run counts as refused, and nothing is saved
-pub refused_creation : (fuel : ℕ) (stack memory save listing : List ℕ) (m : Made) {refusal : Refusal} → m.answer ≡ NotCreated refusal
+pub refused_creation : (fuel : ℕ) (stack memory save listing : List ℕ) (m : Made) {refusal : Refusal} → m.answer ≡ Err refusal
     → with_creation fuel stack memory save listing m
-    ≡ with_listing (NotCreated refusal) (not_allowed stopped) (not_saved (unsavable stopped)) save
-    (list_run (NotCreated refusal) (not_allowed stopped) m.table stack memory m.pool m.ends listing)
+    ≡ with_listing (Err refusal) (not_allowed stopped) (not_saved (unsavable stopped)) save
+    (list_run (Err refusal) (not_allowed stopped) m.table stack memory m.pool m.ends listing)
 unfolding with_creation with_saved_image machine_of
 refused_creation fuel stack memory save listing m {refusal} is =
-    ap (λ (a : CreateResult). with_run a listing (start fuel (world (machine_of a) m.table stack memory m.pool m.ends save))) is
-    ∙ ap (with_run (NotCreated refusal) listing) (stays_stopped fuel m.table stack memory m.pool m.ends save)
-    ∙ refused_run (NotCreated refusal) listing (reports (not_allowed stopped) (world stopped m.table stack memory m.pool m.ends save)) refl
+    ap (λ (a : Result Machine Refusal). with_run a listing (start fuel (world (machine_of a) m.table stack memory m.pool m.ends save))) is
+    ∙ ap (with_run (Err refusal) listing) (stays_stopped fuel m.table stack memory m.pool m.ends save)
+    ∙ refused_run (Err refusal) listing (reports (not_allowed stopped) (world stopped m.table stack memory m.pool m.ends save)) refl

@@ -8,21 +8,18 @@ use borrow.Author.Tests.{ltb-true}
 use Rattle.errors.specs.declared.Refusal.{Refusal}
 use Rattle.errors.specs.declared.Refusal.TheVariants.{InvalidType}
 use Rattle.pools.specs.Pool.{bounds, entry_of}
-use Rattle.pools.specs.declared.BoundsResult.{BoundsResult}
 use Rattle.values.specs.Values.{is_vec, to_u32, fat_pointer, to_fat_pointer, get_value_type}
-use Rattle.values.specs.declared.PointerResult.{PointerResult}
-use Rattle.values.specs.declared.PointerResult.TheVariants.{Pointer, NoPointer}
 use Rattle.values.specs.declared.ValueType.{ValueType}
 use Rattle.values.specs.declared.ValueType.TheVariants as type
 use Rattle.memory.specs.Reads.{get_slice_bytes}
-use Rattle.memory.specs.declared.ReadResult.{ReadResult}
-use Rattle.memory.specs.declared.ReadResult.TheVariants.{Readable, NotReadable}
 use Rattle.memory.specs.Unbox.{where_readable, text_at, unbox_text, numbers_at, unbox_numbers, where_bounded, unbox_calldata, by_type, unbox_value, part_of}
 use Rattle.memory.specs.declared.unbox.Return.{Return}
-use Rattle.memory.specs.declared.unbox.Return.TheVariants.{U32, Boolean, String, VecU32, Null, NoReturn}
+use Rattle.memory.specs.declared.unbox.Return.TheVariants.{U32, Boolean, String, VecU32, Null}
 use Rattle.listing.specs.Listing.{ValueRead, values_read, line_of_value, lines_of_values}
 use Rattle.listing.proofs.Longest.{number_fits, longest_calldata, longest}
 use Rattle.laws.proofs.Either.{either}
+use Rattle.std.specs.Prelude.{Ok, Err, Result, ⊤, Option, Some, None}
+use Rattle.values.specs.declared.FatPointer.{FatPointer}
 
 -- each line has room in a buffer of this size
 unfoldable pub Short : ℕ → List ValueRead → Type 0
@@ -65,66 +62,66 @@ unfolding to_u32
 number_short value = omega arith
 
 -- a line with no part beside it
-no_part : (kind : Return) → number_fits kind → length (line_of_value kind []) ≤ 196611
+no_part : (kind : Result Return Refusal) → number_fits kind → length (line_of_value kind []) ≤ 196611
 no_part kind fits = longest kind [] fits (omega arith) none_bytes
 
 module _ (memory pool ends : List ℕ) (entries : ℕ) (byte : Bytes memory) (short : (i : ℕ) → i < entries → length (entry_of pool ends i) ≤ 65536) where
   -- the line of what was read fits
-  abbrev Roomy : Return → Type 0
+  abbrev Roomy : Result Return Refusal → Type 0
   Roomy kind = length (line_of_value kind (part_of memory pool ends kind)) ≤ 196611
 
   -- where nothing can be read
-  refused : (refusal : Refusal) → Roomy (NoReturn refusal)
+  refused : (refusal : Refusal) → Roomy (Err refusal)
   unfolding part_of number_fits
-  refused refusal = no_part (NoReturn refusal) tt
+  refused refusal = no_part (Err refusal) tt
 
   -- a vector, where it can be read
-  where_roomy : (kind : Return) (result : ReadResult) → Roomy kind → Roomy (where_readable kind result)
+  where_roomy : (kind : Result Return Refusal) (result : Result ⊤ Refusal) → Roomy kind → Roomy (where_readable kind result)
   unfolding where_readable
-  where_roomy kind Readable roomy = roomy
-  where_roomy kind (NotReadable refusal) roomy = refused refusal
+  where_roomy kind (Ok tt) roomy = roomy
+  where_roomy kind (Err refusal) roomy = refused refusal
 
   module _ (value : ℕ) where
     -- a line with a vector's bytes beside it
-    with_part : (kind : Return) → number_fits kind → length (line_of_value kind (get_slice_bytes memory (fat_pointer value))) ≤ 196611
+    with_part : (kind : Result Return Refusal) → number_fits kind → length (line_of_value kind (get_slice_bytes memory (fat_pointer value))) ≤ 196611
     with_part kind fits =
         longest kind (get_slice_bytes memory (fat_pointer value)) fits
         (omega (arith, pointer_short value, length-take (fat_pointer value).size (drop (fat_pointer value).offset memory)))
         (taken_bytes (fat_pointer value).size (drop (fat_pointer value).offset memory) (dropped_bytes (fat_pointer value).offset memory byte))
 
     -- what is read of a vector, and of a value that is none
-    pointed : (read : PointerResult → Return) → Roomy (read (Pointer (fat_pointer value))) → Roomy (read (NoPointer InvalidType)) → Roomy (read (to_fat_pointer value))
+    pointed : (read : Result FatPointer Refusal → Result Return Refusal) → Roomy (read (Ok (fat_pointer value))) → Roomy (read (Err InvalidType)) → Roomy (read (to_fat_pointer value))
     unfolding to_fat_pointer
-    pointed read there none = either (λ (p : PointerResult). Roomy (read p)) (is_vec value) _ _ (λ _. there) (λ _. none)
+    pointed read there none = either (λ (p : Result FatPointer Refusal). Roomy (read p)) (is_vec value) _ _ (λ _. there) (λ _. none)
 
     -- a text
     text_roomy : Roomy (unbox_text memory value)
     unfolding text_at part_of number_fits
-    text_roomy = pointed (text_at memory) (where_roomy (String (fat_pointer value)) _ (with_part (String (fat_pointer value)) tt)) (refused InvalidType)
+    text_roomy = pointed (text_at memory) (where_roomy (Ok (String (fat_pointer value))) _ (with_part (Ok (String (fat_pointer value))) tt)) (refused InvalidType)
 
     -- numbers
     numbers_roomy : Roomy (unbox_numbers memory value)
     unfolding numbers_at part_of number_fits
-    numbers_roomy = pointed (numbers_at memory) (where_roomy (VecU32 (fat_pointer value)) _ (with_part (VecU32 (fat_pointer value)) tt)) (refused InvalidType)
+    numbers_roomy = pointed (numbers_at memory) (where_roomy (Ok (VecU32 (fat_pointer value))) _ (with_part (Ok (VecU32 (fat_pointer value))) tt)) (refused InvalidType)
 
     -- calldata
     calldata_roomy : Roomy (unbox_calldata ends entries value)
     unfolding where_bounded bounds part_of
     calldata_roomy =
-        either (λ (b : BoundsResult). Roomy (where_bounded (record { 0 = to_u32 value }) b)) (ltb (to_u32 value) (min entries 1024)) _ _
+        either (λ (b : Result (ℕ × ℕ) Refusal). Roomy (where_bounded (record { 0 = to_u32 value }) b)) (ltb (to_u32 value) (min entries 1024)) _ _
         (λ less. longest_calldata (record { 0 = to_u32 value }) (entry_of pool ends (to_u32 value)) (short (to_u32 value) (omega (arith, ltb-true (to_u32 value) (min entries 1024) less))))
         (λ _. refused _)
 
     -- a value of each type
-    type_roomy : (kind : ValueType) → Roomy (by_type memory ends entries value kind)
+    type_roomy : (kind : Option ValueType) → Roomy (by_type memory ends entries value kind)
     unfolding by_type part_of number_fits
-    type_roomy type.U32 = no_part (U32 (to_u32 value)) (number_short value)
-    type_roomy type.String = text_roomy
-    type_roomy type.CallData = calldata_roomy
-    type_roomy type.Boolean = no_part (Boolean _) tt
-    type_roomy type.VecU32 = numbers_roomy
-    type_roomy type.Null = no_part Null tt
-    type_roomy type.NoType = refused InvalidType
+    type_roomy (Some type.U32) = no_part (Ok (U32 (to_u32 value))) (number_short value)
+    type_roomy (Some type.String) = text_roomy
+    type_roomy (Some type.CallData) = calldata_roomy
+    type_roomy (Some type.Boolean) = no_part (Ok (Boolean _)) tt
+    type_roomy (Some type.VecU32) = numbers_roomy
+    type_roomy (Some type.Null) = no_part (Ok Null) tt
+    type_roomy None = refused InvalidType
 
     -- any value
     value_roomy : Roomy (unbox_value memory ends entries value)

@@ -4,14 +4,22 @@ use mathlib.Core.List.{List, [], ◌∷◌, ◌++◌}
 use mathlib.Core.Path.{◌≡◌, refl, ap, sym, ◌∙◌}
 use native.Mathlib.Omega.{arith}
 use lib.ListN.{length, get_or, take, drop}
+use Rattle.std.specs.Int.{w16, w32, from_le_bytes}
 use Rattle.slices.specs.Numbers.{little_endian, number_at, Bytes, none, byte}
 
--- two numbers of two bytes are one of four
-pub four_at : (bytes : List ℕ) (place : ℕ) → number_at 4 bytes place ≡ number_at 2 bytes place + number_at 2 bytes (place + 2) * 65536
+-- two bytes from a place on, as a 16-bit number reads them
+pub two_read : (bytes : List ℕ) (place : ℕ) → from_le_bytes w16 (get_or bytes place 0 ∷ get_or bytes (place + 1) 0 ∷ []) ≡ number_at 2 bytes place
 unfolding number_at
-four_at bytes place =
+two_read bytes place = omega arith
+
+-- four bytes, as a 32-bit number reads them
+pub four_read : (bytes : List ℕ) (place : ℕ)
+    → from_le_bytes w32 (get_or bytes place 0 ∷ get_or bytes (place + 1) 0 ∷ get_or bytes (place + 2) 0 ∷ get_or bytes (place + 3) 0 ∷ []) ≡ number_at 4 bytes place
+unfolding number_at
+four_read bytes place =
     let second : place + 1 + 1 ≡ place + 2 = omega arith in
-    rw second (omega arith)
+    let third : place + 2 + 1 ≡ place + 3 = omega arith in
+    rw (second, third) (omega arith)
 
 -- a number has as many bytes as its width
 pub width_is : (width number : ℕ) → length (little_endian width number) ≡ width

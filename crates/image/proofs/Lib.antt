@@ -3,5 +3,4 @@ pub mod Rules
 pub mod Walks
 pub mod Records
 pub mod Puts
-pub mod Turns
 pub mod Readings

@@ -14,10 +14,10 @@ use Rattle.slices.specs.Numbers.{little_endian}
 use Rattle.image.specs.Walking.{on}
 use Rattle.image.specs.Slots.{saved_task}
 use Rattle.image.specs.Writing.{Put, put, puts, size_of}
-use Rattle.image.specs.declared.SizeResult.TheVariants.{Size, NoSize}
 use Rattle.slices.proofs.SlicesWrites.{sets_append, sets_out}
 use Rattle.storage.specs.declared.Task.{Task}
 use Rattle.utf8.specs.Utf8.{valid}
+use Rattle.std.specs.Prelude.{Ok, Err}
 
 -- a place past the buffer's end counts as the end
 sets_on : (save : List ℕ) (place count : ℕ) (bytes : List ℕ) → sets save (on (length save) place count) bytes ≡ sets save (place + count) bytes
@@ -107,16 +107,16 @@ put_is save at bytes {after} {last} w n =
 
 module _ (slot : Task) (instructions : List ℕ) {title : List ℕ} {test : Bool} (t : title ≡ take slot.title_len slot.title) (v : test ≡ valid title) where
   -- 15
-  pub no_text : test ≡ false → NoSize BytesToStringConversionError ≡ size_of (saved_task slot instructions)
+  pub no_text : test ≡ false → Err BytesToStringConversionError ≡ size_of (saved_task slot instructions)
   unfolding size_of saved_task
   no_text held = rw (← t, ← v, held)
 
   -- a size
-  pub size_is : test ≡ true → Size (14 + length title + length instructions) ≡ size_of (saved_task slot instructions)
+  pub size_is : test ≡ true → Ok (14 + length title + length instructions) ≡ size_of (saved_task slot instructions)
   unfolding size_of saved_task
   size_is held =
       let n : 14 + length (take slot.title_len slot.title) + length instructions ≡ length (record_of 2 (body (saved_task slot instructions))) = omega (arith, record_size (saved_task slot instructions)) in
-      rw (← t, ← v, held, t) (ap Size n)
+      rw (← t, ← v, held, t) (ap Ok n)
 
 -- a part of a title's bytes is no longer than they are
 pub part_short : (start size : ℕ) (held : List ℕ) {part : List ℕ} → part ≡ take size (drop start held) → length part ≤ length held

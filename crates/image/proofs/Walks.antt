@@ -5,43 +5,17 @@ use mathlib.Core.List.{List, []}
 use mathlib.Core.Path.{◌≡◌, refl, ap, sym, ◌∙◌}
 use native.Mathlib.Nat.{sub-zero}
 use native.Mathlib.Omega.{arith}
-use lib.Dec.{leb, eqb}
+use lib.Dec.{eqb}
 use lib.ListN.{length, take, drop, length-take, length-drop}
 use lib.Seq.{drop-drop, take_all}
-use borrow.Author.Tests.{ne_eqb, eq-eqb, le-leb}
+use borrow.Author.Tests.{ne_eqb, eq-eqb}
 use Rattle.errors.specs.declared.Refusal.TheVariants.{BadImage}
 use Rattle.storage.specs.declared.TaskId.{TaskId}
-use Rattle.image.proofs.Rules.{Rules, rules_good, good_rules, Head, head_headed, headed_head, refuted}
-use Rattle.image.specs.Image.{ImageTask, Parsed, sound, bad_at, body_length, kind, next_id_in, task_count, id_in, title_length_in, task_at, headed, good, task_before, read_from, with_count, read_image}
+use Rattle.image.proofs.Rules.{Rules, rules_good, good_rules, Head, head_headed, headed_head}
+use Rattle.image.specs.Image.{ImageTask, Parsed, sound, bad_at, body_length, next_id_in, task_count, id_in, title_length_in, task_at, headed, good, task_before, read_from, with_count, read_image}
 use Rattle.image.specs.Reading.{s_len_of, instruction_bytes, image_result}
 use Rattle.image.specs.Walking.{front, walked}
-use Rattle.image.specs.declared.Front.TheVariants.{Whole, Broken}
-use Rattle.image.specs.declared.Front.{Front}
-use Rattle.image.specs.declared.ImageResult.TheVariants.{Sound, NotSound}
-use Rattle.image.specs.declared.Walked.TheVariants.{All, Stuck}
-use Rattle.image.specs.declared.Walked.{Walked}
-use Rattle.utf8.specs.Utf8.{valid}
-
--- ---- the record at the front
-
--- a record that breaks a rule
-pub broken : (next_id low : ℕ) (bytes : List ℕ) → (Rules next_id low bytes → ⊥) → Broken ≡ front next_id low bytes
-unfolding front
-broken next_id low bytes h = rw (refuted (good next_id low bytes) (λ g. h (good_rules next_id low bytes g)))
-
--- one that keeps them
-pub whole : (next_id low : ℕ) (bytes : List ℕ) {id size title : ℕ} → Rules next_id low bytes → id ≡ id_in bytes → size ≡ body_length bytes → title ≡ title_length_in bytes
-    → Whole (record { 0 = id }) (6 + size) (size - 8 - title) ≡ front next_id low bytes
-unfolding front
-whole next_id low bytes r i n k = rw (i, n, k, rules_good r)
-
--- the kind 1 record
-pub not_headed : (bytes : List ℕ) → (Head bytes → ⊥) → false ≡ headed bytes
-not_headed bytes h = sym (refuted (headed bytes) (λ g. h (headed_head bytes g)))
-
-pub head_last : (bytes : List ℕ) (n : ℕ) → 6 + body_length bytes ≤ length bytes → kind bytes ≡ 1 → body_length bytes ≡ 8 → n ≡ next_id_in bytes → leb n 256 ≡ headed bytes
-unfolding headed
-head_last bytes n u k s e = rw (e, le-leb (6 + body_length bytes) (length bytes) u, eq-eqb (kind bytes) 1 k, eq-eqb (body_length bytes) 8 s)
+use Rattle.std.specs.Prelude.{Ok, Err, Some, None, Result, Option}
 
 -- ---- the records, one after another
 
@@ -77,19 +51,25 @@ record Turned (next_id low : ℕ) (bytes : List ℕ) (id size instructions : ℕ
   size_is : size ≡ 6 + body_length bytes
   rest_is : instructions ≡ body_length bytes - 8 - title_length_in bytes
 
-front_whole : (next_id low : ℕ) (bytes : List ℕ) (id : TaskId) (size instructions : ℕ) → front next_id low bytes ≡ Whole id size instructions → Turned next_id low bytes id.0 size instructions
+-- the id, the size and the bytes of instructions of the record at the front
+abbrev found : List ℕ → TaskId × ℕ × ℕ
+found bytes = (record { 0 = id_in bytes }, 6 + body_length bytes, body_length bytes - 8 - title_length_in bytes)
+
+front_whole : (next_id low : ℕ) (bytes : List ℕ) (id : TaskId) (size instructions : ℕ) → front next_id low bytes ≡ Some (id, size, instructions) → Turned next_id low bytes id.0 size instructions
 unfolding front
 front_whole next_id low bytes id size instructions e = by (good next_id low bytes) refl e
   where
-    by : (t : Bool) → good next_id low bytes ≡ t → cond t (Whole (record { 0 = id_in bytes }) (6 + body_length bytes) (body_length bytes - 8 - title_length_in bytes)) Broken ≡ Whole id size instructions → Turned next_id low bytes id.0 size instructions
-    by true g q = record { rules = good_rules next_id low bytes g; id_is = (let z : record { 0 = id_in bytes } ≡ id = cc in ap (λ (i : TaskId). i.0) (sym z)); size_is = cc; rest_is = cc }
+    by : (t : Bool) → good next_id low bytes ≡ t → cond t (Some (found bytes)) None ≡ Some (id, size, instructions) → Turned next_id low bytes id.0 size instructions
+    by true g q =
+        let same : (id, size, instructions) ≡ found bytes = cc in
+        record { rules = good_rules next_id low bytes g; id_is = ap (λ (f : TaskId × ℕ × ℕ). f.0.0) same; size_is = ap (λ (f : TaskId × ℕ × ℕ). f.1) same; rest_is = ap (λ (f : TaskId × ℕ × ℕ). f.2) same }
     by false g q = absurd (let z : ◌≡◌ {A = ℕ} 0 1 = cc in omega arith)
 
-front_broken : (next_id low : ℕ) (bytes : List ℕ) → front next_id low bytes ≡ Broken → good next_id low bytes ≡ false
+front_broken : (next_id low : ℕ) (bytes : List ℕ) → front next_id low bytes ≡ None → good next_id low bytes ≡ false
 unfolding front
 front_broken next_id low bytes e = by (good next_id low bytes) refl e
   where
-    by : (t : Bool) → good next_id low bytes ≡ t → cond t (Whole (record { 0 = id_in bytes }) (6 + body_length bytes) (body_length bytes - 8 - title_length_in bytes)) Broken ≡ Broken → good next_id low bytes ≡ false
+    by : (t : Bool) → good next_id low bytes ≡ t → cond t (Some (found bytes)) None ≡ None → good next_id low bytes ≡ false
     by true g q = absurd (let z : ◌≡◌ {A = ℕ} 0 1 = cc in omega arith)
     by false g q = g
 
@@ -130,11 +110,11 @@ unfolding task_at
 walked_record count low instructions bytes r h = walked_joined count low instructions (task_at bytes) r h
 
 module _ {image : List ℕ} {next_id at low count sum : ℕ} (i : Inv image next_id at low count sum) (h : at < length image) where
-  turned : {r : Front} {id : TaskId} {size instructions : ℕ} → r ≡ front next_id low (take (length image - at) (drop at image)) → r ≡ Whole id size instructions → Turned next_id low (drop at image) id.0 size instructions
+  turned : {r : Option (TaskId × ℕ × ℕ)} {id : TaskId} {size instructions : ℕ} → r ≡ front next_id low (take (length image - at) (drop at image)) → r ≡ Some (id, size, instructions) → Turned next_id low (drop at image) id.0 size instructions
   turned {r} {id} {size} {instructions} p q = front_whole next_id low (drop at image) id size instructions (rw (tail_is image at) at (sym p ∙ q))
 
   -- a turn
-  pub turn : {r : Front} {id : TaskId} {size instructions : ℕ} → r ≡ front next_id low (take (length image - at) (drop at image)) → r ≡ Whole id size instructions → Inv image next_id (at + size) (id.0 + 1) (count + 1) (sum + instructions)
+  pub turn : {r : Option (TaskId × ℕ × ℕ)} {id : TaskId} {size instructions : ℕ} → r ≡ front next_id low (take (length image - at) (drop at image)) → r ≡ Some (id, size, instructions) → Inv image next_id (at + size) (id.0 + 1) (count + 1) (sum + instructions)
   turn {r} {id} {size} {instructions} p q =
       let t = turned p q in
       let l = instructions_length t.rules in
@@ -149,18 +129,18 @@ module _ {image : List ℕ} {next_id at low count sum : ℕ} (i : Inv image next
       }
 
   -- what a turn keeps within bounds
-  pub fits : {r : Front} {id : TaskId} {size instructions : ℕ} → r ≡ front next_id low (take (length image - at) (drop at image)) → r ≡ Whole id size instructions → (id.0 < next_id) × ((14 ≤ size) × ((at + size ≤ length image) × (instructions ≤ size)))
+  pub fits : {r : Option (TaskId × ℕ × ℕ)} {id : TaskId} {size instructions : ℕ} → r ≡ front next_id low (take (length image - at) (drop at image)) → r ≡ Some (id, size, instructions) → (id.0 < next_id) × ((14 ≤ size) × ((at + size ≤ length image) × (instructions ≤ size)))
   fits {r} {id} {size} {instructions} p q =
       let t = turned p q in
       (omega (arith, t.id_is, t.rules.below), (omega (arith, t.size_is, t.rules.large), (omega (arith, t.size_is, t.rules.uncut, length-drop at image), omega (arith, t.size_is, t.rest_is))))
 
   -- the first bad record
-  pub stuck : {r : Front} → r ≡ front next_id low (take (length image - at) (drop at image)) → r ≡ Broken → Stuck at ≡ walked 0 0 0 (read_from (length image) next_id 0 14 (drop 14 image))
+  pub stuck : {r : Option (TaskId × ℕ × ℕ)} → r ≡ front next_id low (take (length image - at) (drop at image)) → r ≡ None → Err at ≡ walked 0 0 0 (read_from (length image) next_id 0 14 (drop 14 image))
   unfolding walked
   stuck {r} p q = rw (bound_left image next_id at low count h i.moved, front_broken next_id low (drop at image) (rw (tail_is image at) at (sym p ∙ q))) at i.same
 
 -- nothing left over
-pub ended : {image : List ℕ} {next_id at low count sum : ℕ} → Inv image next_id at low count sum → length image ≤ at → All count low sum ≡ walked 0 0 0 (read_from (length image) next_id 0 14 (drop 14 image))
+pub ended : {image : List ℕ} {next_id at low count sum : ℕ} → Inv image next_id at low count sum → length image ≤ at → Ok (count, low, sum) ≡ walked 0 0 0 (read_from (length image) next_id 0 14 (drop 14 image))
 unfolding walked s_len_of instruction_bytes
 ended {image} {next_id} {at} {low} {count} {sum} i h =
     let f : length image - count ≡ suc (length image - (count + 1)) = omega (arith, i.inside, i.moved) in
@@ -168,7 +148,7 @@ ended {image} {next_id} {at} {low} {count} {sum} i h =
     let a : count ≡ count + 0 = omega arith in
     let b : low ≡ max low 0 = omega arith in
     let c : sum ≡ sum + 0 = omega arith in
-    let d : All count low sum ≡ All (count + 0) (max low 0) (sum + 0) = cc in
+    let d : Ok (count, low, sum) ≡ Ok (count + 0, max low 0, sum + 0) = cc in
     d ∙ rw (f, read_next (length image - (count + 1)) next_id low at (drop at image), eq-eqb (length (drop at image)) 0 none_left) at i.same
 
 -- before the first record
@@ -177,38 +157,40 @@ begun image next_id h = record { inside = h; moved = omega arith; summed = omega
 
 -- ---- the whole test
 
-settles_stuck : (next_id count place : ℕ) (r : Parsed (List ImageTask)) → Stuck place ≡ walked 0 0 0 r → NotSound (BadImage place) ≡ image_result (with_count next_id count r)
+settles_stuck : (next_id count place : ℕ) (r : Parsed (List ImageTask)) → Err place ≡ walked 0 0 0 r → Err (BadImage place) ≡ image_result (with_count next_id count r)
 unfolding walked image_result with_count
 settles_stuck next_id count place (sound tasks) e = absurd (let z : ◌≡◌ {A = ℕ} 0 1 = cc in omega arith)
-settles_stuck next_id count place (bad_at p) e = let z : place ≡ p = cc in ap (λ (k : ℕ). NotSound (BadImage k)) z
+settles_stuck next_id count place (bad_at p) e = let z : place ≡ p = cc in ap (λ (k : ℕ). Err (BadImage k)) z
 
-settles_all : (next_id count n low sum : ℕ) (r : Parsed (List ImageTask)) → All n low sum ≡ walked 0 0 0 r → n ≡ count → Sound (record { 0 = next_id }) n low sum ≡ image_result (with_count next_id count r)
+settles_all : (next_id count n low sum : ℕ) (r : Parsed (List ImageTask)) → Ok (n, low, sum) ≡ walked 0 0 0 r → n ≡ count → Ok (record { next_id = record { 0 = next_id }; count = n; s_len = low; instructions = sum }) ≡ image_result (with_count next_id count r)
 unfolding walked image_result with_count
 settles_all next_id count n low sum (bad_at p) e h = absurd (let z : ◌≡◌ {A = ℕ} 0 1 = cc in omega arith)
 settles_all next_id count n low sum (sound tasks) e h =
-    let x : n ≡ 0 + length tasks = cc in
-    let y : low ≡ max 0 (s_len_of tasks) = cc in
-    let z : sum ≡ 0 + instruction_bytes tasks = cc in
+    let same : ◌≡◌ {A = ℕ × ℕ × ℕ} (n, low, sum) (0 + length tasks, max 0 (s_len_of tasks), 0 + instruction_bytes tasks) = cc in
+    let x : n ≡ 0 + length tasks = ap (λ (f : ℕ × ℕ × ℕ). f.0) same in
+    let y : low ≡ max 0 (s_len_of tasks) = ap (λ (f : ℕ × ℕ × ℕ). f.1) same in
+    let z : sum ≡ 0 + instruction_bytes tasks = ap (λ (f : ℕ × ℕ × ℕ). f.2) same in
     let x' : n ≡ length tasks = omega arith in
     let y' : low ≡ s_len_of tasks = omega arith in
     let z' : sum ≡ instruction_bytes tasks = omega arith in
     rw (eq-eqb (length tasks) count (sym x' ∙ h), ← x', ← y', ← z')
 
-settles_wrong : (next_id count n low sum : ℕ) (r : Parsed (List ImageTask)) → All n low sum ≡ walked 0 0 0 r → (n ≡ count → ⊥) → NotSound (BadImage 0) ≡ image_result (with_count next_id count r)
+settles_wrong : (next_id count n low sum : ℕ) (r : Parsed (List ImageTask)) → Ok (n, low, sum) ≡ walked 0 0 0 r → (n ≡ count → ⊥) → Err (BadImage 0) ≡ image_result (with_count next_id count r)
 unfolding walked image_result with_count
 settles_wrong next_id count n low sum (bad_at p) e h = absurd (let z : ◌≡◌ {A = ℕ} 0 1 = cc in omega arith)
 settles_wrong next_id count n low sum (sound tasks) e h =
-    let x : n ≡ 0 + length tasks = cc in
+    let same : ◌≡◌ {A = ℕ × ℕ × ℕ} (n, low, sum) (0 + length tasks, max 0 (s_len_of tasks), 0 + instruction_bytes tasks) = cc in
+    let x : n ≡ 0 + length tasks = ap (λ (f : ℕ × ℕ × ℕ). f.0) same in
     let x' : n ≡ length tasks = omega arith in
     rw (ne_eqb (length tasks) count (λ q. h (x' ∙ q)))
 
 -- no image
-pub test_none : (image : List ℕ) → length image ≡ 0 → Sound (record { 0 = 0 }) 0 0 0 ≡ image_result (read_image image)
+pub test_none : (image : List ℕ) → length image ≡ 0 → Ok (record { next_id = record { 0 = 0 }; count = 0; s_len = 0; instructions = 0 }) ≡ image_result (read_image image)
 unfolding read_image image_result s_len_of instruction_bytes
 test_none image e = rw (eq-eqb (length image) 0 e)
 
 -- a wrong header
-pub test_head : (image : List ℕ) {r : Bool} → (length image ≡ 0 → ⊥) → r ≡ headed image → r ≡ false → NotSound (BadImage 0) ≡ image_result (read_image image)
+pub test_head : (image : List ℕ) {r : Bool} → (length image ≡ 0 → ⊥) → r ≡ headed image → r ≡ false → Err (BadImage 0) ≡ image_result (read_image image)
 unfolding image_result
 test_head image h p q = rw (read_some image (omega arith), sym p ∙ q)
 
@@ -217,24 +199,18 @@ pub head_of : (image : List ℕ) {r : Bool} → r ≡ headed image → r ≡ tru
 head_of image p q = headed_head image (sym p ∙ q)
 
 -- what the walk answers
-abbrev pub Walk : List ℕ → ℕ → Walked → Type 0
+abbrev pub Walk : List ℕ → ℕ → Result (ℕ × ℕ × ℕ) ℕ → Type 0
 Walk image next_id w = w ≡ walked 0 0 0 (read_from (length image) next_id 0 14 (drop 14 image))
 
 module _ (image : List ℕ) {next_id : ℕ} (h : Head image) (n : next_id ≡ next_id_in image) where
   image_is : read_image image ≡ with_count next_id (task_count image) (read_from (length image) next_id 0 14 (drop 14 image))
   image_is = rw (read_some image (omega (arith, h.uncut)), head_headed h, n)
 
-  pub test_stuck : {w : Walked} {place : ℕ} → Walk image next_id w → w ≡ Stuck place → NotSound (BadImage place) ≡ image_result (read_image image)
+  pub test_stuck : {w : Result (ℕ × ℕ × ℕ) ℕ} {place : ℕ} → Walk image next_id w → w ≡ Err place → Err (BadImage place) ≡ image_result (read_image image)
   test_stuck {w} {place} e q = rw image_is (settles_stuck next_id (task_count image) place _ (sym q ∙ e))
 
-  pub test_all : {w : Walked} {count low sum : ℕ} → Walk image next_id w → w ≡ All count low sum → count ≡ task_count image → Sound (record { 0 = next_id }) count low sum ≡ image_result (read_image image)
+  pub test_all : {w : Result (ℕ × ℕ × ℕ) ℕ} {count low sum : ℕ} → Walk image next_id w → w ≡ Ok (count, low, sum) → count ≡ task_count image → Ok (record { next_id = record { 0 = next_id }; count = count; s_len = low; instructions = sum }) ≡ image_result (read_image image)
   test_all {w} {count} {low} {sum} e q k = rw image_is (settles_all next_id (task_count image) count low sum _ (sym q ∙ e) k)
 
-  pub test_wrong : {w : Walked} {count low sum : ℕ} → Walk image next_id w → w ≡ All count low sum → (count ≡ task_count image → ⊥) → NotSound (BadImage 0) ≡ image_result (read_image image)
+  pub test_wrong : {w : Result (ℕ × ℕ × ℕ) ℕ} {count low sum : ℕ} → Walk image next_id w → w ≡ Ok (count, low, sum) → (count ≡ task_count image → ⊥) → Err (BadImage 0) ≡ image_result (read_image image)
   test_wrong {w} {count} {low} {sum} e q k = rw image_is (settles_wrong next_id (task_count image) count low sum _ (sym q ∙ e) k)
-
--- the title's test, as the code has it
-pub text_is : (bytes : List ℕ) {title : ℕ} {part : List ℕ} {r t : Bool} → title ≡ title_length_in bytes → part ≡ take title (drop 14 bytes) → r ≡ valid part → r ≡ t → valid (take (title_length_in bytes) (drop 14 bytes)) ≡ t
-text_is bytes {title} {part} {r} {t} e p v q =
-    let w : part ≡ take (title_length_in bytes) (drop 14 bytes) = rw e at p in
-    ap valid (sym w) ∙ sym v ∙ q

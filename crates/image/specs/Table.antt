@@ -1,20 +1,14 @@
 -- The tasks of a table saved as an image, and the tasks of an image loaded into a table.
-use Rattle.std.specs.Prelude.{ℕ, ◌+◌, min, cond, List, [], ◌∷◌, map, length, set, replicate, leb}
+use Rattle.std.specs.Prelude.{ℕ, ◌+◌, min, cond, List, [], ◌∷◌, map, length, set, replicate, leb, Ok, Err, Result}
 use Rattle.std.proofs.Math.Option.{Option, none, some}
 use Rattle.std.proofs.lemmas.List.Edits.{sets}
 use Rattle.errors.specs.declared.Refusal.{Refusal}
 use Rattle.errors.specs.declared.Refusal.TheVariants.{BytesToStringConversionError, SaveBufferTooShort}
-use Rattle.pools.specs.declared.BoundsResult.{BoundsResult}
-use Rattle.pools.specs.declared.BoundsResult.TheVariants.{Bounds, NoBounds}
 use Rattle.pools.specs.declared.InstructionsRef.{InstructionsRef}
-use Rattle.pools.specs.declared.InternResult.{InternResult}
-use Rattle.pools.specs.declared.InternResult.TheVariants.{Interned, NotInterned}
 use Rattle.pools.specs.Pool.{bounds, interned}
 use Rattle.storage.specs.declared.Task.{Task}
 use Rattle.storage.specs.Tasks.{blank}
 use Rattle.utf8.specs.Utf8.{valid}
-use Rattle.image.specs.declared.SaveResult.{SaveResult}
-use Rattle.image.specs.declared.SaveResult.TheVariants.{Saved, NotSaved}
 use Rattle.image.specs.Image.{ImageTask, Image, Parsed, sound, bad_at, written, read_image}
 use Rattle.image.specs.Slots.{loaded_task, title_in, task_in}
 
@@ -26,9 +20,9 @@ living_tasks [] = []
 living_tasks (slot ∷ slots) = cond slot.living (slot ∷ living_tasks slots) (living_tasks slots)
 
 -- a title that is not UTF-8 is refused, where there is an entry
-unfoldable pub refusal_by : List ℕ → BoundsResult → Option Refusal
-refusal_by title (NoBounds refusal) = some refusal
-refusal_by title (Bounds start end) = cond (valid title) none (some BytesToStringConversionError)
+unfoldable pub refusal_by : List ℕ → Result (ℕ × ℕ) Refusal → Option Refusal
+refusal_by title (Err refusal) = some refusal
+refusal_by title (Ok (start, end)) = cond (valid title) none (some BytesToStringConversionError)
 
 -- the refusal of a task: 12 where its reference names no entry, then 15 where its title is not UTF-8
 unfoldable pub task_refusal : List ℕ → ℕ → Task → Option Refusal
@@ -50,22 +44,22 @@ image_of_tasks next_id tasks pool ends = record { next_id = next_id; tasks = map
 
 -- an answer, and the save buffer after it
 pub record SavedTable : Type 0 where
-  pub answer : SaveResult
+  pub answer : Result ℕ Refusal
   pub save : List ℕ
 
 -- these two together
-abbrev pub saved_table : SaveResult → List ℕ → SavedTable
+abbrev pub saved_table : Result ℕ Refusal → List ℕ → SavedTable
 saved_table answer save = record { answer = answer; save = save }
 
 -- bytes written over the front of the save buffer, and their length; bytes past them stay; 24 where they do not fit
 unfoldable pub saved_over : List ℕ → List ℕ → SavedTable
 saved_over image save =
-    cond (leb (length image) (length save)) (saved_table (Saved (length image)) (sets save 0 image))
-    (saved_table (NotSaved SaveBufferTooShort) save)
+    cond (leb (length image) (length save)) (saved_table (Ok (length image)) (sets save 0 image))
+    (saved_table (Err SaveBufferTooShort) save)
 
 -- unless a task is refused
 unfoldable pub saved_unless : Option Refusal → List ℕ → List ℕ → SavedTable
-saved_unless (some refusal) image save = saved_table (NotSaved refusal) save
+saved_unless (some refusal) image save = saved_table (Err refusal) save
 saved_unless none image save = saved_over image save
 
 -- tasks saved: 12 and 15 of the first that is refused, then 24
@@ -87,14 +81,14 @@ pub record Loading : Type 0 where
   pub entries : ℕ
 
 -- the bytes in use after interning; creation tests 22 before it, so there is room
-unfoldable pub bytes_after : InternResult → ℕ → ℕ
-bytes_after (Interned entry bytes) before = bytes
-bytes_after (NotInterned refusal) before = before
+unfoldable pub bytes_after : Result (InstructionsRef × ℕ) Refusal → ℕ → ℕ
+bytes_after (Ok (entry, bytes)) before = bytes
+bytes_after (Err refusal) before = before
 
 -- the entries after interning
-unfoldable pub entries_after : InternResult → ℕ → ℕ
-entries_after (Interned entry bytes) before = before + 1
-entries_after (NotInterned refusal) before = before
+unfoldable pub entries_after : Result (InstructionsRef × ℕ) Refusal → ℕ → ℕ
+entries_after (Ok (entry, bytes)) before = before + 1
+entries_after (Err refusal) before = before
 
 -- the reference of the next entry
 unfoldable pub next_reference : ℕ → InstructionsRef

@@ -3,39 +3,36 @@ ghost use Rattle.std.specs.Prelude.{◌≡◌};
 ghost use Rattle.image.specs.Slots.{saved_task};
 ghost use Rattle.image.specs.Writing.{stepped, measure_slot, size_of, measure};
 
-use crate::SizeResult;
 use errors::Refusal;
-use pools::BoundsResult;
 use slices::places::on;
 use storage::Task;
 
 // The size of a task's record, where its title is UTF-8.
-fn size_of(instructions: &[u8], task: Task) -> SizeResult
+#[tactic(auto, using(crate::proofs::Puts::size_is, crate::proofs::Puts::no_text))]
+fn size_of(instructions: &[u8], task: Task) -> Result<usize, Refusal>
     ensures { result ≡ size_of (saved_task task instructions.now) }
 {
+    // a copy of the title alone: where the task's own is read, the whole task is copied (measured)
     let held = task.title;
     let title = slices::part(&held, 0, task.title_len);
-    let size = 14 + title.len() + instructions.len();
-    if utf8::is_utf8(title) {
-        return SizeResult::Size(size);
+    if !utf8::is_utf8(title) {
+        return Err(Refusal::BytesToStringConversionError);
     }
-    SizeResult::NoSize(Refusal::BytesToStringConversionError)
+    Ok(14 + title.len() + instructions.len())
 }
 
 // The size of a task's record: 12 where its reference names no entry, then 15 where its title is not UTF-8.
-fn measure(pool: &[u8], ends: &[u32; 1024], entries: usize, task: Task) -> SizeResult
+#[tactic(auto, unfolding(crate::specs::Writing::measure, crate::specs::Writing::sized, crate::specs::Slots::task_in))]
+fn measure(pool: &[u8], ends: &[u32; 1024], entries: usize, task: Task) -> Result<usize, Refusal>
     ensures { result ≡ measure pool.now ends.now entries task }
 {
     let reference = task.instructions_ref;
-    match pools::bounds(ends, entries, reference) {
-        BoundsResult::NoBounds(refusal) => SizeResult::NoSize(refusal),
-        BoundsResult::Bounds { start: _, end: _ } => {
-            size_of(pools::get(pool, ends, reference), task)
-        }
-    }
+    pools::bounds(ends, entries, reference)?;
+    size_of(pools::get(pool, ends, reference), task)
 }
 
 // A slot is measured: the size with its record, counted no further than the limit.
+#[tactic(auto, unfolding(crate::specs::Writing::measure_slot, crate::specs::Writing::added, crate::specs::Walking::on))]
 pub fn measure_slot(
     pool: &mut [u8],
     ends: &mut [u32; 1024],
@@ -43,14 +40,12 @@ pub fn measure_slot(
     entries: usize,
     limit: usize,
     size: usize,
-) -> SizeResult
+) -> Result<usize, Refusal>
     ensures { stepped result pool.new ends.new ≡ stepped (measure_slot pool.old ends.old entries limit task size) pool.old ends.old }
 {
-    if task.living {
-        return match measure(pool, ends, entries, task) {
-            SizeResult::Size(more) => SizeResult::Size(on(limit, size, more)),
-            SizeResult::NoSize(refusal) => SizeResult::NoSize(refusal),
-        };
+    if !task.living {
+        return Ok(size);
     }
-    SizeResult::Size(size)
+    let more = measure(pool, ends, entries, task)?;
+    Ok(on(limit, size, more))
 }

@@ -6,6 +6,7 @@ use crate::writing::write_record;
 use storage::Task;
 
 // A living slot's record is written from a place on; answered is the place behind it.
+#[tactic(auto, unfolding(crate::specs::Writing::save_slot, crate::specs::Slots::task_in))]
 pub fn save_slot(
     pool: &mut [u8],
     ends: &mut [u32; 1024],
@@ -15,9 +16,13 @@ pub fn save_slot(
 ) -> usize
     ensures { stepped (put result save.new) pool.new ends.new ≡ stepped (save_slot pool.old ends.old task at save.old) pool.old ends.old }
 {
-    if task.living {
-        let reference = task.instructions_ref;
-        return write_record(save, pools::get(pool, ends, reference), task, at);
+    if !task.living {
+        return at;
     }
-    at
+    write_record(
+        save,
+        pools::get(pool, ends, task.instructions_ref),
+        task,
+        at,
+    )
 }

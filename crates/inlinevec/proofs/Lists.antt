@@ -6,7 +6,8 @@ use native.Mathlib.Numerals.{add-one}
 use native.Mathlib.Omega.{arith}
 use lib.ListN.{length, get_or, set, take}
 use lib.Seq.{take-suc, get_or-set_same, get_or-set_other}
-use Rattle.inlinevec.specs.Stacks.{values_of, Two, push_two, last_two, pop_two, change_two, two_of}
+use Rattle.inlinevec.specs.Stacks.{values_of, push_two, last_two, pop_two, change_two, two_of}
+use Rattle.inlinevec.specs.declared.Two.{Two}
 
 -- ---- the values
 

@@ -1,27 +1,10 @@
 -- The bounded stacks of inlinevec.rs: 1,000 values in a lent array with a height, and the stacks of at most two, of loops and of frames.
-use Rattle.std.specs.Prelude.{ℕ, zero, suc, ◌+◌, ◌-◌, cond, List, [], ◌∷◌, get_or, set, eqb, ltb, leb}
+use Rattle.std.specs.Prelude.{ℕ, zero, suc, ◌+◌, ◌-◌, cond, List, [], ◌∷◌, get_or, set, eqb, ltb, leb, Ok, Err, Result}
 use Rattle.errors.specs.declared.Refusal.{Refusal}
 use Rattle.errors.specs.declared.Refusal.TheVariants.{StackUnderflow, StackOverflow, WrongPhaseOrUnsound}
 use Rattle.inlinevec.specs.declared.Loop.{Loop}
-use Rattle.inlinevec.specs.declared.Loops.{Loops}
 use Rattle.inlinevec.specs.declared.Frame.{Frame}
-use Rattle.inlinevec.specs.declared.Frames.{Frames}
-use Rattle.inlinevec.specs.declared.HeightResult.{HeightResult}
-use Rattle.inlinevec.specs.declared.HeightResult.TheVariants.{NewHeight, NoNewHeight}
-use Rattle.inlinevec.specs.declared.PopResult.{PopResult}
-use Rattle.inlinevec.specs.declared.PopResult.TheVariants.{Popped, NotPopped}
-use Rattle.inlinevec.specs.declared.LastResult.{LastResult}
-use Rattle.inlinevec.specs.declared.LastResult.TheVariants.{Last, NoLast}
-use Rattle.inlinevec.specs.declared.LoopsResult.{LoopsResult}
-use Rattle.inlinevec.specs.declared.LoopsResult.TheVariants.{NewLoops, NoNewLoops}
-use Rattle.inlinevec.specs.declared.PopLoopResult.{PopLoopResult}
-use Rattle.inlinevec.specs.declared.PopLoopResult.TheVariants.{PoppedLoop, NotPoppedLoop}
-use Rattle.inlinevec.specs.declared.LastLoopResult.{LastLoopResult}
-use Rattle.inlinevec.specs.declared.LastLoopResult.TheVariants.{LastLoop, NoLastLoop}
-use Rattle.inlinevec.specs.declared.FramesResult.{FramesResult}
-use Rattle.inlinevec.specs.declared.FramesResult.TheVariants.{NewFrames, NoNewFrames}
-use Rattle.inlinevec.specs.declared.PopFrameResult.{PopFrameResult}
-use Rattle.inlinevec.specs.declared.PopFrameResult.TheVariants.{PoppedFrame, NotPoppedFrame}
+use Rattle.inlinevec.specs.declared.Two.{Two}
 
 -- ---- what is refused
 
@@ -38,26 +21,26 @@ if_some capacity height refuse answer =
 
 -- an answer, and the lent array after it
 pub record Stacked : Type 0 where
-  pub answer : HeightResult
+  pub answer : Result ℕ Refusal
   pub stack : List ℕ
 
 -- these two together
-abbrev pub stacked : HeightResult → List ℕ → Stacked
+abbrev pub stacked : Result ℕ Refusal → List ℕ → Stacked
 stacked answer stack = record { answer = answer; stack = stack }
 
 -- one value more, at the height
 unfoldable pub push : List ℕ → ℕ → ℕ → Stacked
 push stack height value =
-    if_room 1000 height (λ refusal. stacked (NoNewHeight refusal) stack)
-    (stacked (NewHeight (height + 1)) (set stack height value))
+    if_room 1000 height (λ refusal. stacked (Err refusal) stack)
+    (stacked (Ok (height + 1)) (set stack height value))
 
 -- the value below the height, and the height without it
-unfoldable pub pop : List ℕ → ℕ → PopResult
-pop stack height = if_some 1000 height NotPopped (Popped (get_or stack (height - 1) 0) (height - 1))
+unfoldable pub pop : List ℕ → ℕ → Result (ℕ × ℕ) Refusal
+pop stack height = if_some 1000 height Err (Ok (get_or stack (height - 1) 0, height - 1))
 
 -- the value below the height
-unfoldable pub last : List ℕ → ℕ → LastResult
-last stack height = if_some 1000 height NoLast (Last (get_or stack (height - 1) 0))
+unfoldable pub last : List ℕ → ℕ → Result ℕ Refusal
+last stack height = if_some 1000 height Err (Ok (get_or stack (height - 1) 0))
 
 -- what is on the stack, top first
 unfoldable pub values_of : ℕ → List ℕ → List ℕ
@@ -65,12 +48,6 @@ values_of zero stack = []
 values_of (suc height) stack = get_or stack height 0 ∷ values_of height stack
 
 -- ---- stacks of at most two
-
--- the places of such a stack, and how many of them are taken
-pub record Two (A : Type 0) : Type 0 where
-  pub count : ℕ
-  pub first : A
-  pub second : A
 
 -- one more
 unfoldable pub push_two : {A : Type 0} → Two A → A → Two A
@@ -96,55 +73,22 @@ change_two two a =
 unfoldable pub two_of : {A : Type 0} → Two A → List A
 two_of two = cond (eqb two.count 0) [] (cond (eqb two.count 1) (two.first ∷ []) (two.second ∷ two.first ∷ []))
 
--- ---- the open loops
+-- one more, where there is room
+unfoldable pub push_onto : {A : Type 0} → Two A → A → Result (Two A) Refusal
+push_onto two a = if_room 2 two.count Err (Ok (push_two two a))
 
--- as a stack of at most two
-abbrev pub of_loops : Loops → Two Loop
-of_loops loops = record { count = loops.count; first = loops.outer; second = loops.inner }
+-- the last one, and the stack without it
+unfoldable pub pop_off : {A : Type 0} → Two A → Result (A × Two A) Refusal
+pop_off two = if_some 2 two.count Err (Ok (last_two two, pop_two two))
 
--- and back
-abbrev pub to_loops : Two Loop → Loops
-to_loops two = record { count = two.count; outer = two.first; inner = two.second }
+-- the last one
+unfoldable pub last_on : {A : Type 0} → Two A → Result A Refusal
+last_on two = if_some 2 two.count Err (Ok (last_two two))
 
--- what is on the stack, top first
-abbrev pub loops_of : Loops → List Loop
-loops_of loops = two_of (of_loops loops)
+-- the open loops that are on the stack, top first
+abbrev pub loops_of : Two Loop → List Loop
+loops_of loops = two_of loops
 
--- one loop more
-unfoldable pub push_loop : Loops → Loop → LoopsResult
-push_loop loops opened = if_room 2 loops.count NoNewLoops (NewLoops (to_loops (push_two (of_loops loops) opened)))
-
--- the innermost loop, and the loops without it
-unfoldable pub pop_loop : Loops → PopLoopResult
-pop_loop loops =
-    if_some 2 loops.count NotPoppedLoop
-    (PoppedLoop (last_two (of_loops loops)) (to_loops (pop_two (of_loops loops))))
-
--- the innermost loop
-unfoldable pub last_loop : Loops → LastLoopResult
-last_loop loops = if_some 2 loops.count NoLastLoop (LastLoop (last_two (of_loops loops)))
-
--- ---- the frames
-
--- as a stack of at most two
-abbrev pub of_frames : Frames → Two Frame
-of_frames frames = record { count = frames.count; first = frames.main; second = frames.task }
-
--- and back
-abbrev pub to_frames : Two Frame → Frames
-to_frames two = record { count = two.count; main = two.first; task = two.second }
-
--- what is on the stack, top first
-abbrev pub frames_of : Frames → List Frame
-frames_of frames = two_of (of_frames frames)
-
--- one frame more
-unfoldable pub push_frame : Frames → Frame → FramesResult
-push_frame frames entered =
-    if_room 2 frames.count NoNewFrames (NewFrames (to_frames (push_two (of_frames frames) entered)))
-
--- the last frame, and the frames without it
-unfoldable pub pop_frame : Frames → PopFrameResult
-pop_frame frames =
-    if_some 2 frames.count NotPoppedFrame
-    (PoppedFrame (last_two (of_frames frames)) (to_frames (pop_two (of_frames frames))))
+-- the frames, top first
+abbrev pub frames_of : Two Frame → List Frame
+frames_of frames = two_of frames

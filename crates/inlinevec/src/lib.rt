@@ -2,9 +2,7 @@
 #![tactic(auto)]
 
 ghost use Rattle.std.specs.Prelude.{◌≡◌};
-ghost use Rattle.inlinevec.specs.Stacks.{stacked, push, pop, last};
-ghost use Rattle.inlinevec.specs.Stacks.{push_loop, pop_loop, last_loop};
-ghost use Rattle.inlinevec.specs.Stacks.{push_frame, pop_frame};
+ghost use Rattle.inlinevec.specs.Stacks.{stacked, push, pop, last, last_two, push_onto, pop_off, last_on};
 
 use errors::Refusal;
 use pools::InstructionsRef;
@@ -20,14 +18,6 @@ pub struct Loop {
     pub limit: u32,
 }
 
-// The open loops.
-#[derive(Clone, Copy)]
-pub struct Loops {
-    pub count: usize,
-    pub outer: Loop,
-    pub inner: Loop,
-}
-
 // Where a run stands: a place in an entry of the pool.
 #[derive(Clone, Copy)]
 pub struct Frame {
@@ -35,236 +25,131 @@ pub struct Frame {
     pub place: usize,
 }
 
-// The frames.
+// A stack of at most two, by value: how many places are taken, and the two places, the last one behind the first.
 #[derive(Clone, Copy)]
-pub struct Frames {
+pub struct Two<T> {
     pub count: usize,
-    pub main: Frame,
-    pub task: Frame,
+    pub first: T,
+    pub second: T,
 }
 
-// The height with one value more.
-#[derive(Drop)]
-pub enum HeightResult {
-    NewHeight(usize),
-    NoNewHeight(Refusal),
-}
+// The open loops: the outer one first.
+pub type Loops = Two<Loop>;
 
-// The value on top, and the height without it.
-#[derive(Drop)]
-pub enum PopResult {
-    Popped { value: u64, height: usize },
-    NotPopped(Refusal),
-}
-
-// The value on top.
-#[derive(Drop)]
-pub enum LastResult {
-    Last(u64),
-    NoLast(Refusal),
-}
-
-// The loops with one more.
-#[derive(Drop)]
-pub enum LoopsResult {
-    NewLoops(Loops),
-    NoNewLoops(Refusal),
-}
-
-// The innermost loop, and the loops without it.
-#[derive(Drop)]
-pub enum PopLoopResult {
-    PoppedLoop { last: Loop, loops: Loops },
-    NotPoppedLoop(Refusal),
-}
-
-// The innermost loop.
-#[derive(Drop)]
-pub enum LastLoopResult {
-    LastLoop(Loop),
-    NoLastLoop(Refusal),
-}
-
-// The frames with one more, or with another last one.
-#[derive(Drop)]
-pub enum FramesResult {
-    NewFrames(Frames),
-    NoNewFrames(Refusal),
-}
-
-// The last frame, and the frames without it.
-#[derive(Drop)]
-pub enum PopFrameResult {
-    PoppedFrame { last: Frame, frames: Frames },
-    NotPoppedFrame(Refusal),
-}
+// The frames: main first, the task that it called behind it.
+pub type Frames = Two<Frame>;
 
 // One value more.
-pub fn push(stack: &mut [u64; 1000], height: usize, value: u64) -> HeightResult
+#[tactic(auto, unfolding(crate::specs::Stacks::push, crate::specs::Stacks::if_room))]
+pub fn push(stack: &mut [u64; 1000], height: usize, value: u64) -> Result<usize, Refusal>
     ensures { stacked result stack.new ≡ push stack.old height value }
 {
     if height < STACK_VALUES {
         stack[height] = value;
-        return HeightResult::NewHeight(height + 1);
+        return Ok(height + 1);
     }
-    HeightResult::NoNewHeight(Refusal::StackOverflow)
+    Err(Refusal::StackOverflow)
 }
 
 // One value less, which stays in the array.
-pub fn pop(stack: &[u64; 1000], height: usize) -> PopResult
+#[tactic(auto, unfolding(crate::specs::Stacks::pop, crate::specs::Stacks::if_some))]
+pub fn pop(stack: &[u64; 1000], height: usize) -> Result<(u64, usize), Refusal>
     ensures { result ≡ pop stack.now height }
 {
     if height == 0 {
-        return PopResult::NotPopped(Refusal::StackUnderflow);
+        return Err(Refusal::StackUnderflow);
     }
     if STACK_VALUES < height {
-        return PopResult::NotPopped(Refusal::WrongPhaseOrUnsound);
+        return Err(Refusal::WrongPhaseOrUnsound);
     }
     let left = height - 1;
-    PopResult::Popped {
-        value: stack[left],
-        height: left,
-    }
+    Ok((stack[left], left))
 }
 
 // The value on top.
-pub fn last(stack: &[u64; 1000], height: usize) -> LastResult
+#[tactic(auto, unfolding(crate::specs::Stacks::last, crate::specs::Stacks::if_some))]
+pub fn last(stack: &[u64; 1000], height: usize) -> Result<u64, Refusal>
     ensures { result ≡ last stack.now height }
 {
     if height == 0 {
-        return LastResult::NoLast(Refusal::StackUnderflow);
+        return Err(Refusal::StackUnderflow);
     }
     if STACK_VALUES < height {
-        return LastResult::NoLast(Refusal::WrongPhaseOrUnsound);
+        return Err(Refusal::WrongPhaseOrUnsound);
     }
     let top = height - 1;
-    LastResult::Last(stack[top])
+    Ok(stack[top])
 }
 
-// One loop more.
-pub fn push_loop(loops: Loops, opened: Loop) -> LoopsResult
-    ensures { result ≡ push_loop loops opened }
-{
-    let outer = loops.outer;
-    let inner = loops.inner;
-    if loops.count == 0 {
-        return LoopsResult::NewLoops(Loops {
-            count: 1,
-            outer: opened,
-            inner,
-        });
+impl<T: Copy> Two<T> {
+    // The last one of a stack that is not empty.
+    #[tactic(auto, unfolding(crate::specs::Stacks::last_two))]
+    pub fn top(self) -> T
+        ensures { result ≡ last_two self }
+    {
+        if self.count == 1 {
+            return self.first;
+        }
+        self.second
     }
-    if loops.count == 1 {
-        return LoopsResult::NewLoops(Loops {
-            count: 2,
-            outer,
-            inner: opened,
-        });
-    }
-    LoopsResult::NoNewLoops(Refusal::StackOverflow)
-}
 
-// One loop less.
-pub(crate) fn pop_loop(loops: Loops) -> PopLoopResult
-    ensures { result ≡ pop_loop loops }
-{
-    let outer = loops.outer;
-    let inner = loops.inner;
-    if loops.count == 1 {
-        return PopLoopResult::PoppedLoop {
-            last: outer,
-            loops: Loops {
-                count: 0,
-                outer,
-                inner,
-            },
-        };
-    }
-    if loops.count == 2 {
-        return PopLoopResult::PoppedLoop {
-            last: inner,
-            loops: Loops {
+    // One more.
+    #[tactic(auto, unfolding(crate::specs::Stacks::push_onto, crate::specs::Stacks::if_room, crate::specs::Stacks::push_two))]
+    pub fn push(self, item: T) -> Result<Two<T>, Refusal>
+        ensures { result ≡ push_onto self item }
+    {
+        match self.count {
+            0 => Ok(Two {
                 count: 1,
-                outer,
-                inner,
-            },
-        };
+                first: item,
+                second: self.second,
+            }),
+            1 => Ok(Two {
+                count: 2,
+                first: self.first,
+                second: item,
+            }),
+            _ => Err(Refusal::StackOverflow),
+        }
     }
-    if loops.count == 0 {
-        return PopLoopResult::NotPoppedLoop(Refusal::StackUnderflow);
-    }
-    PopLoopResult::NotPoppedLoop(Refusal::WrongPhaseOrUnsound)
-}
 
-// The innermost loop.
-pub(crate) fn last_loop(loops: Loops) -> LastLoopResult
-    ensures { result ≡ last_loop loops }
-{
-    let outer = loops.outer;
-    let inner = loops.inner;
-    if loops.count == 1 {
-        return LastLoopResult::LastLoop(outer);
+    // The last one, and the stack without it; it stays at its place.
+    #[tactic(auto, unfolding(crate::specs::Stacks::pop_off, crate::specs::Stacks::if_some, crate::specs::Stacks::pop_two, crate::specs::Stacks::last_two))]
+    pub fn pop(self) -> Result<(T, Two<T>), Refusal>
+        ensures { result ≡ pop_off self }
+    {
+        match self.count {
+            0 => Err(Refusal::StackUnderflow),
+            1 => Ok((
+                self.first,
+                Two {
+                    count: 0,
+                    first: self.first,
+                    second: self.second,
+                },
+            )),
+            2 => Ok((
+                self.second,
+                Two {
+                    count: 1,
+                    first: self.first,
+                    second: self.second,
+                },
+            )),
+            _ => Err(Refusal::WrongPhaseOrUnsound),
+        }
     }
-    if loops.count == 2 {
-        return LastLoopResult::LastLoop(inner);
-    }
-    if loops.count == 0 {
-        return LastLoopResult::NoLastLoop(Refusal::StackUnderflow);
-    }
-    LastLoopResult::NoLastLoop(Refusal::WrongPhaseOrUnsound)
-}
 
-// One frame more.
-pub fn push_frame(frames: Frames, entered: Frame) -> FramesResult
-    ensures { result ≡ push_frame frames entered }
-{
-    let main = frames.main;
-    let task = frames.task;
-    if frames.count == 0 {
-        return FramesResult::NewFrames(Frames {
-            count: 1,
-            main: entered,
-            task,
-        });
+    // The last one.
+    #[tactic(auto, unfolding(crate::specs::Stacks::last_on, crate::specs::Stacks::if_some, crate::specs::Stacks::last_two))]
+    pub fn last(self) -> Result<T, Refusal>
+        ensures { result ≡ last_on self }
+    {
+        match self.count {
+            0 => Err(Refusal::StackUnderflow),
+            1 => Ok(self.first),
+            2 => Ok(self.second),
+            _ => Err(Refusal::WrongPhaseOrUnsound),
+        }
     }
-    if frames.count == 1 {
-        return FramesResult::NewFrames(Frames {
-            count: 2,
-            main,
-            task: entered,
-        });
-    }
-    FramesResult::NoNewFrames(Refusal::StackOverflow)
-}
-
-// One frame less.
-pub fn pop_frame(frames: Frames) -> PopFrameResult
-    ensures { result ≡ pop_frame frames }
-{
-    let main = frames.main;
-    let task = frames.task;
-    if frames.count == 1 {
-        return PopFrameResult::PoppedFrame {
-            last: main,
-            frames: Frames {
-                count: 0,
-                main,
-                task,
-            },
-        };
-    }
-    if frames.count == 2 {
-        return PopFrameResult::PoppedFrame {
-            last: task,
-            frames: Frames {
-                count: 1,
-                main,
-                task,
-            },
-        };
-    }
-    if frames.count == 0 {
-        return PopFrameResult::NotPoppedFrame(Refusal::StackUnderflow);
-    }
-    PopFrameResult::NotPoppedFrame(Refusal::WrongPhaseOrUnsound)
 }

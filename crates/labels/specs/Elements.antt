@@ -1,17 +1,14 @@
 -- The elements of a program: which rule the one at a place has, and the place behind it.
-use Rattle.std.specs.Prelude.{ℕ, ◌+◌, Bool, cond, ◌&&◌, ◌||◌, List, eqb, leb, length, get_or}
+use Rattle.std.specs.Prelude.{ℕ, ◌+◌, Bool, cond, ◌&&◌, ◌||◌, List, eqb, leb, length, get_or, Ok, Err, Some, None, Result, Option}
 use Rattle.bytecode.specs.Opcodes.{PUSH_U32, PUSH_STATE, PUSH_CALLDATA, PUSH_TASK_FIELD, PUSH_MAX_STATES, T_CREATE, T_GET_FIELD, T_SET_FIELD, T_DELETE, S_LEN, DO, LOOP, LOOP_INDEX, CALL, DROP, DUP, SWAP, EQ, NEQ, LT, GT, JUMP_IF_FALSE, M_STI, M_ST, M_MUTA, MULI, MUL}
 use Rattle.bytecode.specs.Operands.{operand, behind}
-use Rattle.bytecode.specs.declared.OperandResult.{OperandResult}
-use Rattle.bytecode.specs.declared.OperandResult.TheVariants.{Operand, NoOperand}
 use Rattle.labels.specs.declared.Kind.{Kind}
 use Rattle.labels.specs.declared.Kind.TheVariants.{Number, Calldata, Boolean, Text, Numbers}
-use Rattle.labels.specs.declared.KindResult.{KindResult}
-use Rattle.labels.specs.declared.KindResult.TheVariants.{Known, Unknown}
 use Rattle.labels.specs.declared.Exchange.{Exchange}
 use Rattle.labels.specs.declared.Exchange.TheVariants.{Unchanged, Adds, Takes, Turns, Joins, Creates, Gets, Sets, Dup, Swap, Drop, Compares, Changes}
 use Rattle.labels.specs.declared.Element.{Element}
 use Rattle.labels.specs.declared.Element.TheVariants.{NoRule, Kinds, Do, Loop, LoopIndex, JumpIfFalse}
+use Rattle.errors.specs.declared.Refusal.{Refusal}
 
 -- PUSH_TASK_FIELD directly followed by T_GET_FIELD or T_SET_FIELD
 unfoldable pub joined : List ℕ → ℕ → Bool
@@ -22,17 +19,17 @@ unfoldable pub element_end : List ℕ → ℕ → ℕ
 element_end code at = cond (joined code at) (at + 3) (behind code at)
 
 -- a vector's tag: 4 means S, 6 means V
-unfoldable pub tag_kind : ℕ → KindResult
-tag_kind tag = cond (eqb tag 4) (Known Text) (cond (eqb tag 6) (Known Numbers) Unknown)
+unfoldable pub tag_kind : ℕ → Option Kind
+tag_kind tag = cond (eqb tag 4) (Some Text) (cond (eqb tag 6) (Some Numbers) None)
 
 -- field 0, 1, 2 means S, N, C
-unfoldable pub field_kind : ℕ → KindResult
-field_kind field = cond (eqb field 0) (Known Text) (cond (eqb field 1) (Known Number) (cond (eqb field 2) (Known Calldata) Unknown))
+unfoldable pub field_kind : ℕ → Option Kind
+field_kind field = cond (eqb field 0) (Some Text) (cond (eqb field 1) (Some Number) (cond (eqb field 2) (Some Calldata) None))
 
 -- the element with this kind, if there is one
-unfoldable pub with_kind : (Kind → Exchange) → KindResult → Element
-with_kind exchange (Known kind) = Kinds (exchange kind)
-with_kind exchange Unknown = NoRule
+unfoldable pub with_kind : (Kind → Exchange) → Option Kind → Element
+with_kind exchange (Some kind) = Kinds (exchange kind)
+with_kind exchange None = NoRule
 
 -- PUSH_TASK_FIELD, joined to the byte behind it or lone
 unfoldable pub field_element : List ℕ → ℕ → Element
@@ -42,9 +39,9 @@ field_element code at =
     (Kinds (Adds Number)))
 
 -- JUMP_IF_FALSE
-unfoldable pub jump_element : OperandResult → Element
-jump_element (Operand target) = JumpIfFalse target
-jump_element (NoOperand refusal) = NoRule
+unfoldable pub jump_element : Result ℕ Refusal → Element
+jump_element (Ok target) = JumpIfFalse target
+jump_element (Err refusal) = NoRule
 
 -- an opcode that moves kinds or loops about; S_SAVE, S_LOAD, END_CALL, unused bytes: no change
 unfoldable pub moving_element : ℕ → Element

@@ -11,13 +11,6 @@ pub enum Kind {
     Numbers,
 }
 
-// The kind that a vector's tag or a task's field stands for.
-#[derive(Clone, Copy)]
-pub enum KindResult {
-    Known(Kind),
-    Unknown,
-}
-
 // What an element does to the kinds alone.
 #[derive(Clone, Copy)]
 pub enum Exchange {

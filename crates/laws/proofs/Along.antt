@@ -3,8 +3,6 @@ use Prim.Native.Nat.{ℕ, zero, suc}
 use mathlib.Core.Bool.{Bool, true, false, cond}
 use mathlib.Core.List.{List, [], ◌∷◌, ◌++◌, append-nil}
 use mathlib.Core.Path.{◌≡◌, refl, subst}
-use Rattle.image.specs.declared.SaveResult.{SaveResult}
-use Rattle.image.specs.declared.SaveResult.TheVariants.{Saved, NotSaved}
 use Rattle.machine.specs.declared.Verb.{Verb}
 use Rattle.machine.specs.declared.Verb.TheVariants.{Start, Rerun, Continue}
 use Rattle.machine.specs.Calls.{Permission}
@@ -24,6 +22,8 @@ use Rattle.laws.proofs.Either.{either}
 use Rattle.laws.proofs.Frames.{Same}
 use Rattle.laws.proofs.Step.{step_passes}
 use Rattle.laws.proofs.SoundnessCalls.{allowed_passes, left_passes}
+use Rattle.std.specs.Prelude.{Ok, Err, Result}
+use Rattle.errors.specs.declared.Refusal.{Refusal}
 
 -- ---- what leaves the table and the ids
 
@@ -44,10 +44,10 @@ ended_same w Done = record { table = refl; ids = record { next_id = refl; count 
 ended_same w Paused = record { table = refl; ids = record { next_id = refl; count = refl } }
 ended_same w (Refused refusal) = record { table = refl; ids = record { next_id = refl; count = refl } }
 
-saved_by : (w : World) (answer : SaveResult) → Same w.machine (host_saved w.machine answer).machine
+saved_by : (w : World) (answer : Result ℕ Refusal) → Same w.machine (host_saved w.machine answer).machine
 unfolding host_saved
-saved_by w (Saved size) = record { next_id = refl; count = refl }
-saved_by w (NotSaved refusal) = record { next_id = refl; count = refl }
+saved_by w (Ok size) = record { next_id = refl; count = refl }
+saved_by w (Err refusal) = record { next_id = refl; count = refl }
 
 saved_same : (w : World) → Beside w (world_saved (host_save w))
 unfolding host_save

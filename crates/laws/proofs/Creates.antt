@@ -18,15 +18,13 @@ use Rattle.image.specs.Image.{ImageTask, Image, Parsed, sound, bad_at, read_imag
 use Rattle.image.specs.Reading.{s_len_of, instruction_bytes, image_result}
 use Rattle.image.specs.Table.{Loading, load_table}
 use Rattle.table_image.specs.Creation.{image_tests, creation_tests}
-use Rattle.table_image.specs.declared.creation.CreationResult.{CreationResult}
-use Rattle.table_image.specs.declared.creation.CreationResult.TheVariants.{Fit, Unfit}
 use Rattle.machine.specs.declared.Machine.{Machine}
-use Rattle.machine.specs.declared.CreateResult.{CreateResult}
-use Rattle.machine.specs.declared.CreateResult.TheVariants.{Created, NotCreated}
 use Rattle.machine.specs.Creation.{program_first, loaded, create_behind, create_fit, create}
 use Rattle.laws.specs.Creatable.{pool_bytes, Creatable, NotCreatable, other_slots, no_program, long_program, bad_image, no_room}
 use Rattle.laws.proofs.Loading.{Orderly, none, more}
 use Rattle.laws.proofs.Creation.{images}
+use Rattle.std.specs.Prelude.{Ok, Err, Result}
+use Rattle.table_image.specs.declared.creation.Fit.{Fit}
 
 -- ---- the entries of a sound image are never too many
 
@@ -43,22 +41,22 @@ unfolding has_room
 roomy image found lent size e = rw (lt-ltb (length found.tasks) 1024 (few image found e))
 
 -- a creation answers one machine
-pub created_is : {a b : Machine} → Created a ≡ Created b → a ≡ b
+pub created_is : {a b : Machine} → ◌≡◌ {A = Result Machine Refusal} (Ok a) (Ok b) → a ≡ b
 created_is e = cc
 
 module _ (table : List Task) (pool ends image program : List ℕ) where
   -- ---- what the tests find
 
-  data Tests : CreationResult → Type 0 where
-    fit : (next_id : TaskId) (count len : ℕ) → Creatable table pool image program → Tests (Fit next_id count len)
-    unfit : (refusal : Refusal) → NotCreatable table pool image program refusal → Tests (Unfit refusal)
+  data Tests : Result Fit Refusal → Type 0 where
+    fit : (next_id : TaskId) (count len : ℕ) → Creatable table pool image program → Tests (Ok (record { next_id = next_id; count = count; s_len = len }))
+    unfit : (refusal : Refusal) → NotCreatable table pool image program refusal → Tests (Err refusal)
 
   image_part : length table ≡ 256 → 1 ≤ length program → length program ≤ 65535 → (r : Parsed Image) → read_image image ≡ r → Tests (image_tests (length pool) (length program) (image_result r))
   unfolding image_tests image_result
   image_part slots some short (sound found) e = by (leb (pool_bytes program found) (min 65536 (length pool))) refl
     where
       by : (test : Bool) → leb (pool_bytes program found) (min 65536 (length pool)) ≡ test
-          → Tests (cond (has_room (length pool) (length program) (length found.tasks) (instruction_bytes found.tasks)) (Fit (record { 0 = found.next_id }) (length found.tasks) (s_len_of found.tasks)) (Unfit PoolFull))
+          → Tests (cond (has_room (length pool) (length program) (length found.tasks) (instruction_bytes found.tasks)) (Ok (record { next_id = record { 0 = found.next_id }; count = length found.tasks; s_len = s_len_of found.tasks })) (Err PoolFull))
       by true is = rw (roomy image found (length pool) (length program) e, is) (fit _ _ _ (record { slots = slots; some = omega (arith, some); short = omega (arith, short); found = found; is_sound = e; room = (let held = leb-true (pool_bytes program found) (min 65536 (length pool)) is in omega (arith, held)) }))
       by false is = rw (roomy image found (length pool) (length program) e, is) (unfit _ (no_room found slots some short e (leb-false _ _ is)))
   image_part slots some short (bad_at place) e = unfit _ (bad_image place slots some (omega (arith, short)) e)
@@ -68,7 +66,7 @@ module _ (table : List Task) (pool ends image program : List ℕ) where
   tests = by (eqb (length table) 256) refl (eqb (length program) 0) refl (ltb 65535 (length program)) refl
     where
       by : (a : Bool) → eqb (length table) 256 ≡ a → (b : Bool) → eqb (length program) 0 ≡ b → (c : Bool) → ltb 65535 (length program) ≡ c
-          → Tests (cond a (cond b (Unfit EmptyInstructions) (cond c (Unfit ProgramTooLong) (image_tests (length pool) (length program) (image_result (read_image image))))) (Unfit WrongPhaseOrUnsound))
+          → Tests (cond a (cond b (Err EmptyInstructions) (cond c (Err ProgramTooLong) (image_tests (length pool) (length program) (image_result (read_image image))))) (Err WrongPhaseOrUnsound))
       by true slots false some false short = image_part (eqb-true _ _ slots) (let z = eqb-false (length program) 0 some in omega (arith, z)) (ltb-false _ _ short) (read_image image) refl
       by true slots false some true long = unfit _ (long_program (eqb-true _ _ slots) (ltb-true _ _ long))
       by true slots true empty c is = let all : length table ≡ 256 = eqb-true _ _ slots in unfit _ (no_program (omega (arith, all)) (eqb-true _ _ empty))
@@ -76,9 +74,9 @@ module _ (table : List Task) (pool ends image program : List ℕ) where
 
   -- ---- what creation answers
 
-  data Answered : CreateResult → Type 0 where
-    made : (machine : Machine) → Creatable table pool image program → Answered (Created machine)
-    not_made : (refusal : Refusal) → NotCreatable table pool image program refusal → Answered (NotCreated refusal)
+  data Answered : Result Machine Refusal → Type 0 where
+    made : (machine : Machine) → Creatable table pool image program → Answered (Ok machine)
+    not_made : (refusal : Refusal) → NotCreatable table pool image program refusal → Answered (Err refusal)
 
   pub first_room : Creatable table pool image program → has_room (length pool) 0 0 (length program) ≡ true
   unfolding has_room
@@ -86,7 +84,7 @@ module _ (table : List Task) (pool ends image program : List ℕ) where
 
   -- what passes them is created: the program is entry 0, and behind it come the image's tasks
   tests_fit : (c : Creatable table pool image program)
-      → creation_tests (length table) (length pool) (length program) image ≡ Fit (record { 0 = c.found.next_id }) (length c.found.tasks) (s_len_of c.found.tasks)
+      → creation_tests (length table) (length pool) (length program) image ≡ Ok (record { next_id = record { 0 = c.found.next_id }; count = length c.found.tasks; s_len = s_len_of c.found.tasks })
   unfolding creation_tests image_tests image_result
   tests_fit c =
       rw (eq-eqb (length table) 256 c.slots, ne_eqb (length program) 0 (λ (z : length program ≡ 0). omega (arith, c.some)), le-ltb 65535 (length program) c.short, c.is_sound)
@@ -99,7 +97,7 @@ module _ (table : List Task) (pool ends image program : List ℕ) where
   unfolding create create_fit create_behind interned
   created_as c = rw (tests_fit c, first_room c)
 
-  answered_by : (r : CreationResult) → Tests r → Answered (create_fit table pool ends image program r).answer
+  answered_by : (r : Result Fit Refusal) → Tests r → Answered (create_fit table pool ends image program r).answer
   unfolding create_fit create_behind interned
   answered_by _ (fit next_id count len c) = rw (first_room c) (made _ c)
   answered_by _ (unfit refusal n) = not_made refusal n
@@ -123,24 +121,24 @@ module _ (table : List Task) (pool ends image program : List ℕ) where
       let k : pool_bytes program found ≡ pool_bytes program c.found = ap (pool_bytes program) e in
       omega (arith, c.room, past, k)
 
-  of_created : (machine : Machine) → Answered (Created machine) → Creatable table pool image program
+  of_created : (machine : Machine) → Answered (Ok machine) → Creatable table pool image program
   of_created machine (made _ c) = c
 
-  of_refused : (refusal : Refusal) → Answered (NotCreated refusal) → NotCreatable table pool image program refusal
+  of_refused : (refusal : Refusal) → Answered (Err refusal) → NotCreatable table pool image program refusal
   of_refused refusal (not_made _ n) = n
 
-  makes : Creatable table pool image program → (answer : CreateResult) → Answered answer → (machine : Machine) × (answer ≡ Created machine)
+  makes : Creatable table pool image program → (answer : Result Machine Refusal) → Answered answer → (machine : Machine) × (answer ≡ Ok machine)
   makes c _ (made machine also) = (machine, refl)
   makes c _ (not_made refusal n) = absurd (not_both refusal c n)
 
   -- docs/REFERENCE.md, 'Creation': a machine is created exactly if the table has 256 slots, the program 1 to 65,535 bytes, the image is sound and program and instructions have room
-  pub creates_exactly : ((machine : Machine) × ((create table pool ends image program).answer ≡ Created machine)) ↔ Creatable table pool image program
+  pub creates_exactly : ((machine : Machine) × ((create table pool ends image program).answer ≡ Ok machine)) ↔ Creatable table pool image program
   creates_exactly = (
     (λ m. of_created m.0 (subst Answered m.1 answered)),
     (λ c. makes c _ answered),
   )
 
-  refusals_tested : (refusal : Refusal) → NotCreatable table pool image program refusal → creation_tests (length table) (length pool) (length program) image ≡ Unfit refusal
+  refusals_tested : (refusal : Refusal) → NotCreatable table pool image program refusal → creation_tests (length table) (length pool) (length program) image ≡ Err refusal
   unfolding creation_tests image_tests image_result
   refusals_tested _ (other_slots other) = rw (ne_eqb (length table) 256 other)
   refusals_tested _ (no_program slots empty) = rw (eq-eqb (length table) 256 slots, eq-eqb (length program) 0 empty)
@@ -152,7 +150,7 @@ module _ (table : List Task) (pool ends image program : List ℕ) where
       (rw (roomy image found (length pool) (length program) is_sound, lt-leb (pool_bytes program found) (min 65536 (length pool)) past))
 
   -- and else the first of 26, 1, 28, 25 with its place and 22 that is met
-  pub refuses_exactly : (refusal : Refusal) → ((create table pool ends image program).answer ≡ NotCreated refusal) ↔ NotCreatable table pool image program refusal
+  pub refuses_exactly : (refusal : Refusal) → ((create table pool ends image program).answer ≡ Err refusal) ↔ NotCreatable table pool image program refusal
   unfolding create create_fit
   refuses_exactly refusal = (
     (λ e. of_refused refusal (subst Answered e answered)),

@@ -20,8 +20,6 @@ use Rattle.table_image.specs.Loops.{load_records}
 use Rattle.table_image.specs.Tables.{in_use, loading}
 use Rattle.table_image.specs.declared.InUse.{InUse}
 use Rattle.table_image.specs.Creation.{creation_tests}
-use Rattle.table_image.specs.declared.creation.CreationResult.{CreationResult}
-use Rattle.table_image.specs.declared.creation.CreationResult.TheVariants.{Fit, Unfit}
 use Rattle.table_image.proofs.Fits.{Fits, fits, count_told, records_told}
 use Rattle.table_image.proofs.Loads.{load_table_tasks}
 use Rattle.image.proofs.Readings as readings
@@ -32,15 +30,15 @@ use Rattle.machine.specs.World.{World, world}
 use Rattle.machine.specs.Sound.{sound_frames}
 use Rattle.machine.specs.History.{FreshWorld, is_created as is-created-by}
 use Rattle.machine.specs.Creation.{new_machine, Made, made, create}
-use Rattle.mechanism.specs.Creating.{unfit, with_program, interned_program, prepare_fit, prepare, create_as, create_by_parts}
+use Rattle.mechanism.specs.Creating.{with_program, interned_program, prepare_fit, prepare, create_as, create_by_parts, create_ready}
 use Rattle.mechanism.proofs.Creates.{create_is}
-use Rattle.machine.specs.declared.CreateResult.{CreateResult}
-use Rattle.machine.specs.declared.CreateResult.TheVariants.{Created, NotCreated}
 use Rattle.laws.specs.Sound.{Passes, Sound}
 use Rattle.laws.proofs.Parts.{Entries, Machined, Tabled, kept_sound}
 use Rattle.laws.proofs.Pool.{Interns, interns, not_interns, intern_keeps}
 use Rattle.laws.proofs.Tables.{blank_title}
 use Rattle.laws.proofs.Loading.{Orderly, none, orderly, s_len_below, Loads, Loaded, load_all}
+use Rattle.std.specs.Prelude.{Ok, Err, Result}
+use Rattle.table_image.specs.declared.creation.Fit.{Fit}
 
 -- ---- the image
 
@@ -153,8 +151,8 @@ record Fresh (image : List ℕ) (machine : Machine) (table : List Task) (pool en
   ids : Begins image machine
 
 data Creates (image : List ℕ) : Made → Type 0 where
-  creates : (machine : Machine) (table : List Task) (pool ends : List ℕ) → Fresh image machine table pool ends → Creates image (made (Created machine) table pool ends)
-  not_creates : (refusal : Refusal) (table : List Task) (pool ends : List ℕ) → Creates image (made (NotCreated refusal) table pool ends)
+  creates : (machine : Machine) (table : List Task) (pool ends : List ℕ) → Fresh image machine table pool ends → Creates image (made (Ok machine) table pool ends)
+  not_creates : (refusal : Refusal) (table : List Task) (pool ends : List ℕ) → Creates image (made (Err refusal) table pool ends)
 
 -- no entry yet
 pub none_joined : (ends : List ℕ) → end_to_end ends 0 0 ≡ true
@@ -164,7 +162,7 @@ none_joined ends = refl
 module _ (table : List Task) (pool ends image program : List ℕ) (lent : length ends ≡ 1024) where
   with_entry : (next_id count len : ℕ) (p : Pooled) → Fits (length table) (length pool) (length program) image next_id count len → Interns pool ends 0 p
       → Creates image (create_as table image (interned_program next_id count len p))
-  unfolding create_as with_program unfit
+  unfolding create_ready with_program
   with_entry next_id count len _ f (interns used new_pool new_ends s grows) =
       let some : 0 < 1 = omega arith in
       let l : Loaded _ _ len count = loaded table (length pool) (length program) image next_id count len f new_pool new_ends (in_use used 1) s some in
@@ -179,30 +177,30 @@ module _ (table : List Task) (pool ends image program : List ℕ) (lent : length
       })
   with_entry next_id count len _ f (not_interns refusal) = not_creates refusal table pool ends
 
-  by_tests : (result : CreationResult) → creation_tests (length table) (length pool) (length program) image ≡ result → Creates image (create_as table image (prepare_fit pool ends program result))
-  unfolding create_as prepare_fit unfit
-  by_tests (Fit next_id count len) e =
-      with_entry next_id.0 count len _ (fits (length table) (length pool) (length program) image next_id.0 count len e) (intern_keeps pool ends 0 0 program lent (none_joined ends))
-  by_tests (Unfit refusal) e = not_creates refusal table pool ends
+  by_tests : (result : Result Fit Refusal) → creation_tests (length table) (length pool) (length program) image ≡ result → Creates image (create_as table image (prepare_fit pool ends program result))
+  unfolding create_ready prepare_fit
+  by_tests (Ok fit) e =
+      with_entry fit.next_id.0 fit.count fit.s_len _ (fits (length table) (length pool) (length program) image fit.next_id.0 fit.count fit.s_len e) (intern_keeps pool ends 0 0 program lent (none_joined ends))
+  by_tests (Err refusal) e = not_creates refusal table pool ends
 
   creating : Creates image (create table pool ends image program)
   unfolding create_by_parts prepare
   creating = subst (Creates image) (create_is table pool ends image program) (by_tests _ refl)
 
-machine_of : Machine → CreateResult → Machine
-machine_of other (Created machine) = machine
-machine_of other (NotCreated refusal) = other
+machine_of : Machine → Result Machine Refusal → Machine
+machine_of other (Ok machine) = machine
+machine_of other (Err refusal) = other
 
-is_created : CreateResult → ℕ
-is_created (Created machine) = 1
-is_created (NotCreated refusal) = 0
+is_created : Result Machine Refusal → ℕ
+is_created (Ok machine) = 1
+is_created (Err refusal) = 0
 
-fresh_by : (image : List ℕ) (machine : Machine) (m : Made) → Creates image m → m.answer ≡ Created machine → Fresh image machine m.table m.pool m.ends
+fresh_by : (image : List ℕ) (machine : Machine) (m : Made) → Creates image m → m.answer ≡ Ok machine → Fresh image machine m.table m.pool m.ends
 unfolding machine_of is_created
 fresh_by image machine _ (creates other table pool ends fresh) e = subst (λ (c : Machine). Fresh image c table pool ends) (ap (machine_of machine) e) fresh
 fresh_by image machine _ (not_creates refusal table pool ends) e = absurd (let z : ◌≡◌ {A = ℕ} 0 1 = ap is_created e in omega arith)
 
-module _ (table : List Task) (pool ends image program : List ℕ) (machine : Machine) (lent : length ends ≡ 1024) (is : (create table pool ends image program).answer ≡ Created machine) where
+module _ (table : List Task) (pool ends image program : List ℕ) (machine : Machine) (lent : length ends ≡ 1024) (is : (create table pool ends image program).answer ≡ Ok machine) where
   abbrev after : Made
   after = create table pool ends image program
 

@@ -10,11 +10,7 @@ use lib.Seq.{get_or-set_same}
 use borrow.Author.Tests.{leb-false}
 use Rattle.errors.specs.declared.Refusal.{Refusal}
 use Rattle.bytecode.specs.Opcodes.{T_CREATE}
-use Rattle.inlinevec.specs.declared.PopResult.{PopResult}
-use Rattle.inlinevec.specs.declared.PopResult.TheVariants.{Popped, NotPopped}
 use Rattle.values.specs.declared.FatPointer.{FatPointer}
-use Rattle.values.specs.declared.PointerResult.{PointerResult}
-use Rattle.values.specs.declared.PointerResult.TheVariants.{Pointer, NoPointer}
 use Rattle.memory.specs.Change.{inside}
 use Rattle.pools.specs.declared.InstructionsRef.{InstructionsRef}
 use Rattle.storage.specs.Storage as storage
@@ -22,9 +18,6 @@ use Rattle.storage.specs.Storage.{slot_of}
 use Rattle.storage.specs.Tasks.{blank, new_task}
 use Rattle.storage.specs.declared.Task.{Task}
 use Rattle.storage.specs.declared.TaskState.{TaskState}
-use Rattle.storage.specs.declared.DefaultResult.{DefaultResult}
-use Rattle.storage.specs.declared.DefaultResult.TheVariants.{State, NoState}
-use Rattle.storage.specs.declared.RoomResult.{RoomResult}
 use Rattle.machine.specs.Machines.{placed}
 use Rattle.machine.specs.World.{World, op, at_end, memory_in_use}
 use Rattle.machine.specs.Words.{StepResult, next, refused, test, popped, first_state, pointed, bytes_of, with_room, room}
@@ -34,6 +27,7 @@ use Rattle.laws.specs.Sound.{Passes}
 use Rattle.laws.proofs.Either.{either}
 use Rattle.laws.proofs.Parts.{passes_kept}
 use Rattle.laws.proofs.Tables.{table_counts}
+use Rattle.std.specs.Prelude.{Ok, Err, Result, ⊤}
 
 module _ (w : World) where
   -- the next task in its slot, or a refusal
@@ -42,20 +36,20 @@ module _ (w : World) where
         → Makes (next (with_next_task (onward w left) (new_task (next_id w) title state reference)))
     makes_none : (refusal : Refusal) → Makes (refused refusal)
 
-  popped_makes : (result : PopResult) (onward : ℕ → ℕ → StepResult) → ((value below : ℕ) → Makes (onward value below)) → Makes (popped result onward)
+  popped_makes : (result : Result (ℕ × ℕ) Refusal) (onward : ℕ → ℕ → StepResult) → ((value below : ℕ) → Makes (onward value below)) → Makes (popped result onward)
   unfolding popped
-  popped_makes (Popped value below) onward more = more value below
-  popped_makes (NotPopped refusal) onward more = makes_none refusal
+  popped_makes (Ok (value, below)) onward more = more value below
+  popped_makes (Err refusal) onward more = makes_none refusal
 
-  state_makes : (result : DefaultResult) (onward : TaskState → StepResult) → ((state : TaskState) → Makes (onward state)) → Makes (first_state result onward)
+  state_makes : (result : Result TaskState Refusal) (onward : TaskState → StepResult) → ((state : TaskState) → Makes (onward state)) → Makes (first_state result onward)
   unfolding first_state
-  state_makes (State state) onward more = more state
-  state_makes (NoState refusal) onward more = makes_none refusal
+  state_makes (Ok state) onward more = more state
+  state_makes (Err refusal) onward more = makes_none refusal
 
-  pointed_makes : (result : PointerResult) (onward : FatPointer → StepResult) → ((vector : FatPointer) → Makes (onward vector)) → Makes (pointed result onward)
+  pointed_makes : (result : Result FatPointer Refusal) (onward : FatPointer → StepResult) → ((vector : FatPointer) → Makes (onward vector)) → Makes (pointed result onward)
   unfolding pointed
-  pointed_makes (Pointer vector) onward more = more vector
-  pointed_makes (NoPointer refusal) onward more = makes_none refusal
+  pointed_makes (Ok vector) onward more = more vector
+  pointed_makes (Err refusal) onward more = makes_none refusal
 
   bytes_make : (vector : FatPointer) (onward : List ℕ → StepResult) → ((bytes : List ℕ) → Makes (onward bytes)) → Makes (bytes_of w vector onward)
   unfolding bytes_of test
@@ -64,8 +58,8 @@ module _ (w : World) where
   room_makes : (title : ℕ) (onward : StepResult) → (w.machine.next_id.0 < 256 → Makes onward) → Makes (room w title onward)
   unfolding with_room storage.room
   room_makes title onward more =
-      either (λ (r : RoomResult). Makes (with_room r onward)) (leb 256 w.machine.next_id.0) _ _ (λ _. makes_none _)
-      (λ less. either (λ (r : RoomResult). Makes (with_room r onward)) (ltb 128 title) _ _ (λ _. makes_none _) (λ _. more (leb-false _ _ less)))
+      either (λ (r : Result ⊤ Refusal). Makes (with_room r onward)) (leb 256 w.machine.next_id.0) _ _ (λ _. makes_none _)
+      (λ less. either (λ (r : Result ⊤ Refusal). Makes (with_room r onward)) (ltb 128 title) _ _ (λ _. makes_none _) (λ _. more (leb-false _ _ less)))
 
   create_makes : Makes (t_create w)
   unfolding t_create

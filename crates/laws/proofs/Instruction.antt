@@ -8,12 +8,6 @@ use lib.ListN.{length, get_or}
 use Rattle.errors.specs.declared.Refusal.{Refusal}
 use Rattle.bytecode.specs.Opcodes.{PUSH_U32, PUSH_STATE, PUSH_TASK_FIELD, PUSH_MAX_STATES, S_LEN, DO, LOOP, LOOP_INDEX, DROP, DUP, SWAP, EQ, LT, GT, JUMP_IF_FALSE, M_STI, M_ST, M_MUTA, MULI, MUL}
 use Rattle.bytecode.specs.Operands.{operand, extent}
-use Rattle.bytecode.specs.declared.Extent.{Extent}
-use Rattle.bytecode.specs.declared.Extent.TheVariants as extents
-use Rattle.bytecode.specs.declared.OperandResult.{OperandResult}
-use Rattle.bytecode.specs.declared.OperandResult.TheVariants.{Operand, NoOperand}
-use Rattle.inlinevec.specs.declared.PopResult.{PopResult}
-use Rattle.inlinevec.specs.declared.PopResult.TheVariants.{Popped, NotPopped}
 use Rattle.values.specs.Values.{to_u32, to_bool_val}
 use Rattle.mechanism.specs.Registers.{OnStack}
 use Rattle.mechanism.specs.declared.Registers.{Registers}
@@ -24,13 +18,14 @@ use Rattle.laws.proofs.Either.{either}
 use Rattle.laws.proofs.Stack as stacked
 use Rattle.laws.proofs.Stack.{Registered, Goes, goes, stops, Pops, popped, not_popped, pops, lowered, push_keeps, mul_keeps, muli_keeps, compare_keeps, eq_keeps, dup_keeps, swap_keeps, drop_goes, do_goes, loop_goes, loop_index_keeps, jump_goes, idle_goes}
 use Rattle.laws.proofs.Memory.{Keeps, refused, beside, unwritten, store_keeps, m_st_keeps, m_muta_keeps}
+use Rattle.std.specs.Prelude.{Ok, Err, Result, Option, Some, None}
 
 -- an operand that is missing, then what holds of any
-sized : {A : Type 0} (P : A → Type 0) (refuse : Refusal → A) (onward : ℕ → A) (result : OperandResult)
+sized : {A : Type 0} (P : A → Type 0) (refuse : Refusal → A) (onward : ℕ → A) (result : Result ℕ Refusal)
     → ((refusal : Refusal) → P (refuse refusal)) → ((number : ℕ) → P (onward number)) → P (with_operand refuse onward result)
 unfolding with_operand
-sized P refuse onward (Operand number) none some = some number
-sized P refuse onward (NoOperand refusal) none some = none refusal
+sized P refuse onward (Ok number) none some = some number
+sized P refuse onward (Err refusal) none some = none refusal
 
 -- a size of 16 bits
 short : (size : ℕ) → size % 65536 < 2 ^ 16
@@ -107,17 +102,17 @@ module _ {asked : Type 0} (registers : Registers) (stack memory code : List ℕ)
 -- ---- cut by the code's end
 
 module _ {asked : Type 0} (registers : Registers) (stack : List ℕ) (lent : ℕ) (r : Registered asked lent registers stack) where
-  cut_value_goes : (result : PopResult) → Goes asked lent stack (cut_value result)
+  cut_value_goes : (result : Result (ℕ × ℕ) Refusal) → Goes asked lent stack (cut_value result)
   unfolding cut_value
-  cut_value_goes (Popped value height) = stops _
-  cut_value_goes (NotPopped refusal) = stops refusal
+  cut_value_goes (Ok (value, height)) = stops _
+  cut_value_goes (Err refusal) = stops refusal
 
-  cut_size_goes : (result : PopResult) → Goes asked lent stack (cut_size result)
+  cut_size_goes : (result : Result (ℕ × ℕ) Refusal) → Goes asked lent stack (cut_size result)
   unfolding cut_size
-  cut_size_goes (Popped value height) = either (Goes asked lent stack) (ltb 65535 (to_u32 value)) _ _ (λ _. stops _) (λ _. stops _)
-  cut_size_goes (NotPopped refusal) = stops refusal
+  cut_size_goes (Ok (value, height)) = either (Goes asked lent stack) (ltb 65535 (to_u32 value)) _ _ (λ _. stops _) (λ _. stops _)
+  cut_size_goes (Err refusal) = stops refusal
 
-  cut_skip_goes : (result : PopResult) → Pops stack registers.height result → Goes asked lent stack (cut_skip registers result)
+  cut_skip_goes : (result : Result (ℕ × ℕ) Refusal) → Pops stack registers.height result → Goes asked lent stack (cut_skip registers result)
   unfolding cut_skip
   cut_skip_goes _ (popped new less) =
       either (Goes asked lent stack) (eqb (get_or stack new 0) (to_bool_val false)) _ _ (λ _. stops _) (λ _. goes _ (lowered lent registers stack (registers.place + 5) new r (omega arith)))
@@ -130,11 +125,11 @@ module _ {asked : Type 0} (registers : Registers) (stack : List ℕ) (lent : ℕ
       (λ _. either (Goes asked lent stack) (eqb op M_ST) _ _ (λ _. cut_size_goes _)
       (λ _. either (Goes asked lent stack) (eqb op JUMP_IF_FALSE) _ _ (λ _. cut_skip_goes _ (pops stack registers.height)) (λ _. stops _)))
 
-by_extent_keeps : {asked : Type 0} (registers : Registers) (stack memory code : List ℕ) (op count : ℕ) (extent : Extent) → Registered asked (length memory) registers stack
+by_extent_keeps : {asked : Type 0} (registers : Registers) (stack memory code : List ℕ) (op count : ℕ) (extent : Option ℕ) → Registered asked (length memory) registers stack
     → Keeps asked (length memory) (by_extent stack memory code registers op count extent)
 unfolding by_extent
-by_extent_keeps registers stack memory code op count (extents.Next next) r = execute_keeps registers stack memory code next r op count
-by_extent_keeps registers stack memory code op count extents.Cut r = unwritten memory stack _ (cut_goes registers stack (length memory) r op)
+by_extent_keeps registers stack memory code op count (Some next) r = execute_keeps registers stack memory code next r op count
+by_extent_keeps registers stack memory code op count None r = unwritten memory stack _ (cut_goes registers stack (length memory) r op)
 
 pub instruct_keeps : {asked : Type 0} (registers : Registers) (stack memory code : List ℕ) (count : ℕ) → Registered asked (length memory) registers stack
     → Keeps asked (length memory) (instruct stack memory code registers count)

@@ -8,8 +8,6 @@ use lib.ListN.{length, get_or, set, drop, length-set}
 use lib.Seq.{get_or-set_other}
 use Rattle.pools.specs.Pool.{Pooled}
 use Rattle.pools.specs.declared.InstructionsRef.{InstructionsRef}
-use Rattle.pools.specs.declared.InternResult.{InternResult}
-use Rattle.pools.specs.declared.InternResult.TheVariants.{Interned, NotInterned}
 use Rattle.storage.specs.declared.Task.{Task}
 use Rattle.storage.specs.Table.{lives, living_of, sound_slots}
 use Rattle.storage.specs.Tasks.{blank, new_task}
@@ -23,6 +21,8 @@ use Rattle.image.proofs.Readings.{not_bad, Goes, at_end, goes_on, goes, read_non
 use Rattle.laws.proofs.Parts.{Entries}
 use Rattle.laws.proofs.Pool.{Interns, interns, not_interns, intern_keeps}
 use Rattle.laws.proofs.Tables.{titles_set}
+use Rattle.std.specs.Prelude.{Ok, Err, Result}
+use Rattle.errors.specs.declared.Refusal.{Refusal}
 
 -- ---- the tasks of a sound image
 
@@ -71,10 +71,10 @@ unfolding bytes_after entries_after
 entries_by pool ends bytes entries _ s (interns used new_pool new_ends new grows) = new
 entries_by pool ends bytes entries _ s (not_interns refusal) = s
 
-some_by : (entries : ℕ) (result : InternResult) → 0 < entries → 0 < entries_after result entries
+some_by : (entries : ℕ) (result : Result (InstructionsRef × ℕ) Refusal) → 0 < entries → 0 < entries_after result entries
 unfolding entries_after
-some_by entries (Interned entry bytes) some = omega arith
-some_by entries (NotInterned refusal) some = some
+some_by entries (Ok (entry, bytes)) some = omega arith
+some_by entries (Err refusal) some = some
 
 loaded_rules : (task : ImageTask) (reference : InstructionsRef) (count : ℕ) → task.id < count → task.state < task.count → Living (loaded_task task reference) (0 + task.id) count
 unfolding loaded_task new_task

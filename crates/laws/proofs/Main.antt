@@ -8,21 +8,11 @@ use lib.Dec.{eqb, ltb, leb}
 use lib.ListN.{length}
 use Rattle.errors.specs.declared.Refusal.{Refusal}
 use Rattle.bytecode.specs.Opcodes.{S_SAVE, PUSH_CALLDATA, T_CREATE, T_GET_FIELD, T_SET_FIELD, T_DELETE, CALL, END_CALL}
-use Rattle.bytecode.specs.declared.Extent.{Extent}
-use Rattle.bytecode.specs.declared.Extent.TheVariants.{Next, Cut}
-use Rattle.inlinevec.specs.Stacks.{if_room, if_some, push_two, pop_two, last_two, change_two, push_frame, pop_frame}
+use Rattle.inlinevec.specs.Stacks.{if_room, if_some, push_two, pop_two, last_two, change_two, push_onto, pop_off}
 use Rattle.inlinevec.specs.declared.Frame.{Frame}
-use Rattle.inlinevec.specs.declared.PopResult.{PopResult}
-use Rattle.inlinevec.specs.declared.PopResult.TheVariants.{Popped, NotPopped}
 use Rattle.pools.specs.Pool.{Pooled}
 use Rattle.pools.specs.declared.InstructionsRef.{InstructionsRef}
-use Rattle.pools.specs.declared.BoundsResult.{BoundsResult}
-use Rattle.pools.specs.declared.BoundsResult.TheVariants.{Bounds, NoBounds}
-use Rattle.pools.specs.declared.InternResult.{InternResult}
-use Rattle.pools.specs.declared.InternResult.TheVariants.{Interned, NotInterned}
 use Rattle.storage.specs.declared.Task.{Task}
-use Rattle.image.specs.declared.SaveResult.{SaveResult}
-use Rattle.image.specs.declared.SaveResult.TheVariants.{Saved, NotSaved}
 use Rattle.machine.specs.declared.Machine.{Machine}
 use Rattle.machine.specs.declared.Outcome.{Outcome}
 use Rattle.machine.specs.declared.Outcome.TheVariants.{Done, Paused, Refused}
@@ -39,12 +29,8 @@ use Rattle.machine.specs.Creation.{Made}
 use Rattle.machine.specs.History.{FreshWorld, is_created, HostCall, runs, saves as host-saves, reads_value, reads_task, left_by, history, world_saved}
 use Rattle.mechanism.specs.Registers.{settled, machine_at}
 use Rattle.mechanism.specs.declared.Registers.{Registers}
-use Rattle.mechanism.specs.declared.RegistersResult.{RegistersResult}
-use Rattle.mechanism.specs.declared.RegistersResult.TheVariants as registers-result
-use Rattle.mechanism.specs.declared.MachineResult.{MachineResult}
-use Rattle.mechanism.specs.declared.MachineResult.TheVariants as machine-result
 use Rattle.mechanism.specs.Frames.{with_entry, calldata_pushed, push_calldata, framed, enter_bounded, enter, call_popped, op_call, left_frame, op_end_call}
-use Rattle.mechanism.specs.Act.{OnAll, settled_by, created, tasked_by, created_by, on_task, on_frames, act_by, act_at, act}
+use Rattle.mechanism.specs.Act.{OnAll, keeping, settled_by, created, tasked_by, created_by, on_task, on_frames, act_by, act_at, act}
 use Rattle.mechanism.specs.Turns.{save_result}
 use Rattle.mechanism.specs.Steps.{is_outer}
 use Rattle.mechanism.specs.Step.{inner_result, inner, acts_result, acts, saves_result, saves, outer, step_by_parts}
@@ -57,10 +43,13 @@ use Rattle.laws.proofs.Step.{step_passes}
 use Rattle.laws.proofs.Creation.{fresh_passes}
 use Rattle.laws.proofs.Creates.{created_as, created_is, creates_exactly}
 use Rattle.laws.proofs.SoundnessCalls.{allowed_passes, left_passes}
+use Rattle.std.specs.Prelude.{Ok, Err, Some, None, Result, Option}
+use Rattle.mechanism.specs.declared.Change.{Change}
+use Rattle.mechanism.specs.declared.Change.TheVariants.{Keep}
 
 -- the entry of the first frame
 abbrev main_entry : Machine → ℕ
-main_entry machine = machine.frames.main.entry.0
+main_entry machine = machine.frames.first.entry.0
 
 -- ---- registers put back
 
@@ -82,24 +71,19 @@ settled_count machine registers = by (eqb machine.frames.count 1) refl
 
 -- ---- an instruction that needs a task, a frame or the pool
 
-data Keeps (machine : Machine) : MachineResult → Type 0 where
-  keeps : (after : Machine) → main_entry after ≡ main_entry machine → Keeps machine (machine-result.Onto after)
-  refuses : (refusal : Refusal) → Keeps machine (machine-result.Refused refusal)
+data Keeps (machine : Machine) : Result Machine Refusal → Type 0 where
+  keeps : (after : Machine) → main_entry after ≡ main_entry machine → Keeps machine (Ok after)
+  refuses : (refusal : Refusal) → Keeps machine (Err refusal)
 
-settled_by_keeps : (machine : Machine) (result : RegistersResult) → Keeps machine (settled_by machine result)
+settled_by_keeps : (machine : Machine) (result : Result Registers Refusal) → Keeps machine (settled_by machine result)
 unfolding settled_by
-settled_by_keeps machine (registers-result.Next registers) = keeps _ (settled_main machine registers)
-settled_by_keeps machine (registers-result.Refused refusal) = refuses refusal
+settled_by_keeps machine (Ok registers) = keeps _ (settled_main machine registers)
+settled_by_keeps machine (Err refusal) = refuses refusal
 
-created_keeps : (machine : Machine) (result : RegistersResult) → Keeps machine (created machine result)
-unfolding created
-created_keeps machine (registers-result.Next registers) = keeps _ (settled_main machine registers)
-created_keeps machine (registers-result.Refused refusal) = refuses refusal
-
-pushed_keeps : (stack : List ℕ) (machine : Machine) (behind : ℕ) (after : Pooled) (answer : InternResult) → Keeps machine (calldata_pushed stack machine behind after answer).result
+pushed_keeps : (stack : List ℕ) (machine : Machine) (behind : ℕ) (after : Pooled) (answer : Result (InstructionsRef × ℕ) Refusal) → Keeps machine (calldata_pushed stack machine behind after answer).result
 unfolding calldata_pushed with_entry
-pushed_keeps stack machine behind after (Interned entry bytes) = keeps _ (settled_main machine _)
-pushed_keeps stack machine behind after (NotInterned refusal) = refuses refusal
+pushed_keeps stack machine behind after (Ok (entry, bytes)) = keeps _ (settled_main machine _)
+pushed_keeps stack machine behind after (Err refusal) = refuses refusal
 
 calldata_keeps : (stack pool ends : List ℕ) (machine : Machine) (place behind : ℕ) → Keeps machine (push_calldata stack pool ends machine place behind).result
 unfolding push_calldata
@@ -110,32 +94,32 @@ calldata_keeps stack pool ends machine place behind = by (leb 1000 machine.heigh
     by false e = rw e (pushed_keeps stack machine behind _ _)
 
 -- a frame more, above one that is there
-framed_keeps : (machine caller : Machine) (entered : Frame) → main_entry caller ≡ main_entry machine → eqb caller.frames.count 0 ≡ false → Keeps machine (framed caller (push_frame caller.frames entered))
-unfolding push_frame if_room framed push_two
+framed_keeps : (machine caller : Machine) (entered : Frame) → main_entry caller ≡ main_entry machine → eqb caller.frames.count 0 ≡ false → Keeps machine (framed caller (push_onto caller.frames entered))
+unfolding push_onto if_room framed push_two
 framed_keeps machine caller entered same some = by (ltb caller.frames.count 2) refl
   where
-    by : (b : Bool) → ltb caller.frames.count 2 ≡ b → Keeps machine (framed caller (push_frame caller.frames entered))
+    by : (b : Bool) → ltb caller.frames.count 2 ≡ b → Keeps machine (framed caller (push_onto caller.frames entered))
     by true e = rw (e, some) (keeps _ same)
     by false e = rw e (refuses _)
 
-bounded_keeps : (machine caller : Machine) (entry : InstructionsRef) (result : BoundsResult) → main_entry caller ≡ main_entry machine → eqb caller.frames.count 0 ≡ false → Keeps machine (enter_bounded caller entry result)
+bounded_keeps : (machine caller : Machine) (entry : InstructionsRef) (result : Result (ℕ × ℕ) Refusal) → main_entry caller ≡ main_entry machine → eqb caller.frames.count 0 ≡ false → Keeps machine (enter_bounded caller entry result)
 unfolding enter_bounded
-bounded_keeps machine caller entry (Bounds start end) same some = either (Keeps machine) (leb end start) _ _ (λ _. keeps caller same) (λ _. framed_keeps machine caller _ same some)
-bounded_keeps machine caller entry (NoBounds refusal) same some = refuses refusal
+bounded_keeps machine caller entry (Ok (start, end)) same some = either (Keeps machine) (leb end start) _ _ (λ _. keeps caller same) (λ _. framed_keeps machine caller _ same some)
+bounded_keeps machine caller entry (Err refusal) same some = refuses refusal
 
-popped_keeps : (ends : List ℕ) (machine : Machine) (behind : ℕ) (task : Task) (result : PopResult) → eqb machine.frames.count 0 ≡ false → Keeps machine (call_popped ends machine behind task result)
+popped_keeps : (ends : List ℕ) (machine : Machine) (behind : ℕ) (task : Task) (result : Result (ℕ × ℕ) Refusal) → eqb machine.frames.count 0 ≡ false → Keeps machine (call_popped ends machine behind task result)
 unfolding call_popped enter
-popped_keeps ends machine behind task (Popped value height) some =
+popped_keeps ends machine behind task (Ok (value, height)) some =
     either (Keeps machine) task.living _ _
     (λ _. bounded_keeps machine (machine_at machine behind height) task.instructions_ref _ (settled_main machine _) (ap (λ (n : ℕ). eqb n 0) (settled_count machine _) ∙ some))
     (λ _. keeps _ (settled_main machine _))
-popped_keeps ends machine behind task (NotPopped refusal) some = refuses refusal
+popped_keeps ends machine behind task (Err refusal) some = refuses refusal
 
-left_keeps : (machine : Machine) → Keeps machine (left_frame machine (pop_frame machine.frames))
-unfolding pop_frame if_some left_frame pop_two
+left_keeps : (machine : Machine) → Keeps machine (left_frame machine (pop_off machine.frames))
+unfolding pop_off if_some left_frame pop_two
 left_keeps machine = by (eqb machine.frames.count 0) refl (leb machine.frames.count 2) refl
   where
-    by : (b : Bool) → eqb machine.frames.count 0 ≡ b → (c : Bool) → leb machine.frames.count 2 ≡ c → Keeps machine (left_frame machine (pop_frame machine.frames))
+    by : (b : Bool) → eqb machine.frames.count 0 ≡ b → (c : Bool) → leb machine.frames.count 2 ≡ c → Keeps machine (left_frame machine (pop_off machine.frames))
     by true e c f = rw e (refuses _)
     by false e true f = rw (e, f) (keeps _ refl)
     by false e false f = rw (e, f) (refuses _)
@@ -144,37 +128,54 @@ end_call_keeps : (machine : Machine) (behind : ℕ) → Keeps machine (op_end_ca
 unfolding op_end_call
 end_call_keeps machine behind = either (Keeps machine) (leb machine.frames.count 1) _ _ (λ _. keeps _ (settled_main machine _)) (λ _. left_keeps machine)
 
+-- the same, with a change of a slot
+data KeepsOn (machine : Machine) : Result (Machine × Change) Refusal → Type 0 where
+  keeps_on : (after : Machine) (change : Change) → main_entry after ≡ main_entry machine → KeepsOn machine (Ok (after, change))
+  refuses_on : (refusal : Refusal) → KeepsOn machine (Err refusal)
+
+keeping_keeps : (machine : Machine) (result : Result Machine Refusal) → Keeps machine result → KeepsOn machine (keeping result)
+unfolding keeping
+keeping_keeps machine _ (keeps after same) = keeps_on after Keep same
+keeping_keeps machine _ (refuses refusal) = refuses_on refusal
+
+tasked_keeps : (machine : Machine) (result : Result (Registers × Change) Refusal) → KeepsOn machine (tasked_by machine result)
+unfolding tasked_by
+tasked_keeps machine (Ok (registers, change)) = keeps_on _ change (settled_main machine registers)
+tasked_keeps machine (Err refusal) = refuses_on refusal
+
+created_keeps : (machine : Machine) (result : Result (Registers × Change) Refusal) → KeepsOn machine (created_by machine result)
+unfolding created_by created
+created_keeps machine (Ok (registers, change)) = keeps_on _ change (settled_main machine registers)
+created_keeps machine (Err refusal) = refuses_on refusal
+
 -- each of them
 abbrev Acted : Machine → OnAll → Type 0
-Acted machine after = Keeps machine after.acted.result
+Acted machine after = KeepsOn machine after.acted
 
-task_keeps : (stack memory pool ends : List ℕ) (machine : Machine) (task : Task) (op behind : ℕ) → Keeps machine (on_task stack memory machine task op behind).result
-unfolding on_task created_by tasked_by
-task_keeps stack memory pool ends machine task op behind = by (eqb op T_CREATE) refl (eqb op T_SET_FIELD) refl (eqb op T_DELETE) refl
-  where
-    by : (a : Bool) → eqb op T_CREATE ≡ a → (b : Bool) → eqb op T_SET_FIELD ≡ b → (c : Bool) → eqb op T_DELETE ≡ c → Keeps machine (on_task stack memory machine task op behind).result
-    by true e b f c g = rw e (created_keeps machine _)
-    by false e true f c g = rw (e, f) (settled_by_keeps machine _)
-    by false e false f true g = rw (e, f, g) (settled_by_keeps machine _)
-    by false e false f false g = rw (e, f, g) (keeps _ (settled_main machine _))
+task_keeps : (stack memory pool ends : List ℕ) (machine : Machine) (task : Task) (op behind : ℕ) → KeepsOn machine (on_task stack memory machine task op behind)
+unfolding on_task
+task_keeps stack memory pool ends machine task op behind =
+    either (KeepsOn machine) (eqb op T_CREATE) _ _ (λ _. created_keeps machine _)
+    (λ _. either (KeepsOn machine) (eqb op T_SET_FIELD) _ _ (λ _. tasked_keeps machine _)
+    (λ _. either (KeepsOn machine) (eqb op T_DELETE) _ _ (λ _. tasked_keeps machine _) (λ _. keeps_on _ Keep (settled_main machine _))))
 
 frames_keep : (stack memory pool ends : List ℕ) (machine : Machine) (task : Task) (op place behind : ℕ) → eqb machine.frames.count 0 ≡ false → Acted machine (on_frames stack memory pool ends machine task op place behind)
 unfolding on_frames op_call
 frames_keep stack memory pool ends machine task op place behind some =
-    either (Acted machine) (eqb op PUSH_CALLDATA) _ _ (λ _. calldata_keeps stack pool ends machine place behind)
-    (λ _. either (Acted machine) (eqb op T_GET_FIELD) _ _ (λ _. settled_by_keeps machine _)
-    (λ _. either (Acted machine) (eqb op CALL) _ _ (λ _. popped_keeps ends machine behind task _ some)
-    (λ _. either (Acted machine) (eqb op END_CALL) _ _ (λ _. end_call_keeps machine behind) (λ _. task_keeps stack memory pool ends machine task op behind))))
+    either (Acted machine) (eqb op PUSH_CALLDATA) _ _ (λ _. keeping_keeps machine _ (calldata_keeps stack pool ends machine place behind))
+    (λ _. either (Acted machine) (eqb op T_GET_FIELD) _ _ (λ _. keeping_keeps machine _ (settled_by_keeps machine _))
+    (λ _. either (Acted machine) (eqb op CALL) _ _ (λ _. keeping_keeps machine _ (popped_keeps ends machine behind task _ some))
+    (λ _. either (Acted machine) (eqb op END_CALL) _ _ (λ _. keeping_keeps machine _ (end_call_keeps machine behind)) (λ _. task_keeps stack memory pool ends machine task op behind))))
 
-whole_keeps : (stack memory pool ends : List ℕ) (machine : Machine) (task : Task) (op place : ℕ) (extent : Extent) → eqb machine.frames.count 0 ≡ false → Acted machine (act_by stack memory pool ends machine task op place extent)
+whole_keeps : (stack memory pool ends : List ℕ) (machine : Machine) (task : Task) (op place : ℕ) (extent : Option ℕ) → eqb machine.frames.count 0 ≡ false → Acted machine (act_by stack memory pool ends machine task op place extent)
 unfolding act_by
-whole_keeps stack memory pool ends machine task op place (Next behind) some = frames_keep stack memory pool ends machine task op place behind some
-whole_keeps stack memory pool ends machine task op place Cut some = refuses _
+whole_keeps stack memory pool ends machine task op place (Some behind) some = frames_keep stack memory pool ends machine task op place behind some
+whole_keeps stack memory pool ends machine task op place None some = refuses_on _
 
 act_keeps : (stack memory pool ends : List ℕ) (machine : Machine) (task : Task) → eqb machine.frames.count 0 ≡ false → Acted machine (act stack memory pool ends machine task)
 unfolding act act_at
 act_keeps stack memory pool ends machine task some =
-    either (Acted machine) (leb (length (code_of pool ends machine)) (current machine.frames).place) _ _ (λ _. refuses _) (λ _. whole_keeps stack memory pool ends machine task _ _ _ some)
+    either (Acted machine) (leb (length (code_of pool ends machine)) (current machine.frames).place) _ _ (λ _. refuses_on _) (λ _. whole_keeps stack memory pool ends machine task _ _ _ some)
 
 -- ---- a step
 
@@ -182,20 +183,20 @@ data Stays (machine : Machine) : StepResult → Type 0 where
   stays : (v : World) → main_entry v.machine ≡ main_entry machine → Stays machine (next v)
   stops : (refusal : Refusal) → Stays machine (refused refusal)
 
-inner_stays : (w : World) (stack memory : List ℕ) (result : RegistersResult) → Stays w.machine (inner_result w stack memory result)
+inner_stays : (w : World) (stack memory : List ℕ) (result : Result Registers Refusal) → Stays w.machine (inner_result w stack memory result)
 unfolding inner_result
-inner_stays w stack memory (registers-result.Next registers) = stays _ (settled_main w.machine registers)
-inner_stays w stack memory (registers-result.Refused refusal) = stops refusal
+inner_stays w stack memory (Ok registers) = stays _ (settled_main w.machine registers)
+inner_stays w stack memory (Err refusal) = stops refusal
 
-acts_stays : (w : World) (slot : ℕ) (after : OnAll) (result : MachineResult) → Keeps w.machine result → Stays w.machine (acts_result w slot after result)
+acts_stays : (w : World) (slot : ℕ) (after : OnAll) (result : Result (Machine × Change) Refusal) → KeepsOn w.machine result → Stays w.machine (acts_result w slot after result)
 unfolding acts_result
-acts_stays w slot after _ (keeps machine same) = stays _ same
-acts_stays w slot after _ (refuses refusal) = stops refusal
+acts_stays w slot after _ (keeps_on machine change same) = stays _ same
+acts_stays w slot after _ (refuses_on refusal) = stops refusal
 
-saves_stays : (w : World) (save : List ℕ) (answer : SaveResult) → Stays w.machine (saves_result w save (save_result w.machine answer))
+saves_stays : (w : World) (save : List ℕ) (answer : Result ℕ Refusal) → Stays w.machine (saves_result w save (save_result w.machine answer))
 unfolding saves_result save_result
-saves_stays w save (Saved size) = stays _ (settled_main w.machine _)
-saves_stays w save (NotSaved refusal) = stops refusal
+saves_stays w save (Ok size) = stays _ (settled_main w.machine _)
+saves_stays w save (Err refusal) = stops refusal
 
 step_stays : (w : World) → eqb w.machine.frames.count 0 ≡ false → Stays w.machine (step w)
 unfolding step_by_parts outer saves acts inner
@@ -265,10 +266,10 @@ with_main fuel w a p same =
     either (λ (r : Reported). main_entry r.report.machine ≡ main_entry w.machine) a.allowed _ _
     (λ _. ended_main (run fuel (with_machine w a.machine)).world.machine _ ∙ run_main fuel (with_machine w a.machine) p ∙ same) (λ _. refl)
 
-saved_main : (w : World) (answer : SaveResult) → main_entry (host_saved w.machine answer).machine ≡ main_entry w.machine
+saved_main : (w : World) (answer : Result ℕ Refusal) → main_entry (host_saved w.machine answer).machine ≡ main_entry w.machine
 unfolding host_saved
-saved_main w (Saved size) = refl
-saved_main w (NotSaved refusal) = refl
+saved_main w (Ok size) = refl
+saved_main w (Err refusal) = refl
 
 -- no call of a host changes it
 pub left_main : (one : HostCall) (w : World) → Passes w → main_entry (left_by one w).machine ≡ main_entry w.machine
@@ -284,11 +285,11 @@ history_main [] w p = refl
 history_main (one ∷ others) w p = history_main others (left_by one w) (left_passes one w p) ∙ left_main one w p
 
 -- creation makes it 0
-pub fresh_main : {program image : List ℕ} {w : World} → FreshWorld program image w → w.machine.frames.main.entry.0 ≡ 0
+pub fresh_main : {program image : List ℕ} {w : World} → FreshWorld program image w → w.machine.frames.first.entry.0 ≡ 0
 fresh_main {program} {image} (is_created table pool ends machine stack memory save lent long e) =
     let c = (creates_exactly table pool ends image program).0 (machine, e) in
-    ap (λ (x : Machine). x.frames.main.entry.0) (created_is (sym e ∙ ap (λ (x : Made). x.answer) (created_as table pool ends image program c)))
+    ap (λ (x : Machine). x.frames.first.entry.0) (created_is (sym e ∙ ap (λ (x : Made). x.answer) (created_as table pool ends image program c)))
 
 -- main is the program, after any calls of a host: the first frame names entry 0
-pub main_is_the_program : (program image : List ℕ) (first : World) → FreshWorld program image first → (calls : List HostCall) → (history calls first).machine.frames.main.entry.0 ≡ 0
+pub main_is_the_program : (program image : List ℕ) (first : World) → FreshWorld program image first → (calls : List HostCall) → (history calls first).machine.frames.first.entry.0 ≡ 0
 main_is_the_program program image first fresh calls = history_main calls first (fresh_passes program image first fresh) ∙ fresh_main fresh

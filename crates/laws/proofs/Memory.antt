@@ -10,57 +10,43 @@ use borrow.Author.Tests.{ltb-true, ltb-false, leb-true, leb-false}
 use Rattle.errors.specs.declared.Refusal.{Refusal}
 use Rattle.values.specs.Values.{make_vec_tagged, to_vec_val, to_u32, to_fat_pointer}
 use Rattle.values.specs.declared.FatPointer.{FatPointer}
-use Rattle.values.specs.declared.PointerResult.{PointerResult}
-use Rattle.values.specs.declared.PointerResult.TheVariants.{Pointer, NoPointer}
-use Rattle.values.specs.declared.ValueResult.{ValueResult}
-use Rattle.values.specs.declared.ValueResult.TheVariants.{Value, NoValue}
 use Rattle.values.proofs.Laws.{pointer_back}
 use Rattle.memory.specs.Allocation as allocation
 use Rattle.memory.specs.Allocation.{is_element_tag, vector, offset_aligned, filling, vector_stored, alloc}
-use Rattle.memory.specs.declared.AllocResult.TheVariants.{Allocated, NotAllocated}
 use Rattle.memory.proofs.Placed.{aligned_above}
 use Rattle.memory.specs.Change as change
 use Rattle.slices.specs.Numbers.{little_endian}
 use Rattle.memory.specs.Change.{element_size_bytes, changed, mut_vec, inside}
-use Rattle.memory.specs.declared.ChangeResult.{ChangeResult}
-use Rattle.memory.specs.declared.ChangeResult.TheVariants.{Changed, NotChanged}
-use Rattle.memory.specs.declared.SizeResult.{SizeResult}
-use Rattle.memory.specs.declared.SizeResult.TheVariants.{Size, NoSize}
 use Rattle.memory.specs.declared.ElementIndex.{ElementIndex}
-use Rattle.inlinevec.specs.declared.LastResult.{LastResult}
-use Rattle.inlinevec.specs.declared.LastResult.TheVariants.{Last, NoLast}
-use Rattle.inlinevec.specs.declared.PopResult.{PopResult}
 use Rattle.mechanism.specs.Registers.{OnStack, OnMemory, on_memory}
 use Rattle.mechanism.specs.Store.{placed, store, sized, op_m_st, mut_in_use, ChangedTo, mutated, mutate_at, mutate, mutate_last, mutate_two, op_m_muta}
 use Rattle.mechanism.specs.declared.Registers.{Registers}
-use Rattle.mechanism.specs.declared.RegistersResult.{RegistersResult}
-use Rattle.mechanism.specs.declared.RegistersResult.TheVariants.{Next, Refused}
-use Rattle.mechanism.specs.declared.PopTwoResult.{PopTwoResult}
 use Rattle.laws.specs.Sound.{Inside}
 use Rattle.laws.proofs.Either.{either}
 use Rattle.laws.proofs.Stack as stacked
 use Rattle.laws.proofs.Stack.{Registered, Goes, goes, stops, Pops, popped, not_popped, pops, PopsTwo, popped_two, not_popped_two, pops_two, lowered, set_inside}
+use Rattle.std.specs.Prelude.{Ok, Err, Result, ⊤}
 
 -- finished with sound registers and memory as long, or refused
 pub data Keeps (asked : Type 0) (lent : ℕ) : OnMemory → Type 0 where
-  finished : (registers : Registers) (stack memory : List ℕ) → Registered asked lent registers stack → length memory ≡ lent → Keeps asked lent (on_memory (Next registers) stack memory)
-  refused : (refusal : Refusal) (stack memory : List ℕ) → Keeps asked lent (on_memory (Refused refusal) stack memory)
+  finished : (registers : Registers) (stack memory : List ℕ) → Registered asked lent registers stack → length memory ≡ lent → Keeps asked lent (on_memory (Ok registers) stack memory)
+  refused : (refusal : Refusal) (stack memory : List ℕ) → Keeps asked lent (on_memory (Err refusal) stack memory)
 
 -- an instruction over the stack alone
 pub beside : {asked : Type 0} (memory : List ℕ) (a : OnStack) → stacked.Keeps asked (length memory) a → Keeps asked (length memory) (on_memory a.result a.stack memory)
 beside memory _ (stacked.finished registers stack r) = finished registers stack memory r refl
 beside memory _ (stacked.refused refusal stack) = refused refusal stack memory
 
-pub unwritten : {asked : Type 0} (memory stack : List ℕ) (result : RegistersResult) → Goes asked (length memory) stack result → Keeps asked (length memory) (on_memory result stack memory)
+pub unwritten : {asked : Type 0} (memory stack : List ℕ) (result : Result Registers Refusal) → Goes asked (length memory) stack result → Keeps asked (length memory) (on_memory result stack memory)
 unwritten memory stack _ (goes registers r) = finished registers stack memory r refl
 unwritten memory stack _ (stops refusal) = refused refusal stack memory
 
 -- ---- allocation
 
 -- the box of a vector at an offset
-data Boxes (offset size : ℕ) : ValueResult → Type 0 where
-  boxes : (tag : ℕ) → offset < 2 ^ 25 → Boxes offset size (Value (make_vec_tagged offset size tag))
-  not_boxes : (refusal : Refusal) → Boxes offset size (NoValue refusal)
+data Boxes (offset size : ℕ) : Result ℕ Refusal → Type 0 where
+  boxes : (tag : ℕ) → offset < 2 ^ 25 → Boxes offset size (Ok (make_vec_tagged offset size tag))
+  not_boxes : (refusal : Refusal) → Boxes offset size (Err refusal)
 
 vector_boxes : (used size tag : ℕ) → Boxes (offset_aligned used tag) size (vector used size tag)
 unfolding vector to_vec_val
@@ -71,8 +57,8 @@ vector_boxes used size tag =
 
 -- a value in the memory that is then in use, of which there is no less than before
 data Allocates (lent used : ℕ) : allocation.AfterAllocation → Type 0 where
-  allocated : (value more : ℕ) (memory : List ℕ) → used ≤ more → more ≤ lent → Inside more value → length memory ≡ lent → Allocates lent used (allocation.after_allocation (Allocated value more) memory)
-  not_allocated : (refusal : Refusal) (memory : List ℕ) → Allocates lent used (allocation.after_allocation (NotAllocated refusal) memory)
+  allocated : (value more : ℕ) (memory : List ℕ) → used ≤ more → more ≤ lent → Inside more value → length memory ≡ lent → Allocates lent used (allocation.after_allocation (Ok (value, more)) memory)
+  not_allocated : (refusal : Refusal) (memory : List ℕ) → Allocates lent used (allocation.after_allocation (Err refusal) memory)
 
 -- a vector ends where its box says
 box_inside : (offset size tag : ℕ) → offset < 2 ^ 25 → size < 2 ^ 16 → Inside (offset + size) (make_vec_tagged offset size tag)
@@ -80,7 +66,7 @@ box_inside offset size tag small short vec =
     let e = pointer_back offset size tag small short in
     subst (λ (p : FatPointer). p.offset + p.size ≤ offset + size) (sym e) (omega arith)
 
-stored_keeps : (memory payload : List ℕ) (used size offset : ℕ) (result : ValueResult) → used ≤ offset → size < 2 ^ 16 → Boxes offset size result
+stored_keeps : (memory payload : List ℕ) (used size offset : ℕ) (result : Result ℕ Refusal) → used ≤ offset → size < 2 ^ 16 → Boxes offset size result
     → Allocates (length memory) used (vector_stored memory payload used size offset result)
 unfolding vector_stored
 stored_keeps memory payload used size offset _ above short (boxes tag small) =
@@ -119,7 +105,7 @@ module _ {asked : Type 0} (registers : Registers) (stack memory : List ℕ) (nex
       either (Keeps asked (length memory)) (leb 1000 height) _ _ (λ _. refused _ _ _)
       (λ room. placed_keeps (length memory) stack registers next height _ r low (leb-false _ _ room) (alloc_keeps memory payload registers.memory size tag short))
 
-  sized_keeps : (none : List ℕ) (tag : ℕ) (result : PopResult) → Pops stack registers.height result → Keeps asked (length memory) (sized stack memory none registers next tag result)
+  sized_keeps : (none : List ℕ) (tag : ℕ) (result : Result (ℕ × ℕ) Refusal) → Pops stack registers.height result → Keeps asked (length memory) (sized stack memory none registers next tag result)
   unfolding sized
   sized_keeps none tag _ (popped new less) =
       either (Keeps asked (length memory)) (ltb 65535 (to_u32 (get_or stack new 0))) _ _ (λ _. refused _ _ _)
@@ -132,10 +118,10 @@ module _ {asked : Type 0} (registers : Registers) (stack memory : List ℕ) (nex
 
   -- ---- change
 
-  changed_long : (m : List ℕ) (pointer : FatPointer) (index payload : ℕ) (result : SizeResult) → length (changed m pointer index payload result).memory ≡ length m
+  changed_long : (m : List ℕ) (pointer : FatPointer) (index payload : ℕ) (result : Result ℕ Refusal) → length (changed m pointer index payload result).memory ≡ length m
   unfolding changed
-  changed_long m pointer index payload (NoSize refusal) = refl
-  changed_long m pointer index payload (Size width) =
+  changed_long m pointer index payload (Err refusal) = refl
+  changed_long m pointer index payload (Ok width) =
       either (λ (a : change.AfterChange). length a.memory ≡ length m) (leb (pointer.size / width) index) _ _ (λ _. refl)
       (λ _. either (λ (a : change.AfterChange). length a.memory ≡ length m) (inside m pointer) _ _ (λ _. length-sets m (pointer.offset + index * width) (little_endian width payload)) (λ _. refl))
 
@@ -145,30 +131,30 @@ module _ {asked : Type 0} (registers : Registers) (stack memory : List ℕ) (nex
       length_front memory (changed (take registers.memory memory) pointer index.0 payload (element_size_bytes tag)).memory registers.memory
       (changed_long (take registers.memory memory) pointer index.0 payload (element_size_bytes tag))
 
-  mutated_goes : (height : ℕ) (result : ChangeResult) → height ≤ registers.height → Goes asked (length memory) stack (mutated registers next height result)
+  mutated_goes : (height : ℕ) (result : Result ⊤ Refusal) → height ≤ registers.height → Goes asked (length memory) stack (mutated registers next height result)
   unfolding mutated
-  mutated_goes height Changed low = goes _ (lowered (length memory) registers stack next height r low)
-  mutated_goes height (NotChanged refusal) low = stops refusal
+  mutated_goes height (Ok tt) low = goes _ (lowered (length memory) registers stack next height r low)
+  mutated_goes height (Err refusal) low = stops refusal
 
-  changed_keeps : (m : List ℕ) (result : RegistersResult) → Goes asked (length memory) stack result → length m ≡ length memory → Keeps asked (length memory) (on_memory result stack m)
+  changed_keeps : (m : List ℕ) (result : Result Registers Refusal) → Goes asked (length memory) stack result → length m ≡ length memory → Keeps asked (length memory) (on_memory result stack m)
   changed_keeps m _ (goes after sound) long = finished after stack m sound long
   changed_keeps m _ (stops refusal) long = refused refusal stack m
 
   abbrev On : ChangedTo → Type 0
   On a = Keeps asked (length memory) (on_memory a.result stack a.memory)
 
-  mutate_at_keeps : (height : ℕ) (index : ElementIndex) (payload tag : ℕ) (result : PointerResult) → height ≤ registers.height
+  mutate_at_keeps : (height : ℕ) (index : ElementIndex) (payload tag : ℕ) (result : Result FatPointer Refusal) → height ≤ registers.height
       → On (mutate_at memory registers next height index payload tag result)
   unfolding mutate_at
-  mutate_at_keeps height index payload tag (Pointer pointer) low = changed_keeps _ _ (mutated_goes height _ low) (in_use_long pointer index payload tag)
-  mutate_at_keeps height index payload tag (NoPointer refusal) low = refused refusal stack memory
+  mutate_at_keeps height index payload tag (Ok pointer) low = changed_keeps _ _ (mutated_goes height _ low) (in_use_long pointer index payload tag)
+  mutate_at_keeps height index payload tag (Err refusal) low = refused refusal stack memory
 
-  mutate_last_keeps : (height payload index : ℕ) (result : LastResult) → height ≤ registers.height → On (mutate_last memory registers next height payload index result)
+  mutate_last_keeps : (height payload index : ℕ) (result : Result ℕ Refusal) → height ≤ registers.height → On (mutate_last memory registers next height payload index result)
   unfolding mutate_last mutate
-  mutate_last_keeps height payload index (Last vector) low = mutate_at_keeps height _ _ _ (to_fat_pointer vector) low
-  mutate_last_keeps height payload index (NoLast refusal) low = refused refusal stack memory
+  mutate_last_keeps height payload index (Ok vector) low = mutate_at_keeps height _ _ _ (to_fat_pointer vector) low
+  mutate_last_keeps height payload index (Err refusal) low = refused refusal stack memory
 
-  mutate_two_keeps : (result : PopTwoResult) → PopsTwo stack registers.height result → On (mutate_two stack memory registers next result)
+  mutate_two_keeps : (result : Result (ℕ × ℕ × ℕ) Refusal) → PopsTwo stack registers.height result → On (mutate_two stack memory registers next result)
   unfolding mutate_two
   mutate_two_keeps _ (popped_two a b less below) = mutate_last_keeps b _ _ _ (omega arith)
   mutate_two_keeps _ (not_popped_two refusal) = refused refusal stack memory

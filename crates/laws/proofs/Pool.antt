@@ -8,11 +8,7 @@ use lib.Dec.{leb}
 use lib.ListN.{length, get_or, set, length-set, get_or-append}
 use borrow.Author.Tests.{leb-false}
 use Rattle.errors.specs.declared.Refusal.{Refusal}
-use Rattle.bytecode.specs.declared.OperandResult.{OperandResult}
-use Rattle.bytecode.specs.declared.OperandResult.TheVariants.{Operand, NoOperand}
 use Rattle.pools.specs.Pool.{entry_of, entries_of, has_room, Pooled, pooled, new_entry, interned, end_to_end}
-use Rattle.pools.specs.declared.InternResult.{InternResult}
-use Rattle.pools.specs.declared.InternResult.TheVariants.{NotInterned}
 use Rattle.pools.proofs.Interns.{room, when_room, when_full}
 use Rattle.pools.proofs.Laws.{length_entries, getD_entries, same_lengths, joined, still_sound}
 use Rattle.values.specs.Values.{to_calldata_val}
@@ -20,12 +16,13 @@ use Rattle.machine.specs.declared.Machine.{Machine}
 use Rattle.mechanism.specs.Registers.{registers_of, settled}
 use Rattle.mechanism.specs.Frames.{OnPool, on_pool, intern_sized, intern_calldata, with_entry, calldata_pushed, push_calldata}
 use Rattle.mechanism.specs.Registers.{machine_at}
-use Rattle.mechanism.specs.declared.MachineResult.TheVariants.{Onto, Refused}
 use Rattle.laws.proofs.Either.{either}
 use Rattle.laws.proofs.Parts.{Entries, Machined}
 use Rattle.laws.proofs.Values.{boxed_no_vec, no_vec_inside}
 use Rattle.laws.proofs.Stack.{set_inside}
 use Rattle.laws.proofs.Frames.{Same, frames_more, placed_sound}
+use Rattle.std.specs.Prelude.{Ok, Err, Result}
+use Rattle.pools.specs.declared.InstructionsRef.{InstructionsRef}
 
 -- a pool with no fewer entries, each old one as it was
 pub record Grows (pool ends : List ℕ) (entries : ℕ) (new_pool new_ends : List ℕ) (more : ℕ) : Type 0 where
@@ -38,7 +35,7 @@ same_pool pool ends entries = record { no_fewer = omega arith; same = λ i less.
 pub data Interns (pool ends : List ℕ) (entries : ℕ) : Pooled → Type 0 where
   interns : (used : ℕ) (new_pool new_ends : List ℕ) → Entries (length new_pool) new_ends used (entries + 1) → Grows pool ends entries new_pool new_ends (entries + 1)
       → Interns pool ends entries (pooled (new_entry entries used) new_pool new_ends)
-  not_interns : (refusal : Refusal) → Interns pool ends entries (pooled (NotInterned refusal) pool ends)
+  not_interns : (refusal : Refusal) → Interns pool ends entries (pooled (Err refusal) pool ends)
 
 module _ (pool ends : List ℕ) (bytes entries : ℕ) (calldata : List ℕ) (lent : length ends ≡ 1024) (sound : end_to_end ends bytes entries ≡ true) where
   abbrev after : Pooled
@@ -59,7 +56,7 @@ module _ (pool ends : List ℕ) (bytes entries : ℕ) (calldata : List ℕ) (len
       let r = room (length pool) bytes entries (length calldata) held in
       let result : after.answer ≡ new_entry entries used = ap (λ (p : Pooled). p.answer) (when_room pool ends bytes entries calldata held) in
       let long = same_lengths pool ends bytes entries calldata in
-      subst (λ (answer : InternResult). Interns pool ends entries (pooled answer after.pool after.ends)) (sym result)
+      subst (λ (answer : Result (InstructionsRef × ℕ) Refusal). Interns pool ends entries (pooled answer after.pool after.ends)) (sym result)
       (interns used after.pool after.ends
       (record {
         small = r.small;
@@ -81,8 +78,8 @@ module _ (pool ends : List ℕ) (bytes entries : ℕ) (calldata : List ℕ) (len
 pub data Pushed (asked : Type 0) (memory save : ℕ) (pool ends : List ℕ) (machine : Machine) : OnPool → Type 0 where
   pushed : (machine-after : Machine) (stack new_pool new_ends : List ℕ) → Machined asked memory (length new_pool) save stack new_ends machine-after
       → Grows pool ends machine.entries new_pool new_ends machine-after.entries → Same machine machine-after
-      → Pushed asked memory save pool ends machine (on_pool (Onto machine-after) stack new_pool new_ends)
-  refused : (refusal : Refusal) (stack new_pool new_ends : List ℕ) → Pushed asked memory save pool ends machine (on_pool (Refused refusal) stack new_pool new_ends)
+      → Pushed asked memory save pool ends machine (on_pool (Ok machine-after) stack new_pool new_ends)
+  refused : (refusal : Refusal) (stack new_pool new_ends : List ℕ) → Pushed asked memory save pool ends machine (on_pool (Err refusal) stack new_pool new_ends)
 
 module _ {asked : Type 0} (memory save : ℕ) (stack pool ends : List ℕ) (machine : Machine) (m : Machined asked memory (length pool) save stack ends machine) (next : ℕ) where
   entry_sound : (bytes : ℕ) (new_pool new_ends : List ℕ) → machine.height < 1000 → Entries (length new_pool) new_ends bytes (machine.entries + 1)
@@ -122,10 +119,10 @@ module _ {asked : Type 0} (memory save : ℕ) (stack pool ends : List ℕ) (mach
       (entry_grows bytes new_pool new_ends grows) (entry_same bytes)
   pushed_by _ low (not_interns refusal) = refused refusal stack pool ends
 
-  sized_interns : (place : ℕ) (result : OperandResult) → Interns pool ends machine.entries (intern_sized pool ends machine place result)
+  sized_interns : (place : ℕ) (result : Result ℕ Refusal) → Interns pool ends machine.entries (intern_sized pool ends machine place result)
   unfolding intern_sized
-  sized_interns place (Operand size) = intern_keeps pool ends machine.pool machine.entries _ m.entries.ends_long m.entries.joined
-  sized_interns place (NoOperand refusal) = not_interns refusal
+  sized_interns place (Ok size) = intern_keeps pool ends machine.pool machine.entries _ m.entries.ends_long m.entries.joined
+  sized_interns place (Err refusal) = not_interns refusal
 
   pub calldata_keeps : (place : ℕ) → Pushed asked memory save pool ends machine (push_calldata stack pool ends machine place next)
   unfolding push_calldata intern_calldata

@@ -8,22 +8,13 @@ use lib.ListN.{length}
 use Rattle.errors.specs.declared.Refusal.{Refusal}
 use Rattle.errors.specs.declared.Refusal.TheVariants.{WrongPhaseOrUnsound}
 use Rattle.pools.specs.Pool.{Pooled, has_room, new_entry, interned}
-use Rattle.pools.specs.declared.InternResult.{InternResult}
-use Rattle.pools.specs.declared.InternResult.TheVariants.{Interned, NotInterned}
 use Rattle.pools.proofs.Interns.{when_room, when_full}
 use Rattle.storage.specs.declared.Task.{Task}
 use Rattle.storage.specs.declared.TaskId.{TaskId}
 use Rattle.image.specs.Table.{SavedTable}
-use Rattle.image.specs.declared.SaveResult.{SaveResult}
-use Rattle.image.specs.declared.SaveResult.TheVariants.{NotSaved}
-use Rattle.memory.specs.declared.unbox.Return.TheVariants.{NoReturn}
 use Rattle.table_image.specs.Creation.{creation_tests}
-use Rattle.table_image.specs.declared.creation.CreationResult.{CreationResult}
-use Rattle.table_image.specs.declared.creation.CreationResult.TheVariants.{Fit, Unfit}
 use Rattle.machine.specs.declared.Verb.{Verb}
 use Rattle.machine.specs.declared.Verb.TheVariants.{Start, Rerun, Continue}
-use Rattle.machine.specs.declared.CreateResult.{CreateResult}
-use Rattle.machine.specs.declared.CreateResult.TheVariants.{NotCreated}
 use Rattle.machine.specs.declared.Outcome.TheVariants.{Refused}
 use Rattle.machine.specs.World.{World, with_machine}
 use Rattle.machine.specs.Run.{run}
@@ -38,6 +29,10 @@ use Rattle.laws.proofs.Either.{either}
 use Rattle.laws.proofs.Saves.{Saves, saves, not_saves, save_keeps}
 use Rattle.laws.proofs.SoundnessCalls.{allowed_passes}
 use Rattle.laws.proofs.RefusedInside.{run_other}
+use Rattle.std.specs.Prelude.{Ok, Err, Result}
+use Rattle.machine.specs.declared.Machine.{Machine}
+use Rattle.pools.specs.declared.InstructionsRef.{InstructionsRef}
+use Rattle.table_image.specs.declared.creation.Fit.{Fit}
 
 -- ---- start, rerun and continue: 26
 
@@ -85,7 +80,7 @@ continue_in_phase fuel w e = call_not_allowed Continue fuel w (by_phase w Contin
 
 -- ---- the read of a value: 26 for the record, for its phase and for the position
 
-pub value_not_readable : (position : ℕ) (w : World) → readable w.machine (is_sound w) position ≡ false → value_read position w ≡ read_to (NoReturn WrongPhaseOrUnsound) w
+pub value_not_readable : (position : ℕ) (w : World) → readable w.machine (is_sound w) position ≡ false → value_read position w ≡ read_to (Err WrongPhaseOrUnsound) w
 unfolding value_read value_at
 value_not_readable position w e = simp e
 
@@ -101,20 +96,20 @@ task_leaves id w = refl
 -- ---- the save by the host: 26, 12, 15, 24
 
 -- an answer, with everything as it was
-abbrev answered : World → SaveResult → SavedTo
+abbrev answered : World → Result ℕ Refusal → SavedTo
 answered w result = saved_to (record { machine = w.machine; result = result }) w.table w.stack w.memory w.pool w.ends w.save
 
-table_not_saved : (w : World) (refusal : Refusal) (a : SavedTable) → Saves w.save a → (host_save_as w a).report.result ≡ NotSaved refusal → host_save_as w a ≡ answered w (NotSaved refusal)
+table_not_saved : (w : World) (refusal : Refusal) (a : SavedTable) → Saves w.save a → (host_save_as w a).report.result ≡ Err refusal → host_save_as w a ≡ answered w (Err refusal)
 unfolding host_saved
 table_not_saved w refusal _ (saves size after fits long) e = absurd (let z : ◌≡◌ {A = ℕ} 0 1 = cc in omega arith)
 table_not_saved w refusal _ (not_saves other) e = ap (answered w) e
 
 -- whatever it is refused for
-pub save_not_saved : (w : World) (refusal : Refusal) → (host_save w).report.result ≡ NotSaved refusal
-    → host_save w ≡ saved_to (record { machine = w.machine; result = NotSaved refusal }) w.table w.stack w.memory w.pool w.ends w.save
+pub save_not_saved : (w : World) (refusal : Refusal) → (host_save w).report.result ≡ Err refusal
+    → host_save w ≡ saved_to (record { machine = w.machine; result = Err refusal }) w.table w.stack w.memory w.pool w.ends w.save
 unfolding host_save
 save_not_saved w refusal =
-    either (λ (s : SavedTo). s.report.result ≡ NotSaved refusal → s ≡ answered w (NotSaved refusal)) (is_sound w) _ _
+    either (λ (s : SavedTo). s.report.result ≡ Err refusal → s ≡ answered w (Err refusal)) (is_sound w) _ _
     (λ _. table_not_saved w refusal _ (save_keeps w.machine.next_id.0 w.table w.pool w.ends w.machine.entries w.save)) (λ _ e. ap (answered w) e)
 
 -- ---- each
@@ -145,16 +140,16 @@ nothing_written w lent _ (no_task id refusal e) = task_leaves id w
 
 module _ (table : List Task) (pool ends image program : List ℕ) (refusal : Refusal) where
   abbrev Nothing : Made → Type 0
-  Nothing m = m.answer ≡ NotCreated refusal → m ≡ made (NotCreated refusal) table pool ends
+  Nothing m = m.answer ≡ Err refusal → m ≡ made (Err refusal) table pool ends
 
-  full : (next_id s_len : ℕ) (other : Refusal) → Nothing (create_behind table image next_id s_len pool ends (NotInterned other))
+  full : (next_id s_len : ℕ) (other : Refusal) → Nothing (create_behind table image next_id s_len pool ends (Err other))
   unfolding create_behind
-  full next_id s_len other e = ap (λ (r : CreateResult). made r table pool ends) e
+  full next_id s_len other e = ap (λ (r : Result Machine Refusal). made r table pool ends) e
 
-  fits : (next_id s_len : ℕ) (after more : List ℕ) (result : InternResult) → result ≡ new_entry 0 (0 + length program) → Nothing (create_behind table image next_id s_len after more result)
+  fits : (next_id s_len : ℕ) (after more : List ℕ) (result : Result (InstructionsRef × ℕ) Refusal) → result ≡ new_entry 0 (0 + length program) → Nothing (create_behind table image next_id s_len after more result)
   unfolding create_behind
-  fits next_id s_len after more (Interned entry bytes) is e = absurd (let z : ◌≡◌ {A = ℕ} 0 1 = cc in omega arith)
-  fits next_id s_len after more (NotInterned other) is e = absurd (let z : ◌≡◌ {A = ℕ} 0 1 = cc in omega arith)
+  fits next_id s_len after more (Ok (entry, bytes)) is e = absurd (let z : ◌≡◌ {A = ℕ} 0 1 = cc in omega arith)
+  fits next_id s_len after more (Err other) is e = absurd (let z : ◌≡◌ {A = ℕ} 0 1 = cc in omega arith)
 
   behind : (next_id s_len : ℕ) (test : Bool) → has_room (length pool) 0 0 (length program) ≡ test
       → Nothing (create_behind table image next_id s_len (interned pool ends 0 0 program).pool (interned pool ends 0 0 program).ends (interned pool ends 0 0 program).answer)
@@ -162,12 +157,12 @@ module _ (table : List Task) (pool ends image program : List ℕ) (refusal : Ref
   behind next_id s_len false failed =
       subst (λ (p : Pooled). Nothing (create_behind table image next_id s_len p.pool p.ends p.answer)) (sym (when_full pool ends 0 0 program failed)) (full next_id s_len _)
 
-  by_tests : (result : CreationResult) → Nothing (create_fit table pool ends image program result)
+  by_tests : (result : Result Fit Refusal) → Nothing (create_fit table pool ends image program result)
   unfolding create_fit
-  by_tests (Fit next_id count s_len) = behind next_id.0 s_len (has_room (length pool) 0 0 (length program)) refl
-  by_tests (Unfit other) = λ e. ap (λ (r : CreateResult). made r table pool ends) e
+  by_tests (Ok fit) = behind fit.next_id.0 fit.s_len (has_room (length pool) 0 0 (length program)) refl
+  by_tests (Err other) = λ e. ap (λ (r : Result Machine Refusal). made r table pool ends) e
 
   -- whatever it is refused for, creation writes nothing
-  pub creation_not_created : (create table pool ends image program).answer ≡ NotCreated refusal → create table pool ends image program ≡ made (NotCreated refusal) table pool ends
+  pub creation_not_created : (create table pool ends image program).answer ≡ Err refusal → create table pool ends image program ≡ made (Err refusal) table pool ends
   unfolding create
   creation_not_created e = by_tests (creation_tests (length table) (length pool) (length program) image) e

@@ -12,42 +12,23 @@ use Rattle.errors.specs.declared.Refusal.{Refusal}
 use Rattle.errors.specs.Refusals.{number_of}
 use Rattle.bytecode.specs.Opcodes.{PUSH_U32, PUSH_STATE, PUSH_CALLDATA, PUSH_TASK_FIELD, PUSH_MAX_STATES, T_CREATE, T_GET_FIELD, T_SET_FIELD, T_DELETE, S_SAVE, S_LEN, DO, LOOP, LOOP_INDEX, CALL, END_CALL, DROP, DUP, SWAP, EQ, NEQ, LT, GT, JUMP_IF_FALSE, M_STI, M_ST, M_MUTA, MULI, MUL}
 use Rattle.bytecode.specs.Operands as bytecode
-use Rattle.bytecode.specs.declared.OperandResult.{OperandResult}
 use Rattle.inlinevec.specs.Stacks as stacks
 use Rattle.inlinevec.specs.declared.Loop.{Loop}
-use Rattle.inlinevec.specs.declared.Loops.{Loops}
 use Rattle.inlinevec.specs.declared.Frame.{Frame}
-use Rattle.inlinevec.specs.declared.Frames.{Frames}
-use Rattle.inlinevec.specs.declared.PopResult.{PopResult}
-use Rattle.inlinevec.specs.declared.LastResult.{LastResult}
-use Rattle.inlinevec.specs.declared.LoopsResult.{LoopsResult}
-use Rattle.inlinevec.specs.declared.PopLoopResult.{PopLoopResult}
-use Rattle.inlinevec.specs.declared.LastLoopResult.{LastLoopResult}
-use Rattle.inlinevec.specs.declared.FramesResult.{FramesResult}
-use Rattle.inlinevec.specs.declared.PopFrameResult.{PopFrameResult}
 use Rattle.values.specs.Values.{is_qnan, is_vec, is_u32_val, raw_tag, to_u32, to_bool_val, to_fat_pointer, one_vector, of_one_kind, product, mul_checked, mul_checked_i, alike, value_eq, value_cmp, to_vec_val}
 use Rattle.values.specs.declared.FatPointer.{FatPointer}
-use Rattle.values.specs.declared.PointerResult.{PointerResult}
-use Rattle.values.specs.declared.ValueResult.{ValueResult}
-use Rattle.values.specs.declared.ValueResult.TheVariants.{Value, NoValue}
 use Rattle.memory.specs.Allocation.{is_element_tag, offset_aligned, vector, vector_stored, alloc}
 use Rattle.memory.specs.Allocation as allocation
 use Rattle.memory.specs.Change as change
 use Rattle.memory.specs.Change.{element_size_bytes, changed, mut_vec, inside}
 use Rattle.memory.specs.Reads.{is_m_slice_eq}
-use Rattle.memory.specs.declared.SizeResult.{SizeResult}
-use Rattle.memory.specs.declared.SizeResult.TheVariants.{Size, NoSize}
 use Rattle.pools.specs.Pool as pools
 use Rattle.pools.specs.declared.InstructionsRef.{InstructionsRef}
-use Rattle.pools.specs.declared.BoundsResult.{BoundsResult}
 use Rattle.storage.specs.Storage as storage
 use Rattle.storage.specs.Tasks.{default_state, with_state}
 use Rattle.storage.specs.declared.Task.{Task}
 use Rattle.storage.specs.declared.TaskId.{TaskId}
 use Rattle.storage.specs.declared.TaskState.{TaskState}
-use Rattle.storage.specs.declared.DefaultResult.{DefaultResult}
-use Rattle.storage.specs.declared.FindResult.{FindResult}
-use Rattle.storage.specs.declared.RoomResult.{RoomResult}
 use Rattle.storage.specs.declared.StateChange.{StateChange}
 use Rattle.utf8.specs.Utf8.{valid}
 use Rattle.image.specs.Image.{written}
@@ -66,6 +47,8 @@ use Rattle.laws.proofs.Parts.{passes_kept}
 use Rattle.laws.proofs.Frames.{few_frames}
 use Rattle.laws.proofs.Step.{step_passes}
 use Rattle.laws.proofs.Finished.{finished}
+use Rattle.std.specs.Prelude.{Ok, Err, Result, ⊤}
+use Rattle.inlinevec.specs.declared.Two.{Two}
 
 -- another number than 26
 abbrev Other : Refusal → Type 0
@@ -84,7 +67,7 @@ test_fine holds refusal onward other fine = either Fine holds _ _ (λ _. fine) (
 
 operand_fine : (w : World) (behind size : ℕ) (onward : ℕ → StepResult) → ((n : ℕ) → Fine (onward n)) → Fine (operand w behind size onward)
 unfolding operand_found bytecode.operand
-operand_fine w behind size onward fine = either (λ (r : OperandResult). Fine (operand_found r onward)) (leb (place w + behind + size) (length (code w))) _ _ (λ _. fine _) (λ _. stops _ refl)
+operand_fine w behind size onward fine = either (λ (r : Result ℕ Refusal). Fine (operand_found r onward)) (leb (place w + behind + size) (length (code w))) _ _ (λ _. fine _) (λ _. stops _ refl)
 
 -- within the capacity, a pop or a look is refused for an empty stack alone
 some_fine : {A : Type 0} (P : A → Type 0) (capacity height : ℕ) (refuse : Refusal → A) (answer : A) → height ≤ capacity → ((refusal : Refusal) → Other refusal → P (refuse refusal)) → P answer
@@ -101,22 +84,22 @@ room_fine P capacity height refuse answer other fine = either P (ltb height capa
 pop_fine : (w : World) (height : ℕ) (onward : ℕ → ℕ → StepResult) → height ≤ 1000 → ((value below : ℕ) → below ≤ 1000 → Fine (onward value below)) → Fine (pop w height onward)
 unfolding popped stacks.pop
 pop_fine w height onward low fine =
-    some_fine (λ (r : PopResult). Fine (popped r onward)) 1000 height _ _ low (λ refusal other. stops refusal other) (fine _ (height - 1) (omega arith))
+    some_fine (λ (r : Result (ℕ × ℕ) Refusal). Fine (popped r onward)) 1000 height _ _ low (λ refusal other. stops refusal other) (fine _ (height - 1) (omega arith))
 
 last_fine : (w : World) (height : ℕ) (onward : ℕ → StepResult) → height ≤ 1000 → ((value : ℕ) → Fine (onward value)) → Fine (last w height onward)
 unfolding looked_at stacks.last
-last_fine w height onward low fine = some_fine (λ (r : LastResult). Fine (looked_at r onward)) 1000 height _ _ low (λ refusal other. stops refusal other) (fine _)
+last_fine w height onward low fine = some_fine (λ (r : Result ℕ Refusal). Fine (looked_at r onward)) 1000 height _ _ low (λ refusal other. stops refusal other) (fine _)
 
 push_fine : (w : World) (to height value : ℕ) → Fine (push w to height value)
 unfolding push
 push_fine w to height value = test_fine (ltb height 1000) _ _ refl (goes _)
 
 -- what a calculation is refused with
-data Calculates : ValueResult → Type 0 where
-  gives : (v : ℕ) → Calculates (Value v)
-  no_value : (refusal : Refusal) → Other refusal → Calculates (NoValue refusal)
+data Calculates : Result ℕ Refusal → Type 0 where
+  gives : (v : ℕ) → Calculates (Ok v)
+  no_value : (refusal : Refusal) → Other refusal → Calculates (Err refusal)
 
-calculated_fine : (result : ValueResult) (onward : ℕ → StepResult) → Calculates result → ((v : ℕ) → Fine (onward v)) → Fine (calculated result onward)
+calculated_fine : (result : Result ℕ Refusal) (onward : ℕ → StepResult) → Calculates result → ((v : ℕ) → Fine (onward v)) → Fine (calculated result onward)
 unfolding calculated
 calculated_fine _ onward (gives v) fine = fine v
 calculated_fine _ onward (no_value refusal other) fine = stops refusal other
@@ -170,13 +153,13 @@ vector_other used size tag =
 
 pointer_fine : (value : ℕ) (onward : FatPointer → StepResult) → ((vector : FatPointer) → Fine (onward vector)) → Fine (pointer value onward)
 unfolding pointed to_fat_pointer
-pointer_fine value onward fine = either (λ (r : PointerResult). Fine (pointed r onward)) (is_vec value) _ _ (λ _. fine _) (λ _. stops _ refl)
+pointer_fine value onward fine = either (λ (r : Result FatPointer Refusal). Fine (pointed r onward)) (is_vec value) _ _ (λ _. fine _) (λ _. stops _ refl)
 
 bytes_fine : (w : World) (vector : FatPointer) (onward : List ℕ → StepResult) → ((bytes : List ℕ) → Fine (onward bytes)) → Fine (bytes_of w vector onward)
 unfolding bytes_of
 bytes_fine w vector onward fine = test_fine (inside (memory_in_use w) vector) _ _ refl (fine _)
 
-stored_fine : (w : World) (to height size offset : ℕ) (payload : List ℕ) (result : ValueResult) → Calculates result
+stored_fine : (w : World) (to height size offset : ℕ) (payload : List ℕ) (result : Result ℕ Refusal) → Calculates result
     → Fine (allocated w to height (vector_stored w.memory payload w.machine.memory size offset result).memory (vector_stored w.memory payload w.machine.memory size offset result).answer)
 unfolding vector_stored allocated
 stored_fine w to height size offset payload _ (gives v) =
@@ -189,46 +172,46 @@ store_fine w to height size tag payload =
     calculated_fine _ _ (vector_other w.machine.memory size tag)
     (λ v. test_fine (ltb height 1000) _ _ refl (stored_fine w to height size (offset_aligned w.machine.memory tag) payload _ (vector_other w.machine.memory size tag)))
 
-changed_fine : (memory : List ℕ) (pointer : FatPointer) (index payload : ℕ) (onward : StepResult) (result : SizeResult) → ((refusal : Refusal) → result ≡ NoSize refusal → Other refusal) → Fine onward
+changed_fine : (memory : List ℕ) (pointer : FatPointer) (index payload : ℕ) (onward : StepResult) (result : Result ℕ Refusal) → ((refusal : Refusal) → result ≡ Err refusal → Other refusal) → Fine onward
     → Fine (element_changed (changed memory pointer index payload result).answer onward)
 unfolding changed element_changed
-changed_fine memory pointer index payload onward (NoSize refusal) other fine = stops refusal (other refusal refl)
-changed_fine memory pointer index payload onward (Size width) other fine =
+changed_fine memory pointer index payload onward (Err refusal) other fine = stops refusal (other refusal refl)
+changed_fine memory pointer index payload onward (Ok width) other fine =
     either (λ (a : change.AfterChange). Fine (element_changed a.answer onward)) (leb (pointer.size / width) index) _ _ (λ _. stops _ refl)
     (λ _. either (λ (a : change.AfterChange). Fine (element_changed a.answer onward)) (inside memory pointer) _ _ (λ _. fine) (λ _. stops _ refl))
 
-size_other : (tag : ℕ) (refusal : Refusal) → element_size_bytes tag ≡ NoSize refusal → Other refusal
+size_other : (tag : ℕ) (refusal : Refusal) → element_size_bytes tag ≡ Err refusal → Other refusal
 unfolding element_size_bytes
 size_other tag refusal =
-    either (λ (r : SizeResult). r ≡ NoSize refusal → Other refusal) (eqb tag 4) _ _ (λ _ e. absurd (let z : ◌≡◌ {A = ℕ} 0 1 = cc in omega arith))
-    (λ _. either (λ (r : SizeResult). r ≡ NoSize refusal → Other refusal) (eqb tag 6) _ _ (λ _ e. absurd (let z : ◌≡◌ {A = ℕ} 0 1 = cc in omega arith)) (λ _ e. other_by e refl))
+    either (λ (r : Result ℕ Refusal). r ≡ Err refusal → Other refusal) (eqb tag 4) _ _ (λ _ e. absurd (let z : ◌≡◌ {A = ℕ} 0 1 = cc in omega arith))
+    (λ _. either (λ (r : Result ℕ Refusal). r ≡ Err refusal → Other refusal) (eqb tag 6) _ _ (λ _ e. absurd (let z : ◌≡◌ {A = ℕ} 0 1 = cc in omega arith)) (λ _ e. other_by e refl))
   where
-    other_by : {first second : Refusal} → NoSize first ≡ NoSize second → Other first → Other second
+    other_by : {first second : Refusal} → ◌≡◌ {A = Result ℕ Refusal} (Err first) (Err second) → Other first → Other second
     other_by {first} {second} e other = let same : first ≡ second = cc in subst Other same other
 
-push_loop_fine : (loops : Loops) (opened : Loop) (onward : Loops → StepResult) → ((after : Loops) → Fine (onward after)) → Fine (push_loop loops opened onward)
-unfolding loop_pushed stacks.push_loop
-push_loop_fine loops opened onward fine = room_fine (λ (r : LoopsResult). Fine (loop_pushed r onward)) 2 loops.count _ _ (λ refusal other. stops refusal other) (fine _)
+push_loop_fine : (loops : Two Loop) (opened : Loop) (onward : Two Loop → StepResult) → ((after : Two Loop) → Fine (onward after)) → Fine (push_loop loops opened onward)
+unfolding loop_pushed stacks.push_onto
+push_loop_fine loops opened onward fine = room_fine (λ (r : Result (Two Loop) Refusal). Fine (loop_pushed r onward)) 2 loops.count _ _ (λ refusal other. stops refusal other) (fine _)
 
-pop_loop_fine : (loops : Loops) (onward : Loop → Loops → StepResult) → loops.count ≤ 2 → ((innermost : Loop) (others : Loops) → Fine (onward innermost others)) → Fine (pop_loop loops onward)
-unfolding loop_popped stacks.pop_loop
-pop_loop_fine loops onward few fine = some_fine (λ (r : PopLoopResult). Fine (loop_popped r onward)) 2 loops.count _ _ few (λ refusal other. stops refusal other) (fine _ _)
+pop_loop_fine : (loops : Two Loop) (onward : Loop → Two Loop → StepResult) → loops.count ≤ 2 → ((innermost : Loop) (others : Two Loop) → Fine (onward innermost others)) → Fine (pop_loop loops onward)
+unfolding loop_popped stacks.pop_off
+pop_loop_fine loops onward few fine = some_fine (λ (r : Result (Loop × Two Loop) Refusal). Fine (loop_popped r onward)) 2 loops.count _ _ few (λ refusal other. stops refusal other) (fine _ _)
 
-last_loop_fine : (loops : Loops) (onward : Loop → StepResult) → loops.count ≤ 2 → ((innermost : Loop) → Fine (onward innermost)) → Fine (last_loop loops onward)
-unfolding loop_looked_at stacks.last_loop
-last_loop_fine loops onward few fine = some_fine (λ (r : LastLoopResult). Fine (loop_looked_at r onward)) 2 loops.count _ _ few (λ refusal other. stops refusal other) (fine _)
+last_loop_fine : (loops : Two Loop) (onward : Loop → StepResult) → loops.count ≤ 2 → ((innermost : Loop) → Fine (onward innermost)) → Fine (last_loop loops onward)
+unfolding loop_looked_at stacks.last_on
+last_loop_fine loops onward few fine = some_fine (λ (r : Result Loop Refusal). Fine (loop_looked_at r onward)) 2 loops.count _ _ few (λ refusal other. stops refusal other) (fine _)
 
-push_frame_fine : (frames : Frames) (entered : Frame) (onward : Frames → StepResult) → ((after : Frames) → Fine (onward after)) → Fine (push_frame frames entered onward)
-unfolding frame_pushed stacks.push_frame
-push_frame_fine frames entered onward fine = room_fine (λ (r : FramesResult). Fine (frame_pushed r onward)) 2 frames.count _ _ (λ refusal other. stops refusal other) (fine _)
+push_frame_fine : (frames : Two Frame) (entered : Frame) (onward : Two Frame → StepResult) → ((after : Two Frame) → Fine (onward after)) → Fine (push_frame frames entered onward)
+unfolding frame_pushed stacks.push_onto
+push_frame_fine frames entered onward fine = room_fine (λ (r : Result (Two Frame) Refusal). Fine (frame_pushed r onward)) 2 frames.count _ _ (λ refusal other. stops refusal other) (fine _)
 
-pop_frame_fine : (frames : Frames) (onward : Frames → StepResult) → frames.count ≤ 2 → ((others : Frames) → Fine (onward others)) → Fine (pop_frame frames onward)
-unfolding frame_popped stacks.pop_frame
-pop_frame_fine frames onward few fine = some_fine (λ (r : PopFrameResult). Fine (frame_popped r onward)) 2 frames.count _ _ few (λ refusal other. stops refusal other) (fine _)
+pop_frame_fine : (frames : Two Frame) (onward : Two Frame → StepResult) → frames.count ≤ 2 → ((others : Two Frame) → Fine (onward others)) → Fine (pop_frame frames onward)
+unfolding frame_popped stacks.pop_off
+pop_frame_fine frames onward few fine = some_fine (λ (r : Result (Frame × Two Frame) Refusal). Fine (frame_popped r onward)) 2 frames.count _ _ few (λ refusal other. stops refusal other) (fine _)
 
 bounds_fine : (w : World) (entry : InstructionsRef) (onward : ℕ → ℕ → StepResult) → ((start end : ℕ) → Fine (onward start end)) → Fine (bounds w entry onward)
 unfolding bounds_found pools.bounds
-bounds_fine w entry onward fine = either (λ (r : BoundsResult). Fine (bounds_found r onward)) (ltb entry.0 (min w.machine.entries 1024)) _ _ (λ _. fine _ _) (λ _. stops _ refl)
+bounds_fine w entry onward fine = either (λ (r : Result (ℕ × ℕ) Refusal). Fine (bounds_found r onward)) (ltb entry.0 (min w.machine.entries 1024)) _ _ (λ _. fine _ _) (λ _. stops _ refl)
 
 intern_fine : (w : World) (calldata : List ℕ) (onward : InstructionsRef → World → StepResult) → ((entry : InstructionsRef) (after : World) → Fine (onward entry after)) → Fine (intern w calldata onward)
 unfolding interned pools.interned
@@ -238,11 +221,11 @@ intern_fine w calldata onward fine =
 
 find_fine : (task : Task) (id : TaskId) (onward : StepResult) → Fine onward → Fine (found (storage.find task id) onward)
 unfolding found storage.find
-find_fine task id onward fine = either (λ (r : FindResult). Fine (found r onward)) task.living _ _ (λ _. fine) (λ _. stops _ refl)
+find_fine task id onward fine = either (λ (r : Result ⊤ Refusal). Fine (found r onward)) task.living _ _ (λ _. fine) (λ _. stops _ refl)
 
 state_fine : (len : ℕ) (onward : TaskState → StepResult) → ((state : TaskState) → Fine (onward state)) → Fine (first_state (default_state len) onward)
 unfolding first_state default_state
-state_fine len onward fine = either (λ (r : DefaultResult). Fine (first_state r onward)) (eqb len 0) _ _ (λ _. stops _ refl) (λ _. fine _)
+state_fine len onward fine = either (λ (r : Result TaskState Refusal). Fine (first_state r onward)) (eqb len 0) _ _ (λ _. stops _ refl) (λ _. fine _)
 
 has_state_fine : (state : TaskState) (new_state : ℕ) (onward : StepResult) → Fine onward → Fine (has_state (with_state state new_state).answer onward)
 unfolding has_state with_state
@@ -253,8 +236,8 @@ has_state_fine state new_state onward fine =
 task_room_fine : (w : World) (title : ℕ) (onward : StepResult) → Fine onward → Fine (room w title onward)
 unfolding with_room storage.room
 task_room_fine w title onward fine =
-    either (λ (r : RoomResult). Fine (with_room r onward)) (leb 256 w.machine.next_id.0) _ _ (λ _. stops _ refl)
-    (λ _. either (λ (r : RoomResult). Fine (with_room r onward)) (ltb 128 title) _ _ (λ _. stops _ refl) (λ _. fine))
+    either (λ (r : Result ⊤ Refusal). Fine (with_room r onward)) (leb 256 w.machine.next_id.0) _ _ (λ _. stops _ refl)
+    (λ _. either (λ (r : Result ⊤ Refusal). Fine (with_room r onward)) (ltb 128 title) _ _ (λ _. stops _ refl) (λ _. fine))
 
 -- what a save is refused with
 data Refuses : Option Refusal → Type 0 where
@@ -264,7 +247,7 @@ data Refuses : Option Refusal → Type 0 where
 bounds_refuses : (ends : List ℕ) (entries : ℕ) (entry : InstructionsRef) (title : List ℕ) → Refuses (refusal_by title (pools.bounds ends entries entry))
 unfolding pools.bounds refusal_by
 bounds_refuses ends entries entry title =
-    either (λ (r : BoundsResult). Refuses (refusal_by title r)) (ltb entry.0 (min entries 1024)) _ _
+    either (λ (r : Result (ℕ × ℕ) Refusal). Refuses (refusal_by title r)) (ltb entry.0 (min entries 1024)) _ _
     (λ _. either Refuses (valid title) _ _ (λ _. not_refused) (λ _. other_refused _ refl)) (λ _. other_refused _ refl)
 
 either_refuses : (first later : Option Refusal) → Refuses first → Refuses later → Refuses (or_else first later)

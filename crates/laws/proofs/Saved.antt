@@ -15,7 +15,6 @@ use Rattle.storage.specs.declared.Task.{Task}
 use Rattle.slices.specs.Numbers.{Bytes}
 use Rattle.image.specs.Image.{Image}
 use Rattle.image.specs.Table.{load_table, saved_over, save_table}
-use Rattle.image.specs.declared.SaveResult.TheVariants.{Saved, NotSaved}
 use Rattle.roundtrips.proofs.Stores.{Pool}
 use Rattle.roundtrips.proofs.Loads.{Room, load_holds, reload, reload_none}
 use Rattle.roundtrips.proofs.Created.{load_none}
@@ -39,6 +38,7 @@ use Rattle.laws.proofs.Finished.{steps_to}
 use Rattle.laws.proofs.Creation.{none_image, none_joined, create_sound, fresh_new}
 use Rattle.laws.proofs.Main.{fresh_main}
 use Rattle.laws.proofs.Creates.{first_room, few, with_first, created_as, created_is, creates_exactly}
+use Rattle.std.specs.Prelude.{Ok, Err}
 
 module _ (table : List Task) (pool ends program : List ℕ) (lent : length ends ≡ 1024) where
   first_pool : (image : List ℕ) → Creatable table pool image program → Pool (with_first table pool ends image program)
@@ -163,14 +163,14 @@ ends_behind v = by (at_end v)
 module _ {program image : List ℕ} {w : World} (all : Bytes image) (fresh : FreshWorld program image w) where
   -- docs/REFERENCE.md, 'The task image': saving after loading a non-empty image gives the same bytes, after a zero-length one a lone kind 1 of zeros; the machine keeps their length
   pub host_saves_first : length (saved_first image) ≤ length w.save
-      → host_save w ≡ saved_to (record { machine = with_saved w.machine (length (saved_first image)); result = Saved (length (saved_first image)) })
+      → host_save w ≡ saved_to (record { machine = with_saved w.machine (length (saved_first image)); result = Ok (length (saved_first image)) })
       w.table w.stack w.memory w.pool w.ends (sets w.save 0 (saved_first image))
   unfolding saved_over host_saved
   host_saves_first fits = host_finds all fresh ∙ rw (le-leb (length (saved_first image)) (length w.save) fits)
 
   -- 24 if the save buffer is shorter
   pub host_save_short : length w.save < length (saved_first image)
-      → host_save w ≡ saved_to (record { machine = w.machine; result = NotSaved SaveBufferTooShort }) w.table w.stack w.memory w.pool w.ends w.save
+      → host_save w ≡ saved_to (record { machine = w.machine; result = Err SaveBufferTooShort }) w.table w.stack w.memory w.pool w.ends w.save
   unfolding saved_over host_saved
   host_save_short past = host_finds all fresh ∙ rw (lt-leb (length (saved_first image)) (length w.save) past)
 

@@ -11,16 +11,16 @@ use Rattle.errors.specs.declared.Refusal.{Refusal}
 use Rattle.storage.specs.declared.Task.{Task}
 use Rattle.image.specs.Image.{written}
 use Rattle.image.specs.Table.{living_tasks, first_refusal, image_of_tasks, SavedTable, saved_table, saved_over, saved_unless, save_tasks, save_table}
-use Rattle.image.specs.declared.SaveResult.TheVariants.{Saved, NotSaved}
 use Rattle.machine.specs.declared.Machine.{Machine}
 use Rattle.machine.specs.Machines.{with_saved}
 use Rattle.laws.proofs.Either.{either}
 use Rattle.laws.proofs.Parts.{Machined}
+use Rattle.std.specs.Prelude.{Ok, Err}
 
 -- an image that lies in the buffer, which is as long as before; or a refusal, and the buffer as it was
 pub data Saves (save : List ℕ) : SavedTable → Type 0 where
-  saves : (size : ℕ) (after : List ℕ) → size ≤ length save → length after ≡ length save → Saves save (saved_table (Saved size) after)
-  not_saves : (refusal : Refusal) → Saves save (saved_table (NotSaved refusal) save)
+  saves : (size : ℕ) (after : List ℕ) → size ≤ length save → length after ≡ length save → Saves save (saved_table (Ok size) after)
+  not_saves : (refusal : Refusal) → Saves save (saved_table (Err refusal) save)
 
 saved_over_keeps : (image save : List ℕ) → Saves save (saved_over image save)
 unfolding saved_over

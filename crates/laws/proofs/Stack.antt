@@ -12,34 +12,19 @@ use borrow.Author.Tests.{eqb-false, ltb-true}
 use Rattle.errors.specs.declared.Refusal.{Refusal}
 use Rattle.errors.specs.declared.Refusal.TheVariants.{StackOverflow}
 use Rattle.values.specs.Values.{to_bool_val, is_vec, mul_checked, mul_checked_i, value_cmp}
-use Rattle.values.specs.declared.ValueResult.{ValueResult}
 use Rattle.inlinevec.specs.Stacks as stacks
-use Rattle.inlinevec.specs.Stacks.{Stacked, stacked, if_room, if_some, push, pop, last, Two, of_loops, push_two, push_loop, pop_loop}
-use Rattle.inlinevec.specs.declared.HeightResult.TheVariants.{NewHeight, NoNewHeight}
-use Rattle.inlinevec.specs.declared.PopResult.{PopResult}
-use Rattle.inlinevec.specs.declared.PopResult.TheVariants.{Popped, NotPopped}
-use Rattle.inlinevec.specs.declared.LastResult.{LastResult}
-use Rattle.inlinevec.specs.declared.LastResult.TheVariants.{Last, NoLast}
+use Rattle.inlinevec.specs.Stacks.{Stacked, stacked, if_room, if_some, push, pop, last, push_two, push_onto, pop_off}
+use Rattle.inlinevec.specs.declared.Two.{Two}
 use Rattle.inlinevec.specs.declared.Loop.{Loop}
-use Rattle.inlinevec.specs.declared.Loops.{Loops}
-use Rattle.inlinevec.specs.declared.LoopsResult.{LoopsResult}
-use Rattle.inlinevec.specs.declared.LoopsResult.TheVariants.{NewLoops, NoNewLoops}
-use Rattle.inlinevec.specs.declared.PopLoopResult.{PopLoopResult}
-use Rattle.inlinevec.specs.declared.PopLoopResult.TheVariants.{PoppedLoop, NotPoppedLoop}
-use Rattle.inlinevec.specs.declared.LastLoopResult.{LastLoopResult}
-use Rattle.inlinevec.specs.declared.LastLoopResult.TheVariants.{LastLoop, NoLastLoop}
 use Rattle.mechanism.specs.Registers.{OnStack, on_stack, moved, in_use}
 use Rattle.mechanism.specs.Stack.{pop_second, pop_first, pop_two, pushed_to, push_value, finish, op_push, on_two, op_mul, op_compare, on_one, op_muli, dup_last, op_dup, swapped, op_swap, dropped, op_drop}
 use Rattle.mechanism.specs.Control.{looping, opened_to, do_two, op_do, looped, op_loop, index_of, op_loop_index, jumped, op_jump_if_false}
 use Rattle.mechanism.specs.Equality.{eq_values, turned_if, op_eq}
 use Rattle.mechanism.specs.declared.Registers.{Registers}
-use Rattle.mechanism.specs.declared.RegistersResult.{RegistersResult}
-use Rattle.mechanism.specs.declared.RegistersResult.TheVariants.{Next, Refused}
-use Rattle.mechanism.specs.declared.PopTwoResult.{PopTwoResult}
-use Rattle.mechanism.specs.declared.PopTwoResult.TheVariants.{PoppedTwo, NotPoppedTwo}
 use Rattle.laws.specs.Sound.{Inside}
 use Rattle.laws.proofs.Either.{either}
 use Rattle.laws.proofs.Values.{Scalar, scalar, no_scalar, boxed_no_vec, no_vec_inside, mul_scalar, muli_scalar, compare_scalar, eq_scalar}
+use Rattle.std.specs.Prelude.{Ok, Err, Result}
 
 -- a height, so many loops and so many bytes in use are sound beside a stack and so many bytes of lent memory; what is behind `asked` holds where it is asked
 pub record Holds (asked : Type 0) (lent height loops used : ℕ) (stack : List ℕ) : Type 0 where
@@ -55,15 +40,15 @@ Registered asked lent registers stack = Holds asked lent registers.height regist
 
 -- finished with sound registers, or refused
 pub data Keeps (asked : Type 0) (lent : ℕ) : OnStack → Type 0 where
-  finished : (registers : Registers) (stack : List ℕ) → Registered asked lent registers stack → Keeps asked lent (on_stack (Next registers) stack)
-  refused : (refusal : Refusal) (stack : List ℕ) → Keeps asked lent (on_stack (Refused refusal) stack)
+  finished : (registers : Registers) (stack : List ℕ) → Registered asked lent registers stack → Keeps asked lent (on_stack (Ok registers) stack)
+  refused : (refusal : Refusal) (stack : List ℕ) → Keeps asked lent (on_stack (Err refusal) stack)
 
 -- the same of an instruction that leaves the stack
-pub data Goes (asked : Type 0) (lent : ℕ) (stack : List ℕ) : RegistersResult → Type 0 where
-  goes : (registers : Registers) → Registered asked lent registers stack → Goes asked lent stack (Next registers)
-  stops : (refusal : Refusal) → Goes asked lent stack (Refused refusal)
+pub data Goes (asked : Type 0) (lent : ℕ) (stack : List ℕ) : Result Registers Refusal → Type 0 where
+  goes : (registers : Registers) → Registered asked lent registers stack → Goes asked lent stack (Ok registers)
+  stops : (refusal : Refusal) → Goes asked lent stack (Err refusal)
 
-pub unwritten : {asked : Type 0} (lent : ℕ) (stack : List ℕ) (result : RegistersResult) → Goes asked lent stack result → Keeps asked lent (on_stack result stack)
+pub unwritten : {asked : Type 0} (lent : ℕ) (stack : List ℕ) (result : Result Registers Refusal) → Goes asked lent stack result → Keeps asked lent (on_stack result stack)
 unwritten lent stack _ (goes registers r) = finished registers stack r
 unwritten lent stack _ (stops refusal) = refused refusal stack
 
@@ -80,9 +65,9 @@ lowered lent registers stack place height r low = record {
 
 -- ---- pops
 
-pub data Pops (stack : List ℕ) (height : ℕ) : PopResult → Type 0 where
-  popped : (new : ℕ) → new < height → Pops stack height (Popped (get_or stack new 0) new)
-  not_popped : (refusal : Refusal) → Pops stack height (NotPopped refusal)
+pub data Pops (stack : List ℕ) (height : ℕ) : Result (ℕ × ℕ) Refusal → Type 0 where
+  popped : (new : ℕ) → new < height → Pops stack height (Ok (get_or stack new 0, new))
+  not_popped : (refusal : Refusal) → Pops stack height (Err refusal)
 
 pub pops : (stack : List ℕ) (height : ℕ) → Pops stack height (pop stack height)
 unfolding pop if_some
@@ -90,16 +75,16 @@ pops stack height =
     either (Pops stack height) (eqb height 0) _ _ (λ _. not_popped _)
     (λ some. either (Pops stack height) (leb height 1000) _ _ (λ _. popped (height - 1) (let n = eqb-false height 0 some in omega (arith, n))) (λ _. not_popped _))
 
-pub data PopsTwo (stack : List ℕ) (height : ℕ) : PopTwoResult → Type 0 where
-  popped_two : (a b : ℕ) → a < height → b < a → PopsTwo stack height (PoppedTwo (get_or stack a 0) (get_or stack b 0) b)
-  not_popped_two : (refusal : Refusal) → PopsTwo stack height (NotPoppedTwo refusal)
+pub data PopsTwo (stack : List ℕ) (height : ℕ) : Result (ℕ × ℕ × ℕ) Refusal → Type 0 where
+  popped_two : (a b : ℕ) → a < height → b < a → PopsTwo stack height (Ok (get_or stack a 0, get_or stack b 0, b))
+  not_popped_two : (refusal : Refusal) → PopsTwo stack height (Err refusal)
 
-pops_second : (stack : List ℕ) (height a : ℕ) (result : PopResult) → a < height → Pops stack a result → PopsTwo stack height (pop_second (get_or stack a 0) result)
+pops_second : (stack : List ℕ) (height a : ℕ) (result : Result (ℕ × ℕ) Refusal) → a < height → Pops stack a result → PopsTwo stack height (pop_second (get_or stack a 0) result)
 unfolding pop_second
 pops_second stack height a _ less (popped b below) = popped_two a b less below
 pops_second stack height a _ less (not_popped refusal) = not_popped_two refusal
 
-pops_first : (stack : List ℕ) (height : ℕ) (result : PopResult) → Pops stack height result → PopsTwo stack height (pop_first stack result)
+pops_first : (stack : List ℕ) (height : ℕ) (result : Result (ℕ × ℕ) Refusal) → Pops stack height result → PopsTwo stack height (pop_first stack result)
 unfolding pop_first
 pops_first stack height _ (popped a less) = pops_second stack height a _ less (pops stack a)
 pops_first stack height _ (not_popped refusal) = not_popped_two refusal
@@ -108,9 +93,9 @@ pub pops_two : (stack : List ℕ) (height : ℕ) → PopsTwo stack height (pop_t
 unfolding pop_two
 pops_two stack height = pops_first stack height _ (pops stack height)
 
-pub data Looks (stack : List ℕ) (height : ℕ) : LastResult → Type 0 where
-  looks : (at : ℕ) → at < height → Looks stack height (Last (get_or stack at 0))
-  no_look : (refusal : Refusal) → Looks stack height (NoLast refusal)
+pub data Looks (stack : List ℕ) (height : ℕ) : Result ℕ Refusal → Type 0 where
+  looks : (at : ℕ) → at < height → Looks stack height (Ok (get_or stack at 0))
+  no_look : (refusal : Refusal) → Looks stack height (Err refusal)
 
 pub lasts : (stack : List ℕ) (height : ℕ) → Looks stack height (last stack height)
 unfolding last if_some
@@ -141,7 +126,7 @@ pushed lent registers stack place height value r low room new = record {
 }
 
 abbrev room : Bool → List ℕ → ℕ → ℕ → Stacked
-room b stack height value = cond b (stacked (NewHeight (height + 1)) (set stack height value)) (stacked (NoNewHeight StackOverflow) stack)
+room b stack height value = cond b (stacked (Ok (height + 1)) (set stack height value)) (stacked (Err StackOverflow) stack)
 
 in_room : {asked : Type 0} (b : Bool) (lent : ℕ) (registers : Registers) (stack : List ℕ) (place height value : ℕ) → ltb height 1000 ≡ b → Registered asked lent registers stack → height ≤ registers.height
     → (asked → Inside registers.memory value) → Keeps asked lent (on_stack (pushed_to registers place (room b stack height value).answer) (room b stack height value).stack)
@@ -159,7 +144,7 @@ pub scalar_pushed : {asked : Type 0} (lent : ℕ) (registers : Registers) (stack
     → is_vec value ≡ false → Keeps asked lent (push_value stack registers place height value)
 scalar_pushed lent registers stack place height value r low none = value_pushed lent registers stack place height value r low (λ _. no_vec_inside registers.memory value none)
 
-finishes : {asked : Type 0} (lent : ℕ) (registers : Registers) (stack : List ℕ) (place height : ℕ) (result : ValueResult) → Registered asked lent registers stack → height ≤ registers.height
+finishes : {asked : Type 0} (lent : ℕ) (registers : Registers) (stack : List ℕ) (place height : ℕ) (result : Result ℕ Refusal) → Registered asked lent registers stack → height ≤ registers.height
     → Scalar result → Keeps asked lent (finish stack registers place height result)
 unfolding finish
 finishes lent registers stack place height _ r low (scalar v none) = scalar_pushed lent registers stack place height v r low none
@@ -167,27 +152,27 @@ finishes lent registers stack place height _ r low (no_scalar refusal) = refused
 
 -- ---- open loops
 
-data Opens : LoopsResult → Type 0 where
-  opens : (loops : Loops) → loops.count ≤ 2 → Opens (NewLoops loops)
-  not_opens : (refusal : Refusal) → Opens (NoNewLoops refusal)
+data Opens : Result (Two Loop) Refusal → Type 0 where
+  opens : (loops : Two Loop) → loops.count ≤ 2 → Opens (Ok loops)
+  not_opens : (refusal : Refusal) → Opens (Err refusal)
 
 one_more : (b : Bool) (two : Two Loop) (a : Loop)
     → (cond {A = Two Loop} b (record { count = two.count + 1; first = a; second = two.second }) (record { count = two.count + 1; first = two.first; second = a })).count ≡ two.count + 1
 one_more true two a = refl
 one_more false two a = refl
 
-loop_opens : (loops : Loops) (opened : Loop) → Opens (push_loop loops opened)
-unfolding push_loop if_room push_two
+loop_opens : (loops : Two Loop) (opened : Loop) → Opens (push_onto loops opened)
+unfolding push_onto if_room push_two
 loop_opens loops opened =
     either Opens (ltb loops.count 2) _ _
-    (λ test. opens _ (let n = one_more (eqb loops.count 0) (of_loops loops) opened in let l = ltb-true loops.count 2 test in omega (arith, n, l))) (λ _. not_opens _)
+    (λ test. opens _ (let n = one_more (eqb loops.count 0) loops opened in let l = ltb-true loops.count 2 test in omega (arith, n, l))) (λ _. not_opens _)
 
-data Closes : PopLoopResult → Type 0 where
-  closes : (last : Loop) (loops : Loops) → loops.count ≤ 2 → Closes (PoppedLoop last loops)
-  not_closes : (refusal : Refusal) → Closes (NotPoppedLoop refusal)
+data Closes : Result (Loop × Two Loop) Refusal → Type 0 where
+  closes : (last : Loop) (loops : Two Loop) → loops.count ≤ 2 → Closes (Ok (last, loops))
+  not_closes : (refusal : Refusal) → Closes (Err refusal)
 
-loop_closes : (loops : Loops) → loops.count ≤ 2 → Closes (pop_loop loops)
-unfolding pop_loop if_some stacks.pop_two
+loop_closes : (loops : Two Loop) → loops.count ≤ 2 → Closes (pop_off loops)
+unfolding pop_off if_some stacks.pop_two
 loop_closes loops few =
     either Closes (eqb loops.count 0) _ _ (λ _. not_closes _)
     (λ _. either Closes (leb loops.count 2) _ _ (λ _. closes _ _ (omega arith)) (λ _. not_closes _))
@@ -199,7 +184,7 @@ module _ {asked : Type 0} (lent : ℕ) (registers : Registers) (stack : List ℕ
   unfolding op_push
   push_keeps number = scalar_pushed lent registers stack next registers.height _ r (omega arith) (boxed_no_vec 6 number)
 
-  on_two_keeps : (calculate : ℕ → ℕ → ValueResult) (result : PopTwoResult) → ((a b : ℕ) → Scalar (calculate a b)) → PopsTwo stack registers.height result
+  on_two_keeps : (calculate : ℕ → ℕ → Result ℕ Refusal) (result : Result (ℕ × ℕ × ℕ) Refusal) → ((a b : ℕ) → Scalar (calculate a b)) → PopsTwo stack registers.height result
       → Keeps asked lent (on_two calculate stack registers next result)
   unfolding on_two
   on_two_keeps calculate _ scalars (popped_two a b less below) = finishes lent registers stack next b _ r (omega arith) (scalars _ _)
@@ -219,7 +204,7 @@ module _ {asked : Type 0} (lent : ℕ) (registers : Registers) (stack : List ℕ
       on_two_keeps (λ right left. turned_if is_eq (eq_values (in_use memory registers) left right)) _ (λ right left. eq_scalar (in_use memory registers) is_eq left right)
       (pops_two stack registers.height)
 
-  on_one_keeps : (calculate : ℕ → ValueResult) (result : PopResult) → ((a : ℕ) → Scalar (calculate a)) → Pops stack registers.height result
+  on_one_keeps : (calculate : ℕ → Result ℕ Refusal) (result : Result (ℕ × ℕ) Refusal) → ((a : ℕ) → Scalar (calculate a)) → Pops stack registers.height result
       → Keeps asked lent (on_one calculate stack registers next result)
   unfolding on_one
   on_one_keeps calculate _ scalars (popped new less) = finishes lent registers stack next new _ r (omega arith) (scalars _)
@@ -229,7 +214,7 @@ module _ {asked : Type 0} (lent : ℕ) (registers : Registers) (stack : List ℕ
   unfolding op_muli
   muli_keeps number = on_one_keeps (λ value. mul_checked_i value number) _ (λ value. muli_scalar value number) (pops stack registers.height)
 
-  dup_last_keeps : (result : LastResult) → Looks stack registers.height result → Keeps asked lent (dup_last stack registers next result)
+  dup_last_keeps : (result : Result ℕ Refusal) → Looks stack registers.height result → Keeps asked lent (dup_last stack registers next result)
   unfolding dup_last
   dup_last_keeps _ (looks at less) = value_pushed lent registers stack next registers.height (get_or stack at 0) r (omega arith) (λ it. r.inside it at less)
   dup_last_keeps _ (no_look refusal) = refused refusal stack
@@ -238,7 +223,7 @@ module _ {asked : Type 0} (lent : ℕ) (registers : Registers) (stack : List ℕ
   unfolding op_dup
   dup_keeps = dup_last_keeps _ (lasts stack registers.height)
 
-  swapped_keeps : (result : PopTwoResult) → PopsTwo stack registers.height result → Keeps asked lent (swapped stack registers next result)
+  swapped_keeps : (result : Result (ℕ × ℕ × ℕ) Refusal) → PopsTwo stack registers.height result → Keeps asked lent (swapped stack registers next result)
   unfolding swapped
   swapped_keeps _ (popped_two a b less below) =
       finished _ _ (record {
@@ -256,7 +241,7 @@ module _ {asked : Type 0} (lent : ℕ) (registers : Registers) (stack : List ℕ
   unfolding op_swap
   swap_keeps = swapped_keeps _ (pops_two stack registers.height)
 
-  dropped_goes : (result : PopResult) → Pops stack registers.height result → Goes asked lent stack (dropped registers next result)
+  dropped_goes : (result : Result (ℕ × ℕ) Refusal) → Pops stack registers.height result → Goes asked lent stack (dropped registers next result)
   unfolding dropped
   dropped_goes _ (popped new less) = goes _ (lowered lent registers stack next new r (omega arith))
   dropped_goes _ (not_popped refusal) = stops refusal
@@ -266,10 +251,10 @@ module _ {asked : Type 0} (lent : ℕ) (registers : Registers) (stack : List ℕ
   drop_goes = dropped_goes _ (pops stack registers.height)
 
   -- an instruction that does nothing
-  pub idle_goes : Goes asked lent stack (Next (moved registers next registers.height))
+  pub idle_goes : Goes asked lent stack (Ok (moved registers next registers.height))
   idle_goes = goes _ (lowered lent registers stack next registers.height r (omega arith))
 
-  jumped_goes : (target : ℕ) (result : PopResult) → Pops stack registers.height result → Goes asked lent stack (jumped registers next target result)
+  jumped_goes : (target : ℕ) (result : Result (ℕ × ℕ) Refusal) → Pops stack registers.height result → Goes asked lent stack (jumped registers next target result)
   unfolding jumped
   jumped_goes target _ (popped new less) =
       either (Goes asked lent stack) (eqb (get_or stack new 0) (to_bool_val false)) _ _ (λ _. goes _ (lowered lent registers stack target new r (omega arith)))
@@ -282,7 +267,7 @@ module _ {asked : Type 0} (lent : ℕ) (registers : Registers) (stack : List ℕ
 
   -- ---- loops
 
-  looping_sound : (place height : ℕ) (loops : Loops) → height ≤ registers.height → loops.count ≤ 2 → Registered asked lent (looping registers place height loops) stack
+  looping_sound : (place height : ℕ) (loops : Two Loop) → height ≤ registers.height → loops.count ≤ 2 → Registered asked lent (looping registers place height loops) stack
   looping_sound place height loops low few = record {
     high = omega (arith, r.high);
     few = few;
@@ -291,12 +276,12 @@ module _ {asked : Type 0} (lent : ℕ) (registers : Registers) (stack : List ℕ
     inside = λ it i less. r.inside it i (omega arith);
   }
 
-  opened_goes : (place height : ℕ) (result : LoopsResult) → height ≤ registers.height → Opens result → Goes asked lent stack (opened_to registers place height result)
+  opened_goes : (place height : ℕ) (result : Result (Two Loop) Refusal) → height ≤ registers.height → Opens result → Goes asked lent stack (opened_to registers place height result)
   unfolding opened_to
   opened_goes place height _ low (opens loops few) = goes _ (looping_sound place height loops low few)
   opened_goes place height _ low (not_opens refusal) = stops refusal
 
-  do_two_goes : (result : PopTwoResult) → PopsTwo stack registers.height result → Goes asked lent stack (do_two registers next result)
+  do_two_goes : (result : Result (ℕ × ℕ × ℕ) Refusal) → PopsTwo stack registers.height result → Goes asked lent stack (do_two registers next result)
   unfolding do_two
   do_two_goes _ (popped_two a b less below) = opened_goes next b _ (omega arith) (loop_opens registers.loops _)
   do_two_goes _ (not_popped_two refusal) = stops refusal
@@ -305,7 +290,7 @@ module _ {asked : Type 0} (lent : ℕ) (registers : Registers) (stack : List ℕ
   unfolding op_do
   do_goes = do_two_goes _ (pops_two stack registers.height)
 
-  looped_goes : (result : PopLoopResult) → Closes result → Goes asked lent stack (looped registers next result)
+  looped_goes : (result : Result (Loop × Two Loop) Refusal) → Closes result → Goes asked lent stack (looped registers next result)
   unfolding looped
   looped_goes _ (closes last loops few) =
       either (Goes asked lent stack) (ltb (last.index + 1) last.limit) _ _ (λ _. opened_goes last.place registers.height _ (omega arith) (loop_opens loops _))
@@ -316,10 +301,10 @@ module _ {asked : Type 0} (lent : ℕ) (registers : Registers) (stack : List ℕ
   unfolding op_loop
   loop_goes = looped_goes _ (loop_closes registers.loops r.few)
 
-  index_keeps : (result : LastLoopResult) → Keeps asked lent (index_of stack registers next result)
+  index_keeps : (result : Result Loop Refusal) → Keeps asked lent (index_of stack registers next result)
   unfolding index_of
-  index_keeps (LastLoop last) = scalar_pushed lent registers stack next registers.height _ r (omega arith) (boxed_no_vec 6 last.index)
-  index_keeps (NoLastLoop refusal) = refused refusal stack
+  index_keeps (Ok last) = scalar_pushed lent registers stack next registers.height _ r (omega arith) (boxed_no_vec 6 last.index)
+  index_keeps (Err refusal) = refused refusal stack
 
   pub loop_index_keeps : Keeps asked lent (op_loop_index stack registers next)
   unfolding op_loop_index

@@ -121,11 +121,11 @@ module _ {asked : Type 0} (w : World) (s : Kept asked w) where
 
   -- ---- one that needs a task, a frame or the pool
 
-  result_steps : (slot : ℕ) (a : OnAll) → Acts asked (length w.save) w.pool w.ends w.machine w.table slot (creates (op w)) (deletes (op w)) a → Steps asked w (acts_result w slot a a.acted.result)
+  result_steps : (slot : ℕ) (a : OnAll) → Acts asked (length w.save) w.pool w.ends w.machine w.table slot (creates (op w)) (deletes (op w)) a → Steps asked w (acts_result w slot a a.acted)
   unfolding acts_result
   result_steps slot _ (acted.acts after change stack memory pool ends m t grows lived given) =
       steps (world after (applied w.table slot change) stack memory pool ends w.save) (record { still = record { machine_kept = m; table_kept = t }; pools = grows; lived = lived; given = given })
-  result_steps slot _ (acted.refused refusal change stack memory pool ends) = refused refusal
+  result_steps slot _ (acted.refused refusal stack memory pool ends) = refused refusal
 
   named : eqb (op w) T_CREATE ≡ true → wanted w.stack w.machine (op w) ≡ w.machine.next_id.0
   unfolding wanted

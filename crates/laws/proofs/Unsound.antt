@@ -12,15 +12,13 @@ use Rattle.storage.specs.Storage.{slot_of}
 use Rattle.storage.specs.Tasks.{blank}
 use Rattle.storage.specs.Table.{sound_counts, sound_table}
 use Rattle.table_image.specs.Creation.{creation_tests}
-use Rattle.memory.specs.declared.unbox.Return.TheVariants.{NoReturn}
 use Rattle.machine.specs.World.{World}
 use Rattle.machine.specs.Sound.{sound_record, sound_world}
 use Rattle.machine.specs.Calls.{allowed, not_allowed, reports, is_sound, call_with, call}
 use Rattle.machine.specs.Reads.{readable, value_at, read_to, value_read, task_result, task_as, task_read, not_saved, saved_to, host_save}
 use Rattle.machine.specs.Creation.{made, create_fit, create}
 use Rattle.machine.specs.declared.Verb.{Verb}
-use Rattle.machine.specs.declared.TaskResult.TheVariants.{NotReadable}
-use Rattle.machine.specs.declared.CreateResult.TheVariants.{NotCreated}
+use Rattle.std.specs.Prelude.{Err}
 
 module _ (w : World) (unsound : is_sound w ≡ false) where
   -- start and continue
@@ -29,12 +27,12 @@ module _ (w : World) (unsound : is_sound w ≡ false) where
   call_refused verb fuel = simp (unsound)
 
   -- the read of a value
-  pub value_refused : (position : ℕ) → value_read position w ≡ read_to (NoReturn WrongPhaseOrUnsound) w
+  pub value_refused : (position : ℕ) → value_read position w ≡ read_to (Err WrongPhaseOrUnsound) w
   unfolding value_read value_at readable
   value_refused position = simp (unsound)
 
   -- the read of a task: its slot is answered beside the refusal
-  pub task_refused : (id : TaskId) → task_read id w ≡ read_to (task_as (NotReadable WrongPhaseOrUnsound) (get_or w.table (slot_of id) blank)) w
+  pub task_refused : (id : TaskId) → task_read id w ≡ read_to (task_as (Err WrongPhaseOrUnsound) (get_or w.table (slot_of id) blank)) w
   unfolding task_read task_result
   task_refused id = simp (unsound)
 
@@ -50,6 +48,6 @@ other_slots w other = simp (other)
 
 -- and creation over one is refused before anything is written
 pub creation_refused : (table : List Task) (pool ends image program : List ℕ) → eqb (length table) 256 ≡ false
-    → create table pool ends image program ≡ made (NotCreated WrongPhaseOrUnsound) table pool ends
+    → create table pool ends image program ≡ made (Err WrongPhaseOrUnsound) table pool ends
 unfolding create create_fit creation_tests
 creation_refused table pool ends image program other = simp (other)

@@ -7,24 +7,23 @@ use lib.Dec.{eqb, ltb}
 use Rattle.errors.specs.declared.Refusal.{Refusal}
 use Rattle.values.specs.Values.{make_scalar_tagged, to_bool_val, is_vec, is_qnan, is_u32_val, raw_tag, to_u32, one_vector, of_one_kind, product, mul_checked, mul_checked_i, alike, value_eq, turned, value_cmp}
 use Rattle.values.specs.declared.FatPointer.{FatPointer}
-use Rattle.values.specs.declared.ValueResult.{ValueResult}
-use Rattle.values.specs.declared.ValueResult.TheVariants.{Value, NoValue}
 use Rattle.values.proofs.Laws.{scalar_is_scalar, scalar_no_vec, bool_turned}
 use Rattle.memory.specs.Change.{inside}
 use Rattle.memory.specs.Reads.{is_m_slice_eq}
 use Rattle.mechanism.specs.Equality.{eq_vectors, eq_values, turned_if}
 use Rattle.laws.specs.Sound.{Inside}
 use Rattle.laws.proofs.Either.{either}
+use Rattle.std.specs.Prelude.{Ok, Err, Result}
 
 -- a scalar, or none
-pub data Scalar : ValueResult → Type 0 where
-  scalar : (v : ℕ) → is_vec v ≡ false → Scalar (Value v)
-  no_scalar : (refusal : Refusal) → Scalar (NoValue refusal)
+pub data Scalar : Result ℕ Refusal → Type 0 where
+  scalar : (v : ℕ) → is_vec v ≡ false → Scalar (Ok v)
+  no_scalar : (refusal : Refusal) → Scalar (Err refusal)
 
 -- a bool, or none
-data Boolean : ValueResult → Type 0 where
-  boolean : (b : Bool) → Boolean (Value (to_bool_val b))
-  no_boolean : (refusal : Refusal) → Boolean (NoValue refusal)
+data Boolean : Result ℕ Refusal → Type 0 where
+  boolean : (b : Bool) → Boolean (Ok (to_bool_val b))
+  no_boolean : (refusal : Refusal) → Boolean (Err refusal)
 
 -- a scalar is no vector, so it lies wherever it should
 pub boxed_no_vec : (tag payload : ℕ) → is_vec (make_scalar_tagged tag payload) ≡ false
@@ -38,7 +37,7 @@ unfolding to_bool_val
 bool_no_vec true = boxed_no_vec 3 0
 bool_no_vec false = boxed_no_vec 2 0
 
-boolean_scalar : (result : ValueResult) → Boolean result → Scalar result
+boolean_scalar : (result : Result ℕ Refusal) → Boolean result → Scalar result
 boolean_scalar _ (boolean b) = scalar (to_bool_val b) (bool_no_vec b)
 boolean_scalar _ (no_boolean refusal) = no_scalar refusal
 
@@ -102,12 +101,12 @@ eq_boolean memory left right =
     (λ _. either Boolean (eqb (raw_tag left) (raw_tag right)) _ _ (λ _. slices_boolean memory _ _) (λ _. no_boolean _))
     (λ _. value_eq_boolean left right)
 
-turned_boolean : (result : ValueResult) → Boolean result → Boolean (turned result)
+turned_boolean : (result : Result ℕ Refusal) → Boolean result → Boolean (turned result)
 unfolding turned
-turned_boolean _ (boolean b) = subst (λ (v : ℕ). Boolean (Value v)) (sym (bool_turned b)) (boolean (not b))
+turned_boolean _ (boolean b) = subst (λ (v : ℕ). Boolean (Ok v)) (sym (bool_turned b)) (boolean (not b))
 turned_boolean _ (no_boolean refusal) = no_boolean refusal
 
-turned_if_boolean : (is_eq : Bool) (result : ValueResult) → Boolean result → Boolean (turned_if is_eq result)
+turned_if_boolean : (is_eq : Bool) (result : Result ℕ Refusal) → Boolean result → Boolean (turned_if is_eq result)
 unfolding turned_if
 turned_if_boolean true result b = b
 turned_if_boolean false result b = turned_boolean result b

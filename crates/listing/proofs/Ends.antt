@@ -18,6 +18,8 @@ use Rattle.listing.specs.declared.Counted.TheVariants.{Values, Tasks}
 use Rattle.listing.specs.Listing.{title_form}
 use Rattle.listing.specs.Listing.{line_of_refusal, line_of_head, line_of_count, line_of_bool, line_of_numbers, line_of_value}
 use Rattle.listing.specs.Told.{TaskTold}
+use Rattle.std.specs.Prelude.{Result, Ok, Err}
+use Rattle.errors.specs.declared.Refusal.{Refusal}
 
 -- ---- a line's end
 
@@ -60,16 +62,16 @@ vec_ended [] = ended (ascii "vec ") [] refl refl
 vec_ended (n ∷ more) = numbers_ended (ascii "vec") (n ∷ more) refl
 
 -- a value
-pub value_ended : (kind : Return) (part : List ℕ) → Ended (line_of_value kind part)
+pub value_ended : (kind : Result Return Refusal) (part : List ℕ) → Ended (line_of_value kind part)
 unfolding lacks line_of_value line_of_bool said line formed filled filled_in numbers_left ascii spaced
-value_ended (kind.U32 n) part = numbers_ended (ascii "u32") (n ∷ []) refl
-value_ended (kind.Boolean true) part = ended (ascii "bool true") [] refl refl
-value_ended (kind.Boolean false) part = ended (ascii "bool false") [] refl refl
-value_ended (kind.String pointer) part = ended (ascii "text ") (escaped false part) refl (escaped_lacks false part)
-value_ended (kind.CallData entry) part = ended (ascii "calldata ") (hex part) refl (hex_lacks part)
-value_ended (kind.VecU32 pointer) part = vec_ended (words part)
-value_ended kind.Null part = ended (ascii "null") [] refl refl
-value_ended (kind.NoReturn r) part = numbers_ended (ascii "bad") (number_of r ∷ []) refl
+value_ended (Ok (kind.U32 n)) part = numbers_ended (ascii "u32") (n ∷ []) refl
+value_ended (Ok (kind.Boolean true)) part = ended (ascii "bool true") [] refl refl
+value_ended (Ok (kind.Boolean false)) part = ended (ascii "bool false") [] refl refl
+value_ended (Ok (kind.String pointer)) part = ended (ascii "text ") (escaped false part) refl (escaped_lacks false part)
+value_ended (Ok (kind.CallData entry)) part = ended (ascii "calldata ") (hex part) refl (hex_lacks part)
+value_ended (Ok (kind.VecU32 pointer)) part = vec_ended (words part)
+value_ended (Ok kind.Null) part = ended (ascii "null") [] refl refl
+value_ended (Err r) part = numbers_ended (ascii "bad") (number_of r ∷ []) refl
 
 -- a title is escaped, whether it is UTF-8 or not
 pub title_escaped : (title numbers : List ℕ) → formed (title_form title) title numbers ≡ escaped (not (valid title)) title

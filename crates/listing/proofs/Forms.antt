@@ -8,8 +8,8 @@ use Rattle.text.specs.Ascii.{ascii}
 use Rattle.text.specs.Numbers.{spaced, words, filled_in, numbers_left, filled}
 use Rattle.text.specs.Lines.{formed, line, said, lined, put_line, measure_line, tell_line}
 use Rattle.text.specs.declared.Form.TheVariants.{Plain, Spaced}
-use Rattle.text.specs.declared.LineResult.TheVariants.{Line}
 use Rattle.listing.specs.Listing.{line_of_refusal, line_of_numbers}
+use Rattle.std.specs.Prelude.{Ok}
 
 -- a refusal's line by its details
 refused_by : (refusal : Refusal) {text : List ℕ} {number : ℕ} {given : Details} (details : Details)
@@ -52,7 +52,7 @@ some_numbers (a ∷ b ∷ c ∷ []) many = absurd (omega arith)
 some_numbers (a ∷ b ∷ c ∷ d ∷ more) many = refl
 
 -- nothing put, or measured
-pub no_line : (writes : Bool) (out : List ℕ) → lined (Line 0) out ≡ tell_line writes out []
+pub no_line : (writes : Bool) (out : List ℕ) → lined (Ok 0) out ≡ tell_line writes out []
 unfolding put_line measure_line tell_line
 no_line true out = rw (le-leb 0 (length out) (omega arith))
 no_line false out = refl

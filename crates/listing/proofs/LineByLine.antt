@@ -8,6 +8,8 @@ use Rattle.memory.specs.declared.unbox.Return.{Return}
 use Rattle.listing.specs.declared.Head.{Head}
 use Rattle.listing.specs.declared.Counted.TheVariants.{Values, Tasks}
 use Rattle.listing.specs.Listing.{ValueRead, read_of, values_read, line_of_head, line_of_count, line_of_value, line_of_task, lines_of_values, lines_of_tasks, listing, line_behind, line_by, line_count, slot_shown, line_at, joined_lines}
+use Rattle.std.specs.Prelude.{Result}
+use Rattle.errors.specs.declared.Refusal.{Refusal}
 
 -- ---- one after the other
 
@@ -129,10 +131,10 @@ module _ (memory pool ends : List ℕ) (entries living : ℕ) (task : Task) wher
     by_second number is = rw (is, values_length memory pool ends entries words)
 
     -- a value
-    pub by_value : {kind : Return} (number : ℕ) → 2 ≤ number → number - 2 < length words → kind ≡ unbox_value memory ends entries (get_or words (number - 2) 0)
+    pub by_value : {kind : Result Return Refusal} (number : ℕ) → 2 ≤ number → number - 2 < length words → kind ≡ unbox_value memory ends entries (get_or words (number - 2) 0)
         → line_of_value kind (part_of memory pool ends kind) ≡ line_by head (values_read memory pool ends entries words) living task number
     by_value number past inside is =
-        ap (λ (kind : Return). line_of_value kind (part_of memory pool ends kind)) is
+        ap (λ (kind : Result Return Refusal). line_of_value kind (part_of memory pool ends kind)) is
         ∙ sym (behind head (values_read memory pool ends entries words) living task number past ∙ value_behind words (number - 2) inside)
 
     -- the count of tasks

@@ -12,8 +12,9 @@ use Rattle.text.proofs.Escaping.{escaped_short}
 use Rattle.text.proofs.Hexes.{hex_length}
 use Rattle.pools.specs.declared.InstructionsRef.{InstructionsRef}
 use Rattle.memory.specs.declared.unbox.Return.{Return}
-use Rattle.memory.specs.declared.unbox.Return.TheVariants.{U32, Boolean, String, CallData, VecU32, Null, NoReturn}
+use Rattle.memory.specs.declared.unbox.Return.TheVariants.{U32, Boolean, String, CallData, VecU32, Null}
 use Rattle.listing.specs.Listing.{line_of_bool, line_of_numbers, line_of_value}
+use Rattle.std.specs.Prelude.{Ok, Err, Result}
 
 -- a number of 32 bits has at most 10 digits
 pub ten_digits : (n : ℕ) → n < 4294967296 → length (decimal n) ≤ 10
@@ -71,14 +72,14 @@ pub one_number : (n : ℕ) → length (decimal n ++ [] ++ 10 ∷ []) ≡ length 
 one_number n = omega (arith, length-append (decimal n ++ []) (10 ∷ []), length-append (decimal n) [])
 
 -- a number that was read has 32 bits
-unfoldable pub number_fits : Return → Type 0
-number_fits (U32 n) = n < 4294967296
-number_fits (Boolean truth) = Unit
-number_fits (String pointer) = Unit
-number_fits (CallData entry) = Unit
-number_fits (VecU32 pointer) = Unit
-number_fits Null = Unit
-number_fits (NoReturn r) = Unit
+unfoldable pub number_fits : Result Return Refusal → Type 0
+number_fits (Ok (U32 n)) = n < 4294967296
+number_fits (Ok (Boolean truth)) = Unit
+number_fits (Ok (String pointer)) = Unit
+number_fits (Ok (CallData entry)) = Unit
+number_fits (Ok (VecU32 pointer)) = Unit
+number_fits (Ok Null) = Unit
+number_fits (Err r) = Unit
 
 bool_short : (truth : Bool) → length (line_of_bool truth) ≤ 196611
 unfolding line_of_bool said line formed filled filled_in numbers_left ascii
@@ -86,18 +87,18 @@ bool_short true = omega arith
 bool_short false = omega arith
 
 -- the line of calldata fits into 196,611 bytes, whatever its bytes are
-pub longest_calldata : (entry : InstructionsRef) (part : List ℕ) → length part ≤ 65536 → length (line_of_value (CallData entry) part) ≤ 196611
+pub longest_calldata : (entry : InstructionsRef) (part : List ℕ) → length part ≤ 65536 → length (line_of_value (Ok (CallData entry)) part) ≤ 196611
 unfolding line_of_value line formed filled filled_in numbers_left ascii
 longest_calldata entry part few = omega (arith, length-append (hex part) (10 ∷ []), hex_length part)
 
 -- the line of a value fits into 196,611 bytes
-pub longest : (kind : Return) (part : List ℕ) → number_fits kind → length part ≤ 65535 → ((i : ℕ) → get_or part i 0 < 256)
+pub longest : (kind : Result Return Refusal) (part : List ℕ) → number_fits kind → length part ≤ 65535 → ((i : ℕ) → get_or part i 0 < 256)
     → length (line_of_value kind part) ≤ 196611
 unfolding number_fits line_of_value said line formed filled filled_in numbers_left ascii
-longest (U32 n) part fits few byte = omega (arith, one_number n, ten_digits n fits)
-longest (Boolean truth) part fits few byte = bool_short truth
-longest (String pointer) part fits few byte = omega (arith, length-append (escaped false part) (10 ∷ []), escaped_short false part)
-longest (CallData entry) part fits few byte = longest_calldata entry part (omega arith)
-longest (VecU32 pointer) part fits few byte = omega (arith, numbers_length (words part), spaced_short part byte)
-longest Null part fits few byte = omega arith
-longest (NoReturn r) part fits few byte = omega (arith, one_number (number_of r), ten_digits (number_of r) (omega (arith, short_refusal r)))
+longest (Ok (U32 n)) part fits few byte = omega (arith, one_number n, ten_digits n fits)
+longest (Ok (Boolean truth)) part fits few byte = bool_short truth
+longest (Ok (String pointer)) part fits few byte = omega (arith, length-append (escaped false part) (10 ∷ []), escaped_short false part)
+longest (Ok (CallData entry)) part fits few byte = longest_calldata entry part (omega arith)
+longest (Ok (VecU32 pointer)) part fits few byte = omega (arith, numbers_length (words part), spaced_short part byte)
+longest (Ok Null) part fits few byte = omega arith
+longest (Err r) part fits few byte = omega (arith, one_number (number_of r), ten_digits (number_of r) (omega (arith, short_refusal r)))

@@ -20,6 +20,7 @@ use Rattle.listing.specs.Listing.{ValueRead, lines_of_values, lines_of_tasks, li
 use Rattle.listing.specs.Listing.{line_of_refusal, line_of_head, line_of_count, line_of_bool, line_of_numbers, line_of_value, line_of_task}
 use Rattle.listing.specs.Told.{ValueTold, TaskTold, value_told, values_told, task_told, tasks_told, told}
 use Rattle.listing.proofs.Ends.{head_ended, count_ended, value_ended, title_escaped, line_of_told, task_ended, first_same, not_empty}
+use Rattle.std.specs.Prelude.{Result, Ok, Err}
 
 -- ---- a line read back
 
@@ -114,16 +115,16 @@ vec_back [] = refl
 vec_back (n ∷ more) = ap ValueTold.numbers (spaced_back [] (n ∷ more))
 
 -- the line of a value tells it
-value_back : (kind : Return) (part : List ℕ) → value_of (line_of_value kind part) (numbers_of (line_of_value kind part)) ≡ value_told kind part
+value_back : (kind : Result Return Refusal) (part : List ℕ) → value_of (line_of_value kind part) (numbers_of (line_of_value kind part)) ≡ value_told kind part
 unfolding value_told value_of cut_at begins read_numbers line_of_value line_of_bool said line formed filled filled_in numbers_left ascii spaced
-value_back (kind.U32 n) part = ap (value_of (line_of_value (kind.U32 n) part)) (spaced_back [] (n ∷ []))
-value_back (kind.Boolean true) part = refl
-value_back (kind.Boolean false) part = refl
-value_back (kind.String pointer) part = ap ValueTold.text (escaped_back false part)
-value_back (kind.CallData entry) part = ap ValueTold.calldata (hex_back part)
-value_back (kind.VecU32 pointer) part = vec_back (words part)
-value_back kind.Null part = refl
-value_back (kind.NoReturn r) part = ap (value_of (line_of_value (kind.NoReturn r) part)) (spaced_back [] (number_of r ∷ []))
+value_back (Ok (kind.U32 n)) part = ap (value_of (line_of_value (Ok (kind.U32 n)) part)) (spaced_back [] (n ∷ []))
+value_back (Ok (kind.Boolean true)) part = refl
+value_back (Ok (kind.Boolean false)) part = refl
+value_back (Ok (kind.String pointer)) part = ap ValueTold.text (escaped_back false part)
+value_back (Ok (kind.CallData entry)) part = ap ValueTold.calldata (hex_back part)
+value_back (Ok (kind.VecU32 pointer)) part = vec_back (words part)
+value_back (Ok kind.Null) part = refl
+value_back (Err r) part = ap (value_of (line_of_value (Err r) part)) (spaced_back [] (number_of r ∷ []))
 
 -- ---- a task's line
 
@@ -185,7 +186,7 @@ pub count_same : (n other : ℕ) → line_of_count Values n ≡ line_of_count Va
 count_same n other same = cc (count_back n, count_back other)
 
 -- a value
-pub value_same : (kind other : Return) (part parts : List ℕ) → line_of_value kind part ≡ line_of_value other parts
+pub value_same : (kind other : Result Return Refusal) (part parts : List ℕ) → line_of_value kind part ≡ line_of_value other parts
     → value_told kind part ≡ value_told other parts
 value_same kind other part parts same =
     sym (value_back kind part) ∙ ap (λ (l : List ℕ). value_of l (numbers_of l)) same ∙ value_back other parts

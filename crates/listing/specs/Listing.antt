@@ -1,6 +1,7 @@
 -- The listing (docs/REFERENCE.md, 'The listing'), as the join of its lines.
-use Rattle.std.specs.Prelude.{ℕ, zero, suc, ◌+◌, ◌-◌, Bool, true, false, cond, List, [], ◌∷◌, ◌++◌, length, take, slice_index_or}
+use Rattle.std.specs.Prelude.{ℕ, zero, suc, ◌+◌, ◌-◌, Bool, true, false, cond, List, [], ◌∷◌, ◌++◌, length, take, slice_index_or, Result, Ok, Err}
 use Rattle.errors.specs.Refusals.{number_of, details_of}
+use Rattle.errors.specs.declared.Refusal.{Refusal}
 use Rattle.storage.specs.Table.{living_of}
 use Rattle.storage.specs.Tasks.{blank}
 use Rattle.storage.specs.declared.Task.{Task}
@@ -17,6 +18,7 @@ use Rattle.listing.specs.declared.Head.{Head}
 use Rattle.listing.specs.declared.Head.TheVariants.{Done, Paused, Refused, Saved}
 use Rattle.listing.specs.declared.Counted.{Counted}
 use Rattle.listing.specs.declared.Counted.TheVariants.{Values, Tasks}
+use Rattle.errors.specs.declared.Refusal.{Refusal}
 
 -- `refused`, the number and details, one space before each
 unfoldable pub line_of_refusal : ℕ → List ℕ → List ℕ
@@ -45,14 +47,14 @@ line_of_numbers [] = ascii "vec \n"
 line_of_numbers (n ∷ more) = ascii "vec " ++ (decimal n ++ spaced more ++ 10 ∷ [])
 
 -- a value by its kind and the part of memory or of the pool beside it
-unfoldable pub line_of_value : Return → List ℕ → List ℕ
-line_of_value (kind.U32 number) part = said (ascii "u32 #") (number ∷ [])
-line_of_value (kind.Boolean truth) part = line_of_bool truth
-line_of_value (kind.String pointer) part = line (ascii "text ") [] Escaped part
-line_of_value (kind.CallData entry) part = line (ascii "calldata ") [] Hex part
-line_of_value (kind.VecU32 pointer) part = line_of_numbers (words part)
-line_of_value kind.Null part = said (ascii "null") []
-line_of_value (kind.NoReturn refusal) part = said (ascii "bad #") (number_of refusal ∷ [])
+unfoldable pub line_of_value : Result Return Refusal → List ℕ → List ℕ
+line_of_value (Ok (kind.U32 number)) part = said (ascii "u32 #") (number ∷ [])
+line_of_value (Ok (kind.Boolean truth)) part = line_of_bool truth
+line_of_value (Ok (kind.String pointer)) part = line (ascii "text ") [] Escaped part
+line_of_value (Ok (kind.CallData entry)) part = line (ascii "calldata ") [] Hex part
+line_of_value (Ok (kind.VecU32 pointer)) part = line_of_numbers (words part)
+line_of_value (Ok kind.Null) part = said (ascii "null") []
+line_of_value (Err refusal) part = said (ascii "bad #") (number_of refusal ∷ [])
 
 -- a task's title
 abbrev pub title_of : Task → List ℕ
@@ -71,7 +73,7 @@ line_of_task task =
 
 -- what a read of a value answers, and the part beside it
 pub record ValueRead : Type 0 where
-  pub answer : Return
+  pub answer : Result Return Refusal
   pub part : List ℕ
 
 -- what a word of the stack is read as

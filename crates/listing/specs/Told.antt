@@ -1,5 +1,5 @@
 -- What a listing tells: how the call ended, each value as it was read, each living task.
-use Rattle.std.specs.Prelude.{ℕ, Bool, cond, List, [], ◌∷◌}
+use Rattle.std.specs.Prelude.{ℕ, Bool, cond, List, [], ◌∷◌, Result, Ok, Err}
 use Rattle.errors.specs.Refusals.{number_of}
 use Rattle.storage.specs.declared.Task.{Task}
 use Rattle.text.specs.Numbers.{words}
@@ -7,6 +7,7 @@ use Rattle.memory.specs.declared.unbox.Return.{Return}
 use Rattle.memory.specs.declared.unbox.Return.TheVariants as kind
 use Rattle.listing.specs.declared.Head.{Head}
 use Rattle.listing.specs.Listing.{ValueRead, title_of}
+use Rattle.errors.specs.declared.Refusal.{Refusal}
 
 -- a value: what it is, or the number of the refusal to read it
 pub data ValueTold : Type 0 where
@@ -17,14 +18,14 @@ pub data ValueTold : Type 0 where
   refused : ℕ → ValueTold
 
 -- a value by its kind and the part beside it
-unfoldable pub value_told : Return → List ℕ → ValueTold
-value_told (kind.U32 n) part = number n
-value_told (kind.Boolean b) part = truth b
-value_told (kind.String pointer) part = text part
-value_told (kind.CallData entry) part = calldata part
-value_told (kind.VecU32 pointer) part = numbers (words part)
-value_told kind.Null part = null
-value_told (kind.NoReturn refusal) part = refused (number_of refusal)
+unfoldable pub value_told : Result Return Refusal → List ℕ → ValueTold
+value_told (Ok (kind.U32 n)) part = number n
+value_told (Ok (kind.Boolean b)) part = truth b
+value_told (Ok (kind.String pointer)) part = text part
+value_told (Ok (kind.CallData entry)) part = calldata part
+value_told (Ok (kind.VecU32 pointer)) part = numbers (words part)
+value_told (Ok kind.Null) part = null
+value_told (Err refusal) part = refused (number_of refusal)
 
 -- the values, bottom first
 unfoldable pub values_told : List ValueRead → List ValueTold

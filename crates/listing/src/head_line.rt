@@ -6,11 +6,11 @@ ghost use Rattle.listing.specs.Listing.{line_of_refusal, line_of_head};
 
 use crate::{Head, say};
 use errors::{Details, Refusal};
+use text::Form;
 use text::lines::tell_line;
-use text::{Form, LineResult};
 
 // The first line of a refused call.
-fn refusal_line(out: &mut [u8], writes: bool, refusal: Refusal) -> LineResult
+fn refusal_line(out: &mut [u8], writes: bool, refusal: Refusal) -> Result<usize, Refusal>
     ensures { lined result out.new ≡ tell_line writes out.old (line_of_refusal (number_of refusal) (details_of refusal)) }
 {
     let number = errors::number_of(refusal) as u64;
@@ -28,7 +28,8 @@ fn refusal_line(out: &mut [u8], writes: bool, refusal: Refusal) -> LineResult
 }
 
 // The first line.
-pub fn head_line(out: &mut [u8], writes: bool, head: Head) -> LineResult
+#[tactic(auto, unfolding(crate::specs::Listing::line_of_head, text::specs::Ascii::ascii))]
+pub fn head_line(out: &mut [u8], writes: bool, head: Head) -> Result<usize, Refusal>
     ensures { lined result out.new ≡ tell_line writes out.old (line_of_head head) }
 {
     match head {

@@ -11,8 +11,8 @@ ghost use Rattle.text.specs.Lines.{said, lined, tell_line};
 ghost use Rattle.listing.specs.Listing.{line_of_count};
 
 use errors::Refusal;
+use text::Form;
 use text::lines::tell_line;
-use text::{Form, LineResult};
 
 // How a call ended: a run, with its finished instructions, or a host save, with its length.
 #[derive(Clone, Copy)]
@@ -31,15 +31,26 @@ pub enum Counted {
 }
 
 // A line of a template and one number.
-pub(crate) fn say(out: &mut [u8], writes: bool, template: &[u8], number: u64) -> LineResult
+#[tactic(auto, unfolding(text::specs::Lines::said))]
+pub(crate) fn say(
+    out: &mut [u8],
+    writes: bool,
+    template: &[u8],
+    number: u64,
+) -> Result<usize, Refusal>
     ensures { lined result out.new ≡ tell_line writes out.old (said template.now (number ∷ [])) }
 {
-    let numbers = [number];
-    tell_line(out, writes, template, &numbers, Form::Plain, b"")
+    tell_line(out, writes, template, &[number], Form::Plain, b"")
 }
 
 // How many values, or tasks, follow.
-pub fn count_line(out: &mut [u8], writes: bool, counted: Counted, count: usize) -> LineResult
+#[tactic(auto, unfolding(crate::specs::Listing::line_of_count, text::specs::Ascii::ascii))]
+pub fn count_line(
+    out: &mut [u8],
+    writes: bool,
+    counted: Counted,
+    count: usize,
+) -> Result<usize, Refusal>
     ensures { lined result out.new ≡ tell_line writes out.old (line_of_count counted count) }
 {
     match counted {

@@ -1,10 +1,9 @@
 -- What a host does with a machine: it is created, then started, rerun, continued, saved and read, in any order and as often as the host likes.
-use Rattle.std.specs.Prelude.{ℕ, List, [], ◌∷◌, ◌≡◌, length}
+use Rattle.std.specs.Prelude.{ℕ, List, [], ◌∷◌, ◌≡◌, length, Ok}
 use Rattle.storage.specs.declared.Task.{Task}
 use Rattle.storage.specs.declared.TaskId.{TaskId}
 use Rattle.machine.specs.declared.Machine.{Machine}
 use Rattle.machine.specs.declared.Verb.{Verb}
-use Rattle.machine.specs.declared.CreateResult.TheVariants.{Created}
 use Rattle.machine.specs.World.{World, world}
 use Rattle.machine.specs.Calls.{Reported, call}
 use Rattle.machine.specs.Reads.{SavedTo, host_save, value_read, task_read}
@@ -29,7 +28,7 @@ new_world machine made stack memory save = world machine made.table stack memory
 -- a fresh machine, created for a program and an image over any table and pool; 1,024 ends and 1,000 words of stack are what the types say
 pub data FreshWorld (program image : List ℕ) : World → Type 0 where
   is_created : (table : List Task) (pool ends : List ℕ) (machine : Machine) (stack memory save : List ℕ) → length ends ≡ 1024 → length stack ≡ 1000
-      → (create table pool ends image program).answer ≡ Created machine
+      → (create table pool ends image program).answer ≡ Ok machine
       → FreshWorld program image (new_world machine (create table pool ends image program) stack memory save)
 
 -- a call of the host: a start, a rerun or a continue with its fuel, a save, the read of a value by its position, the read of a task by its id

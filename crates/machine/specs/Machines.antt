@@ -1,20 +1,19 @@
 -- The machine's record: the frame that runs, its code, its place, where main begins, and the record with a part of it changed.
 use Rattle.std.specs.Prelude.{ℕ, List, get_or}
-use Rattle.inlinevec.specs.Stacks.{of_frames, to_frames, last_two, change_two}
+use Rattle.inlinevec.specs.Stacks.{last_two, change_two}
 use Rattle.inlinevec.specs.declared.Loop.{Loop}
-use Rattle.inlinevec.specs.declared.Loops.{Loops}
 use Rattle.inlinevec.specs.declared.Frame.{Frame}
-use Rattle.inlinevec.specs.declared.Frames.{Frames}
 use Rattle.pools.specs.Pool.{entry_of}
 use Rattle.machine.specs.declared.Machine.{Machine}
+use Rattle.inlinevec.specs.declared.Two.{Two}
 
 -- the frame that runs: the last one
-unfoldable pub current : Frames → Frame
-current frames = last_two (of_frames frames)
+unfoldable pub current : Two Frame → Frame
+current frames = last_two frames
 
 -- the frames with another one that runs
-unfoldable pub with_current : Frames → Frame → Frames
-with_current frames frame = to_frames (change_two (of_frames frames) frame)
+unfoldable pub with_current : Two Frame → Frame → Two Frame
+with_current frames frame = (change_two frames frame)
 
 -- the code that runs: the entry that this frame names
 unfoldable pub code_of : List ℕ → List ℕ → Machine → List ℕ
@@ -30,12 +29,12 @@ op_at pool ends machine = get_or (code_of pool ends machine) (current machine.fr
 abbrev pub no_loop : Loop
 no_loop = record { place = 0; index = 0; limit = 0 }
 
-abbrev pub no_loops : Loops
-no_loops = record { count = 0; outer = no_loop; inner = no_loop }
+abbrev pub no_loops : Two Loop
+no_loops = record { count = 0; first = no_loop; second = no_loop }
 
 -- one frame: main, at its start
-abbrev pub main_alone : Frames → Frames
-main_alone frames = record { count = 1; main = record { entry = frames.main.entry; place = 0 }; task = frames.task }
+abbrev pub main_alone : Two Frame → Two Frame
+main_alone frames = record { count = 1; first = record { entry = frames.first.entry; place = 0 }; second = frames.second }
 
 -- ---- the machine with a part of it changed
 
@@ -59,7 +58,7 @@ unfoldable pub rewound : Machine → Machine
 rewound machine = placed machine 0 machine.height
 
 -- with other loops, another length of memory in use, another pool, other frames, other ids, another saved length
-abbrev pub with_loops : Machine → Loops → Machine
+abbrev pub with_loops : Machine → Two Loop → Machine
 with_loops machine loops = record {
   phase = machine.phase;
   height = machine.height;
@@ -101,7 +100,7 @@ with_pool machine bytes entries = record {
   saved = machine.saved;
 }
 
-abbrev pub with_frames : Machine → Frames → Machine
+abbrev pub with_frames : Machine → Two Frame → Machine
 with_frames machine frames = record {
   phase = machine.phase;
   height = machine.height;

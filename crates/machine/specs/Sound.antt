@@ -1,21 +1,21 @@
 -- The unsound record, 26, clause by clause (docs/REFERENCE.md, 'The unsound record').
 use Rattle.std.specs.Prelude.{ℕ, Bool, false, cond, ◌&&◌, List, eqb, ltb, leb, length}
 use Rattle.inlinevec.specs.declared.Frame.{Frame}
-use Rattle.inlinevec.specs.declared.Frames.{Frames}
 use Rattle.pools.specs.Pool.{end_to_end}
 use Rattle.storage.specs.declared.Task.{Task}
 use Rattle.storage.specs.Table.{sound_table}
 use Rattle.machine.specs.declared.Machine.{Machine}
+use Rattle.inlinevec.specs.declared.Two.{Two}
 
 -- a frame names an entry
 abbrev pub names : Frame → ℕ → Bool
 names frame entries = ltb frame.entry.0 entries
 
 -- there is a frame, at most two, and each names an entry
-unfoldable pub sound_frames : Frames → ℕ → Bool
+unfoldable pub sound_frames : Two Frame → ℕ → Bool
 sound_frames frames entries =
-    cond (eqb frames.count 1) (names frames.main entries)
-    (cond (eqb frames.count 2) (names frames.main entries && names frames.task entries) false)
+    cond (eqb frames.count 1) (names frames.first entries)
+    (cond (eqb frames.count 2) (names frames.first entries && names frames.second entries) false)
 
 -- no length is above its capacity or its buffer
 unfoldable pub sound_lengths : ℕ → ℕ → ℕ → Machine → Bool

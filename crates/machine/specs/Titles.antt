@@ -1,17 +1,16 @@
 -- Fields of a task: a title as memory and a record hold it, and a record with another title or other instructions.
-use Rattle.std.specs.Prelude.{ℕ, min, cond, List, take}
+use Rattle.std.specs.Prelude.{ℕ, min, cond, List, take, Ok, Err, Result, ⊤}
 use Rattle.values.specs.declared.FatPointer.{FatPointer}
 use Rattle.memory.specs.Change.{inside}
 use Rattle.memory.specs.Reads.{outside}
-use Rattle.memory.specs.declared.ReadResult.{ReadResult}
-use Rattle.memory.specs.declared.ReadResult.TheVariants.{Readable, NotReadable}
 use Rattle.pools.specs.declared.InstructionsRef.{InstructionsRef}
 use Rattle.storage.specs.declared.Task.{Task}
 use Rattle.storage.specs.Tasks.{new_task}
+use Rattle.errors.specs.declared.Refusal.{Refusal}
 
 -- a vector lies in the memory in use, or 14 with its offset and size
-unfoldable pub within : List ℕ → FatPointer → ReadResult
-within memory pointer = cond (inside memory pointer) Readable (NotReadable (outside pointer))
+unfoldable pub within : List ℕ → FatPointer → Result ⊤ Refusal
+within memory pointer = cond (inside memory pointer) (Ok tt) (Err (outside pointer))
 
 -- the length and the bytes of a record's title
 abbrev pub title_length : Task → ℕ

@@ -1,64 +1,25 @@
 -- The words that the opcodes are defined in. Each goes on with what it finds, or refuses; a refusal carries no world, so it leaves everything as it was.
-use Rattle.std.specs.Prelude.{ℕ, ◌+◌, Bool, cond, List, ltb, leb, length, set, get_or}
+use Rattle.std.specs.Prelude.{ℕ, ◌+◌, Bool, cond, List, ltb, leb, length, set, get_or, Ok, Err, Result, ⊤}
 use Rattle.errors.specs.declared.Refusal.{Refusal}
 use Rattle.errors.specs.declared.Refusal.TheVariants.{UnexpectedEOB, StackOverflow}
 use Rattle.bytecode.specs.Operands as bytecode
-use Rattle.bytecode.specs.declared.OperandResult.{OperandResult}
-use Rattle.bytecode.specs.declared.OperandResult.TheVariants.{Operand, NoOperand}
 use Rattle.inlinevec.specs.Stacks as stacks
 use Rattle.inlinevec.specs.declared.Loop.{Loop}
-use Rattle.inlinevec.specs.declared.Loops.{Loops}
 use Rattle.inlinevec.specs.declared.Frame.{Frame}
-use Rattle.inlinevec.specs.declared.Frames.{Frames}
-use Rattle.inlinevec.specs.declared.PopResult.{PopResult}
-use Rattle.inlinevec.specs.declared.PopResult.TheVariants.{Popped, NotPopped}
-use Rattle.inlinevec.specs.declared.LastResult.{LastResult}
-use Rattle.inlinevec.specs.declared.LastResult.TheVariants.{Last, NoLast}
-use Rattle.inlinevec.specs.declared.LoopsResult.{LoopsResult}
-use Rattle.inlinevec.specs.declared.LoopsResult.TheVariants.{NewLoops, NoNewLoops}
-use Rattle.inlinevec.specs.declared.PopLoopResult.{PopLoopResult}
-use Rattle.inlinevec.specs.declared.PopLoopResult.TheVariants.{PoppedLoop, NotPoppedLoop}
-use Rattle.inlinevec.specs.declared.LastLoopResult.{LastLoopResult}
-use Rattle.inlinevec.specs.declared.LastLoopResult.TheVariants.{LastLoop, NoLastLoop}
-use Rattle.inlinevec.specs.declared.FramesResult.{FramesResult}
-use Rattle.inlinevec.specs.declared.FramesResult.TheVariants.{NewFrames, NoNewFrames}
-use Rattle.inlinevec.specs.declared.PopFrameResult.{PopFrameResult}
-use Rattle.inlinevec.specs.declared.PopFrameResult.TheVariants.{PoppedFrame, NotPoppedFrame}
 use Rattle.values.specs.Values.{to_fat_pointer}
 use Rattle.values.specs.declared.FatPointer.{FatPointer}
-use Rattle.values.specs.declared.ValueResult.{ValueResult}
-use Rattle.values.specs.declared.ValueResult.TheVariants.{Value, NoValue}
-use Rattle.values.specs.declared.PointerResult.{PointerResult}
-use Rattle.values.specs.declared.PointerResult.TheVariants.{Pointer, NoPointer}
 use Rattle.memory.specs.Allocation as memory
 use Rattle.memory.specs.Change.{inside}
 use Rattle.memory.specs.Reads.{get_slice_bytes, outside}
-use Rattle.memory.specs.declared.AllocResult.{AllocResult}
-use Rattle.memory.specs.declared.AllocResult.TheVariants.{Allocated, NotAllocated}
-use Rattle.memory.specs.declared.ChangeResult.{ChangeResult}
-use Rattle.memory.specs.declared.ChangeResult.TheVariants.{Changed, NotChanged}
 use Rattle.pools.specs.Pool as pools
 use Rattle.pools.specs.declared.InstructionsRef.{InstructionsRef}
-use Rattle.pools.specs.declared.BoundsResult.{BoundsResult}
-use Rattle.pools.specs.declared.BoundsResult.TheVariants.{Bounds, NoBounds}
-use Rattle.pools.specs.declared.InternResult.{InternResult}
-use Rattle.pools.specs.declared.InternResult.TheVariants.{Interned, NotInterned}
 use Rattle.storage.specs.Storage as storage
 use Rattle.storage.specs.Tasks.{blank}
 use Rattle.storage.specs.declared.Task.{Task}
 use Rattle.storage.specs.declared.TaskId.{TaskId}
 use Rattle.storage.specs.declared.TaskState.{TaskState}
-use Rattle.storage.specs.declared.DefaultResult.{DefaultResult}
-use Rattle.storage.specs.declared.DefaultResult.TheVariants.{State, NoState}
-use Rattle.storage.specs.declared.StateResult.{StateResult}
-use Rattle.storage.specs.declared.StateResult.TheVariants.{Set, NotSet}
-use Rattle.storage.specs.declared.FindResult.{FindResult}
-use Rattle.storage.specs.declared.FindResult.TheVariants.{Found, NotFound}
-use Rattle.storage.specs.declared.RoomResult.{RoomResult}
-use Rattle.storage.specs.declared.RoomResult.TheVariants.{Room, NoRoom}
-use Rattle.image.specs.declared.SaveResult.{SaveResult}
-use Rattle.image.specs.declared.SaveResult.TheVariants.{Saved, NotSaved}
 use Rattle.machine.specs.World.{World, code, place, memory_in_use, moved, with_stack, with_memory, pooling}
+use Rattle.inlinevec.specs.declared.Two.{Two}
 
 -- what an instruction leaves, or its refusal
 pub data StepResult : Type 0 where
@@ -71,9 +32,9 @@ test holds refusal onward = cond holds onward (refused refusal)
 
 -- ---- the code: 2
 
-unfoldable pub operand_found : OperandResult → (ℕ → StepResult) → StepResult
-operand_found (Operand number) onward = onward number
-operand_found (NoOperand refusal) onward = refused refusal
+unfoldable pub operand_found : Result ℕ Refusal → (ℕ → StepResult) → StepResult
+operand_found (Ok number) onward = onward number
+operand_found (Err refusal) onward = refused refusal
 
 -- the operand of so many bytes, so many bytes behind the opcode
 abbrev pub operand : World → ℕ → ℕ → (ℕ → StepResult) → StepResult
@@ -85,17 +46,17 @@ has_data w behind size onward = test (leb (place w + behind + size) (length (cod
 
 -- ---- the stack: 3, 4
 
-unfoldable pub popped : PopResult → (ℕ → ℕ → StepResult) → StepResult
-popped (Popped value below) onward = onward value below
-popped (NotPopped refusal) onward = refused refusal
+unfoldable pub popped : Result (ℕ × ℕ) Refusal → (ℕ → ℕ → StepResult) → StepResult
+popped (Ok (value, below)) onward = onward value below
+popped (Err refusal) onward = refused refusal
 
 -- the value below a height, and the height without it
 abbrev pub pop : World → ℕ → (ℕ → ℕ → StepResult) → StepResult
 pop w height onward = popped (stacks.pop w.stack height) onward
 
-unfoldable pub looked_at : LastResult → (ℕ → StepResult) → StepResult
-looked_at (Last value) onward = onward value
-looked_at (NoLast refusal) onward = refused refusal
+unfoldable pub looked_at : Result ℕ Refusal → (ℕ → StepResult) → StepResult
+looked_at (Ok value) onward = onward value
+looked_at (Err refusal) onward = refused refusal
 
 -- the value below a height, which stays
 abbrev pub last : World → ℕ → (ℕ → StepResult) → StepResult
@@ -108,13 +69,13 @@ push w to height value = test (ltb height 1000) StackOverflow (next (moved (with
 -- ---- values: 5, 6, 7, 13, 14
 
 -- what a calculation answers
-unfoldable pub calculated : ValueResult → (ℕ → StepResult) → StepResult
-calculated (Value value) onward = onward value
-calculated (NoValue refusal) onward = refused refusal
+unfoldable pub calculated : Result ℕ Refusal → (ℕ → StepResult) → StepResult
+calculated (Ok value) onward = onward value
+calculated (Err refusal) onward = refused refusal
 
-unfoldable pub pointed : PointerResult → (FatPointer → StepResult) → StepResult
-pointed (Pointer vector) onward = onward vector
-pointed (NoPointer refusal) onward = refused refusal
+unfoldable pub pointed : Result FatPointer Refusal → (FatPointer → StepResult) → StepResult
+pointed (Ok vector) onward = onward vector
+pointed (Err refusal) onward = refused refusal
 
 -- a vector's offset and size
 abbrev pub pointer : ℕ → (FatPointer → StepResult) → StepResult
@@ -126,9 +87,9 @@ pointer value onward = pointed (to_fat_pointer value) onward
 unfoldable pub bytes_of : World → FatPointer → (List ℕ → StepResult) → StepResult
 bytes_of w vector onward = test (inside (memory_in_use w) vector) (outside vector) (onward (get_slice_bytes (memory_in_use w) vector))
 
-unfoldable pub allocated : World → ℕ → ℕ → List ℕ → AllocResult → StepResult
-allocated w to height memory (Allocated value used) = next (moved (with_memory (with_stack w (set w.stack height value)) memory used) to (height + 1))
-allocated w to height memory (NotAllocated refusal) = refused refusal
+unfoldable pub allocated : World → ℕ → ℕ → List ℕ → Result (ℕ × ℕ) Refusal → StepResult
+allocated w to height memory (Ok (value, used)) = next (moved (with_memory (with_stack w (set w.stack height value)) memory used) to (height + 1))
+allocated w to height memory (Err refusal) = refused refusal
 
 -- a new vector at a height, and on at a place: 5 or 13, then 4, then 23
 unfoldable pub store : World → ℕ → ℕ → ℕ → ℕ → List ℕ → StepResult
@@ -140,9 +101,9 @@ store w to height size tag payload =
     (memory.alloc w.memory payload w.machine.memory size tag).answer)
 
 -- an element of a vector is changed
-unfoldable pub element_changed : ChangeResult → StepResult → StepResult
-element_changed Changed onward = onward
-element_changed (NotChanged refusal) onward = refused refusal
+unfoldable pub element_changed : Result ⊤ Refusal → StepResult → StepResult
+element_changed (Ok tt) onward = onward
+element_changed (Err refusal) onward = refused refusal
 
 -- ---- loops and frames: 3, 4
 
@@ -150,59 +111,59 @@ element_changed (NotChanged refusal) onward = refused refusal
 abbrev pub next_round : Loop → Loop
 next_round last = record { place = last.place; index = last.index + 1; limit = last.limit }
 
-unfoldable pub loop_pushed : LoopsResult → (Loops → StepResult) → StepResult
-loop_pushed (NewLoops loops) onward = onward loops
-loop_pushed (NoNewLoops refusal) onward = refused refusal
+unfoldable pub loop_pushed : Result (Two Loop) Refusal → (Two Loop → StepResult) → StepResult
+loop_pushed (Ok loops) onward = onward loops
+loop_pushed (Err refusal) onward = refused refusal
 
 -- one open loop more
-abbrev pub push_loop : Loops → Loop → (Loops → StepResult) → StepResult
-push_loop loops opened onward = loop_pushed (stacks.push_loop loops opened) onward
+abbrev pub push_loop : Two Loop → Loop → (Two Loop → StepResult) → StepResult
+push_loop loops opened onward = loop_pushed (stacks.push_onto loops opened) onward
 
-unfoldable pub loop_popped : PopLoopResult → (Loop → Loops → StepResult) → StepResult
-loop_popped (PoppedLoop innermost others) onward = onward innermost others
-loop_popped (NotPoppedLoop refusal) onward = refused refusal
+unfoldable pub loop_popped : Result (Loop × Two Loop) Refusal → (Loop → Two Loop → StepResult) → StepResult
+loop_popped (Ok (innermost, others)) onward = onward innermost others
+loop_popped (Err refusal) onward = refused refusal
 
 -- the innermost loop, and the others
-abbrev pub pop_loop : Loops → (Loop → Loops → StepResult) → StepResult
-pop_loop loops onward = loop_popped (stacks.pop_loop loops) onward
+abbrev pub pop_loop : Two Loop → (Loop → Two Loop → StepResult) → StepResult
+pop_loop loops onward = loop_popped (stacks.pop_off loops) onward
 
-unfoldable pub loop_looked_at : LastLoopResult → (Loop → StepResult) → StepResult
-loop_looked_at (LastLoop innermost) onward = onward innermost
-loop_looked_at (NoLastLoop refusal) onward = refused refusal
+unfoldable pub loop_looked_at : Result Loop Refusal → (Loop → StepResult) → StepResult
+loop_looked_at (Ok innermost) onward = onward innermost
+loop_looked_at (Err refusal) onward = refused refusal
 
 -- the innermost loop, which stays
-abbrev pub last_loop : Loops → (Loop → StepResult) → StepResult
-last_loop loops onward = loop_looked_at (stacks.last_loop loops) onward
+abbrev pub last_loop : Two Loop → (Loop → StepResult) → StepResult
+last_loop loops onward = loop_looked_at (stacks.last_on loops) onward
 
-unfoldable pub frame_pushed : FramesResult → (Frames → StepResult) → StepResult
-frame_pushed (NewFrames frames) onward = onward frames
-frame_pushed (NoNewFrames refusal) onward = refused refusal
+unfoldable pub frame_pushed : Result (Two Frame) Refusal → (Two Frame → StepResult) → StepResult
+frame_pushed (Ok frames) onward = onward frames
+frame_pushed (Err refusal) onward = refused refusal
 
 -- one frame more
-abbrev pub push_frame : Frames → Frame → (Frames → StepResult) → StepResult
-push_frame frames entered onward = frame_pushed (stacks.push_frame frames entered) onward
+abbrev pub push_frame : Two Frame → Frame → (Two Frame → StepResult) → StepResult
+push_frame frames entered onward = frame_pushed (stacks.push_onto frames entered) onward
 
-unfoldable pub frame_popped : PopFrameResult → (Frames → StepResult) → StepResult
-frame_popped (PoppedFrame frame others) onward = onward others
-frame_popped (NotPoppedFrame refusal) onward = refused refusal
+unfoldable pub frame_popped : Result (Frame × Two Frame) Refusal → (Two Frame → StepResult) → StepResult
+frame_popped (Ok (frame, others)) onward = onward others
+frame_popped (Err refusal) onward = refused refusal
 
 -- the frames without the last one
-abbrev pub pop_frame : Frames → (Frames → StepResult) → StepResult
-pop_frame frames onward = frame_popped (stacks.pop_frame frames) onward
+abbrev pub pop_frame : Two Frame → (Two Frame → StepResult) → StepResult
+pop_frame frames onward = frame_popped (stacks.pop_off frames) onward
 
 -- ---- the pool: 12, 22
 
-unfoldable pub bounds_found : BoundsResult → (ℕ → ℕ → StepResult) → StepResult
-bounds_found (Bounds start end) onward = onward start end
-bounds_found (NoBounds refusal) onward = refused refusal
+unfoldable pub bounds_found : Result (ℕ × ℕ) Refusal → (ℕ → ℕ → StepResult) → StepResult
+bounds_found (Ok (start, end)) onward = onward start end
+bounds_found (Err refusal) onward = refused refusal
 
 -- where an entry starts and ends
 abbrev pub bounds : World → InstructionsRef → (ℕ → ℕ → StepResult) → StepResult
 bounds w entry onward = bounds_found (pools.bounds w.ends w.machine.entries entry) onward
 
-unfoldable pub interned : World → pools.Pooled → InternResult → (InstructionsRef → World → StepResult) → StepResult
-interned w after (Interned entry bytes) onward = onward entry (pooling w after.pool after.ends bytes (entry.0 + 1))
-interned w after (NotInterned refusal) onward = refused refusal
+unfoldable pub interned : World → pools.Pooled → Result (InstructionsRef × ℕ) Refusal → (InstructionsRef → World → StepResult) → StepResult
+interned w after (Ok (entry, bytes)) onward = onward entry (pooling w after.pool after.ends bytes (entry.0 + 1))
+interned w after (Err refusal) onward = refused refusal
 
 -- one entry more, and the world with it
 abbrev pub intern : World → List ℕ → (InstructionsRef → World → StepResult) → StepResult
@@ -216,27 +177,27 @@ intern w calldata onward =
 abbrev pub task_of : World → TaskId → Task
 task_of w id = get_or w.table (storage.slot_of id) blank
 
-unfoldable pub found : FindResult → StepResult → StepResult
-found Found onward = onward
-found (NotFound refusal) onward = refused refusal
+unfoldable pub found : Result ⊤ Refusal → StepResult → StepResult
+found (Ok tt) onward = onward
+found (Err refusal) onward = refused refusal
 
 -- a living task
 abbrev pub find : World → TaskId → (Task → StepResult) → StepResult
 find w id onward = found (storage.find (task_of w id) id) (onward (task_of w id))
 
 -- the first of a task's states
-unfoldable pub first_state : DefaultResult → (TaskState → StepResult) → StepResult
-first_state (State state) onward = onward state
-first_state (NoState refusal) onward = refused refusal
+unfoldable pub first_state : Result TaskState Refusal → (TaskState → StepResult) → StepResult
+first_state (Ok state) onward = onward state
+first_state (Err refusal) onward = refused refusal
 
 -- a task has such a state
-unfoldable pub has_state : StateResult → StepResult → StepResult
-has_state Set onward = onward
-has_state (NotSet refusal) onward = refused refusal
+unfoldable pub has_state : Result ⊤ Refusal → StepResult → StepResult
+has_state (Ok tt) onward = onward
+has_state (Err refusal) onward = refused refusal
 
-unfoldable pub with_room : RoomResult → StepResult → StepResult
-with_room Room onward = onward
-with_room (NoRoom refusal) onward = refused refusal
+unfoldable pub with_room : Result ⊤ Refusal → StepResult → StepResult
+with_room (Ok tt) onward = onward
+with_room (Err refusal) onward = refused refusal
 
 -- one more task, with a title of so many bytes, has room
 abbrev pub room : World → ℕ → StepResult → StepResult
@@ -244,6 +205,6 @@ room w title onward = with_room (storage.room w.machine.next_id.0 title) onward
 
 -- ---- a save: 12, 15, 24
 
-unfoldable pub saved : SaveResult → (ℕ → StepResult) → StepResult
-saved (Saved length) onward = onward length
-saved (NotSaved refusal) onward = refused refusal
+unfoldable pub saved : Result ℕ Refusal → (ℕ → StepResult) → StepResult
+saved (Ok length) onward = onward length
+saved (Err refusal) onward = refused refusal

@@ -1,12 +1,13 @@
 -- A machine and everything lent to it.
 use Rattle.std.specs.Prelude.{ℕ, Bool, List, leb, length, take, set}
-use Rattle.inlinevec.specs.declared.Loops.{Loops}
-use Rattle.inlinevec.specs.declared.Frames.{Frames}
 use Rattle.storage.specs.Storage.{slot_of}
 use Rattle.storage.specs.declared.Task.{Task}
 use Rattle.storage.specs.declared.TaskId.{TaskId}
 use Rattle.machine.specs.declared.Machine.{Machine}
 use Rattle.machine.specs.Machines.{current, code_of, op_at, placed, with_loops, with_used, with_pool, with_frames, with_ids, with_saved}
+use Rattle.inlinevec.specs.declared.Two.{Two}
+use Rattle.inlinevec.specs.declared.Loop.{Loop}
+use Rattle.inlinevec.specs.declared.Frame.{Frame}
 
 -- the record, then what is lent at each call, in this order
 pub record World : Type 0 where
@@ -66,10 +67,10 @@ abbrev pub with_memory : World → List ℕ → ℕ → World
 with_memory w memory used = world (with_used w.machine used) w.table w.stack memory w.pool w.ends w.save
 
 -- other open loops, other frames
-abbrev pub looping : World → Loops → World
+abbrev pub looping : World → Two Loop → World
 looping w loops = with_machine w (with_loops w.machine loops)
 
-abbrev pub framed : World → Frames → World
+abbrev pub framed : World → Two Frame → World
 framed w frames = with_machine w (with_frames w.machine frames)
 
 -- another pool: its bytes and ends, and how many bytes and entries are in use

@@ -4,7 +4,6 @@
 pub mod new_machines;
 
 use errors::Refusal;
-use image::SaveResult;
 use inlinevec::{Frames, Loops};
 use storage::{Task, TaskId};
 
@@ -48,13 +47,6 @@ pub struct RunEnd {
     pub outcome: Outcome,
 }
 
-// What a creation answers: a new machine, or why there is none.
-#[derive(Clone, Copy)]
-pub enum CreateResult {
-    Created(Machine),
-    NotCreated(Refusal),
-}
-
 // What a host asks of a run: to start at main, to rerun from where the run before ended, or to continue where it paused.
 #[derive(Clone, Copy)]
 pub enum Verb {
@@ -71,32 +63,23 @@ pub struct Report {
     pub outcome: Outcome,
 }
 
-// Whether a task can be read.
-#[derive(Clone, Copy)]
-pub enum TaskResult {
-    Readable,
-    NotReadable(Refusal),
-}
-
-// What the read of a task answers, and its record.
+// What the read of a task answers, and its record. No Result of a record: the record is promised on a refusal, too.
 #[derive(Drop)]
 pub struct TaskRead {
-    pub result: TaskResult,
+    pub result: Result<(), Refusal>,
     pub task: Task,
 }
 
-// What a save by the host answers, and the machine after it.
+// What a save by the host answers, and the machine after it. No Result of a machine: a refused save leaves one, too.
 #[derive(Drop)]
 pub struct SaveReport {
     pub machine: Machine,
-    pub result: SaveResult,
+    pub result: Result<usize, Refusal>,
 }
 
-// Whether a creation goes on, the machine that it makes before its tasks are loaded, and how many there are.
+// What a creation goes on with: the machine before its tasks are loaded, and how many there are.
 #[derive(Drop)]
 pub struct Preparation {
-    pub fits: bool,
-    pub refusal: Refusal,
     pub machine: Machine,
     pub count: u32,
 }

@@ -4,8 +4,9 @@ ghost use Rattle.machine.specs.Machines.{no_loops, at_main};
 ghost use Rattle.machine.specs.Calls.{phased};
 ghost use Rattle.machine.specs.Creation.{new_machine, machine_of};
 
-use crate::{CreateResult, Machine, Phase};
-use inlinevec::{Frame, Frames, Loop, Loops};
+use crate::{Machine, Phase};
+use errors::Refusal;
+use inlinevec::{Frame, Loop, Loops, Two};
 use pools::InstructionsRef;
 use storage::TaskId;
 
@@ -18,10 +19,10 @@ fn no_loops() -> Loops
         index: 0,
         limit: 0,
     };
-    Loops {
+    Two {
         count: 0,
-        outer: none,
-        inner: none,
+        first: none,
+        second: none,
     }
 }
 
@@ -33,10 +34,10 @@ fn at_its_start(phase: Phase, bytes: usize, entries: usize, next_id: TaskId, cou
         entry: InstructionsRef(0),
         place: 0,
     };
-    let frames = Frames {
+    let frames = Two {
         count: 1,
-        main,
-        task: main,
+        first: main,
+        second: main,
     };
     Machine {
         phase,
@@ -60,12 +61,13 @@ pub fn new_machine(bytes: usize, entries: usize, next_id: TaskId, count: u32) ->
 }
 
 // The machine that was created; one that does not start, if none was.
-pub fn machine_of(creation: CreateResult) -> Machine
+#[tactic(auto, unfolding(crate::specs::Creation::machine_of))]
+pub fn machine_of(creation: Result<Machine, Refusal>) -> Machine
     ensures { result ≡ machine_of creation }
 {
     match creation {
-        CreateResult::Created(machine) => machine,
-        CreateResult::NotCreated(_) => at_its_start(Phase::Stopped, 0, 0, TaskId(0), 0),
+        Ok(machine) => machine,
+        Err(_) => at_its_start(Phase::Stopped, 0, 0, TaskId(0), 0),
     }
 }
 
@@ -76,6 +78,6 @@ pub fn at_main(machine: Machine) -> Machine
     let mut started = machine;
     started.loops = no_loops();
     started.frames.count = 1;
-    started.frames.main.place = 0;
+    started.frames.first.place = 0;
     started
 }

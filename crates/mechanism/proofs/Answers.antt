@@ -9,7 +9,6 @@ use Rattle.storage.specs.declared.TaskId.{TaskId}
 use Rattle.storage.specs.Storage.{slot_of}
 use Rattle.storage.specs.Tasks.{blank, After, after}
 use Rattle.storage.specs.Table.{sound_table}
-use Rattle.image.specs.declared.SaveResult.{SaveResult}
 use Rattle.image.specs.Table.{SavedTable, saved_table, save_table}
 use Rattle.image.specs.Writing.{Stepped, stepped}
 use Rattle.table_image.specs.Loops.{load_records}
@@ -25,15 +24,15 @@ use Rattle.machine.specs.Calls.{reported, begun, allowing, allowed, report, not_
 use Rattle.machine.specs.Reads.{read_to, value_at, value_read, task_answer, task_read, saved_to, host_saved, not_saved, host_save_as, host_save}
 use Rattle.machine.specs.Reads as reads
 use Rattle.machine.specs.Creation.{made, create}
-use Rattle.mechanism.specs.Creating.{prepared, prepare, created_with, loaded_from, create_as, create_by_parts}
+use Rattle.mechanism.specs.Creating.{prepared, prepare, created_with, loaded_from, create_ready, create_as, create_by_parts}
 use Rattle.mechanism.proofs.Creates.{create_is}
 use Rattle.machine.specs.declared.Verb.{Verb}
 use Rattle.machine.specs.declared.Report.{Report}
 use Rattle.machine.specs.declared.Preparation.{Preparation}
-use Rattle.machine.specs.declared.CreateResult.{CreateResult}
-use Rattle.machine.specs.declared.CreateResult.TheVariants.{NotCreated}
 use Rattle.machine.specs.declared.TaskRead.{TaskRead}
 use Rattle.machine.specs.declared.SaveReport.{SaveReport}
+use Rattle.std.specs.Prelude.{Ok, Err, Result}
+use Rattle.errors.specs.declared.Refusal.{Refusal}
 
 -- ---- the test of the record
 
@@ -49,22 +48,20 @@ tests table memory pool ends save machine {good} {answer} {table'} e f =
 
 -- ---- creation
 
-module _ (table : List Task) (pool ends image program : List ℕ) {ready : Preparation} {pool' ends' : List ℕ}
-    (e : prepared ready pool' ends' ≡ prepare pool ends image program (length table)) where
+module _ (table : List Task) (pool ends image program : List ℕ) {pool' ends' : List ℕ} where
   -- it goes on to the image's tasks
-  pub creates : {used : InUse} {r : CreateResult} {table'' : List Task} {pool'' ends'' : List ℕ} → ready.fits ≡ true
+  pub creates : {ready : Preparation} {used : InUse} {table'' : List Task} {pool'' ends'' : List ℕ}
+      → prepared (Ok ready) pool' ends' ≡ prepare pool ends image program (length table)
       → loading table'' pool'' ends'' used ≡ load_records ready.count image 14 (loading (replicate (length table) blank) pool' ends' (in_use ready.machine.pool ready.machine.entries))
-      → r ≡ created_with ready.machine used → made r table'' pool'' ends'' ≡ create table pool ends image program
-  unfolding create_by_parts create_as
-  creates {used} {r} {table''} {pool''} {ends''} fits f g =
-      ap (λ (a : CreateResult). made a table'' pool'' ends'') g
-      ∙ ap (loaded_from ready.machine) f
-      ∙ sym (simp (fits)) ∙ ap (create_as table image) e ∙ create_is table pool ends image program
+      → made (created_with ready.machine used) table'' pool'' ends'' ≡ create table pool ends image program
+  unfolding create_by_parts create_ready
+  creates {ready} e f = ap (loaded_from ready.machine) f ∙ ap (create_as table image) e ∙ create_is table pool ends image program
 
   -- it is refused
-  pub creates_none : {r : CreateResult} → ready.fits ≡ false → r ≡ NotCreated ready.refusal → made r table pool' ends' ≡ create table pool ends image program
-  unfolding create_by_parts create_as
-  creates_none fits g = ap (λ (a : CreateResult). made a table pool' ends') g ∙ sym (simp (fits)) ∙ ap (create_as table image) e ∙ create_is table pool ends image program
+  pub creates_none : {refusal : Refusal} → prepared (Err refusal) pool' ends' ≡ prepare pool ends image program (length table)
+      → made (Err refusal) table pool' ends' ≡ create table pool ends image program
+  unfolding create_by_parts create_ready
+  creates_none e = ap (create_as table image) e ∙ create_is table pool ends image program
 
 -- ---- what follows a test
 
@@ -100,7 +97,7 @@ module _ (machine : Machine) (table : List Task) (stack memory pool ends save : 
       ap (λ (x : Report). reported x table' stack memory' pool' ends' save') reports ∙ sym (simp (refused)) ∙ calls verb fuel
 
   -- the read of a value
-  pub reads_value : (position : ℕ) {r : Return} {stack'' memory'' ends'' : List ℕ} → reads.value_on r stack'' memory'' ends'' ≡ reads.value_on (value_at stack memory' ends' machine good position) stack memory' ends'
+  pub reads_value : (position : ℕ) {r : Result Return Refusal} {stack'' memory'' ends'' : List ℕ} → reads.value_on r stack'' memory'' ends'' ≡ reads.value_on (value_at stack memory' ends' machine good position) stack memory' ends'
       → read_to r (world machine table' stack'' memory'' pool' ends'' save') ≡ value_read position (world machine table stack memory pool ends save)
   unfolding value_read
   reads_value position f =
@@ -128,7 +125,7 @@ module _ (machine : Machine) (table : List Task) (stack memory pool ends save : 
       (saved_to (not_saved machine) t.table stack t.memory t.pool t.ends t.save)) e
 
   -- one of a sound record
-  pub hosts_save : {result : SaveResult} {r : SaveReport} {table'' : List Task} {pool'' ends'' save'' : List ℕ} → good ≡ true
+  pub hosts_save : {result : Result ℕ Refusal} {r : SaveReport} {table'' : List Task} {pool'' ends'' save'' : List ℕ} → good ≡ true
       → held (saved_table result save'') table'' pool'' ends'' ≡ held (save_table machine.next_id.0 table' pool' ends' machine.entries save') table' pool' ends' → r ≡ host_saved machine result
       → saved_to r table'' stack memory' pool'' ends'' save'' ≡ host_save (world machine table stack memory pool ends save)
   hosts_save {result} {r} {table''} {pool''} {ends''} {save''} sound f g =

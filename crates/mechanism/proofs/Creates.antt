@@ -4,31 +4,31 @@ use mathlib.Core.List.{List}
 use mathlib.Core.Path.{◌≡◌, refl, ap}
 use lib.ListN.{length}
 use Rattle.pools.specs.Pool.{interned}
-use Rattle.pools.specs.declared.InternResult.{InternResult}
-use Rattle.pools.specs.declared.InternResult.TheVariants.{Interned, NotInterned}
 use Rattle.storage.specs.declared.Task.{Task}
 use Rattle.table_image.proofs.Fits.{Fits, fits, records_told}
 use Rattle.table_image.specs.Creation.{creation_tests}
 use Rattle.table_image.specs.Tables.{in_use}
-use Rattle.table_image.specs.declared.creation.CreationResult.{CreationResult}
-use Rattle.table_image.specs.declared.creation.CreationResult.TheVariants.{Fit, Unfit}
 use Rattle.machine.specs.Creation.{loaded, create_behind, create_fit, create}
-use Rattle.mechanism.specs.Creating.{unfit, with_program, prepared, prepare_fit, prepare, create_as, create_by_parts}
+use Rattle.mechanism.specs.Creating.{with_program, prepared, prepare_fit, prepare, create_ready, create_as, create_by_parts}
+use Rattle.std.specs.Prelude.{Ok, Err, Result}
+use Rattle.errors.specs.declared.Refusal.{Refusal}
+use Rattle.pools.specs.declared.InstructionsRef.{InstructionsRef}
+use Rattle.table_image.specs.declared.creation.Fit.{Fit}
 
 module _ (table : List Task) (pool ends image program : List ℕ) where
   -- behind the program, as many records as the image counts are its tasks
-  behind : (next_id count s_len : ℕ) → Fits (length table) (length pool) (length program) image next_id count s_len → (after new : List ℕ) (answer : InternResult)
+  behind : (next_id count s_len : ℕ) → Fits (length table) (length pool) (length program) image next_id count s_len → (after new : List ℕ) (answer : Result (InstructionsRef × ℕ) Refusal)
       → create_as table image (prepared (with_program next_id count s_len answer) after new) ≡ create_behind table image next_id s_len after new answer
-  unfolding create_as with_program unfit create_behind
-  behind next_id count s_len f after new (Interned entry bytes) = ap (loaded next_id s_len) (records_told f table after new (in_use bytes 1))
-  behind next_id count s_len f after new (NotInterned refusal) = refl
+  unfolding create_ready with_program create_behind
+  behind next_id count s_len f after new (Ok (entry, bytes)) = ap (loaded next_id s_len) (records_told f table after new (in_use bytes 1))
+  behind next_id count s_len f after new (Err refusal) = refl
 
-  by_tests : (result : CreationResult) → creation_tests (length table) (length pool) (length program) image ≡ result → create_as table image (prepare_fit pool ends program result) ≡ create_fit table pool ends image program result
-  unfolding create_as prepare_fit unfit create_fit
-  by_tests (Fit next_id count s_len) e =
-      behind next_id.0 count s_len (fits (length table) (length pool) (length program) image next_id.0 count s_len e) (interned pool ends 0 0 program).pool (interned pool ends 0 0 program).ends
+  by_tests : (result : Result Fit Refusal) → creation_tests (length table) (length pool) (length program) image ≡ result → create_as table image (prepare_fit pool ends program result) ≡ create_fit table pool ends image program result
+  unfolding create_ready prepare_fit create_fit
+  by_tests (Ok fit) e =
+      behind fit.next_id.0 fit.count fit.s_len (fits (length table) (length pool) (length program) image fit.next_id.0 fit.count fit.s_len e) (interned pool ends 0 0 program).pool (interned pool ends 0 0 program).ends
       (interned pool ends 0 0 program).answer
-  by_tests (Unfit refusal) e = refl
+  by_tests (Err refusal) e = refl
 
   -- what the code does a part after the other is creation
   pub create_is : create_by_parts table pool ends image program ≡ create table pool ends image program

@@ -6,27 +6,22 @@ use lib.Dec.{eqb}
 use Rattle.bytecode.specs.Opcodes.{PUSH_U32, PUSH_STATE, PUSH_TASK_FIELD, PUSH_MAX_STATES, S_LEN, DO, LOOP, LOOP_INDEX, DROP, DUP, SWAP, EQ, LT, GT, JUMP_IF_FALSE, M_STI, M_ST, M_MUTA, MULI, MUL}
 use Rattle.errors.specs.declared.Refusal.{Refusal}
 use Rattle.bytecode.specs.Operands.{operand}
-use Rattle.bytecode.specs.declared.Extent.{Extent}
-use Rattle.bytecode.specs.declared.Extent.TheVariants as extents
-use Rattle.bytecode.specs.declared.OperandResult.{OperandResult}
-use Rattle.bytecode.specs.declared.OperandResult.TheVariants.{Operand, NoOperand}
 use Rattle.mechanism.specs.Registers.{on_memory}
 use Rattle.mechanism.specs.declared.Registers.{Registers}
-use Rattle.mechanism.specs.declared.RegistersResult.{RegistersResult}
-use Rattle.mechanism.specs.declared.RegistersResult.TheVariants.{Next, Refused}
 use Rattle.mechanism.specs.Operated.{with_operand, push_u32, push_u8, muli, m_st, m_sti_of, m_sti}
 use Rattle.mechanism.specs.Execute.{plain, operated, is_equality, execute, by_extent, instruct}
 use Rattle.mechanism.proofs.Either.{either}
 use Rattle.mechanism.proofs.RefusalsStack as stack
 use Rattle.mechanism.proofs.RefusalsStack.{unwritten, push_leaves, mul_leaves, muli_leaves, compare_leaves, dup_leaves, swap_leaves, loop_index_leaves, eq_leaves}
 use Rattle.mechanism.proofs.Memory.{Leaves, finished, kept, beside, store_leaves, m_st_leaves, m_muta_leaves}
+use Rattle.std.specs.Prelude.{Ok, Err, Result, Option, Some, None}
 
 -- an operand that is missing, then what holds of any
-sized : {A : Type 0} (P : A → Type 0) (refuse : Refusal → A) (onward : ℕ → A) (result : OperandResult)
+sized : {A : Type 0} (P : A → Type 0) (refuse : Refusal → A) (onward : ℕ → A) (result : Result ℕ Refusal)
     → ((refusal : Refusal) → P (refuse refusal)) → ((number : ℕ) → P (onward number)) → P (with_operand refuse onward result)
 unfolding with_operand
-sized P refuse onward (Operand number) none some = some number
-sized P refuse onward (NoOperand refusal) none some = none refusal
+sized P refuse onward (Ok number) none some = some number
+sized P refuse onward (Err refusal) none some = none refusal
 
 push_u32_leaves : (s code : List ℕ) (registers : Registers) (next : ℕ) → stack.Leaves s (push_u32 s code registers next)
 unfolding push_u32
@@ -88,14 +83,14 @@ execute_leaves s memory code registers next op count =
     (either (Leaves s memory) (eqb op M_MUTA) _ _ (m_muta_leaves s memory registers next)
     (beside s memory _ (operated_leaves s code registers next op count)))))
 
-unwritten_either : (s memory : List ℕ) (result : RegistersResult) → Leaves s memory (on_memory result s memory)
-unwritten_either s memory (Next registers) = finished registers s memory
-unwritten_either s memory (Refused refusal) = kept refusal
+unwritten_either : (s memory : List ℕ) (result : Result Registers Refusal) → Leaves s memory (on_memory result s memory)
+unwritten_either s memory (Ok registers) = finished registers s memory
+unwritten_either s memory (Err refusal) = kept refusal
 
-by_extent_leaves : (s memory code : List ℕ) (registers : Registers) (op count : ℕ) (extent : Extent) → Leaves s memory (by_extent s memory code registers op count extent)
+by_extent_leaves : (s memory code : List ℕ) (registers : Registers) (op count : ℕ) (extent : Option ℕ) → Leaves s memory (by_extent s memory code registers op count extent)
 unfolding by_extent
-by_extent_leaves s memory code registers op count (extents.Next next) = execute_leaves s memory code registers next op count
-by_extent_leaves s memory code registers op count extents.Cut = unwritten_either s memory _
+by_extent_leaves s memory code registers op count (Some next) = execute_leaves s memory code registers next op count
+by_extent_leaves s memory code registers op count None = unwritten_either s memory _
 
 pub instruct_leaves : (s memory code : List ℕ) (registers : Registers) (count : ℕ) → Leaves s memory (instruct s memory code registers count)
 unfolding instruct

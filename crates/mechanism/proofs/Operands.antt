@@ -9,13 +9,11 @@ use lib.ListN.{length, get_or}
 use borrow.Author.Tests.{le-leb}
 use Rattle.bytecode.specs.Opcodes.{operand_size, PUSH_CALLDATA, M_STI}
 use Rattle.bytecode.specs.Operands.{big_endian, operand, data_size, behind, extent}
-use Rattle.bytecode.specs.declared.Extent.{Extent}
-use Rattle.bytecode.specs.declared.Extent.TheVariants.{Next, Cut}
-use Rattle.bytecode.specs.declared.OperandResult.TheVariants.{Operand}
+use Rattle.std.specs.Prelude.{Ok, Some, None, Option}
 
 -- an extent up to a place
-abbrev pub up_to : List ℕ → ℕ → Extent
-up_to code end = cond (leb end (length code)) (Next end) Cut
+abbrev pub up_to : List ℕ → ℕ → Option ℕ
+up_to code end = cond (leb end (length code)) (Some end) None
 
 -- an opcode at a place, with operands and no data behind them
 pub reaches : (code : List ℕ) (at op size : ℕ) → get_or code at 0 ≡ op → operand_size op ≡ size → eqb op PUSH_CALLDATA ≡ false → eqb op M_STI ≡ false
@@ -27,13 +25,13 @@ reaches code at op size is sized not-calldata not-sti =
 
 -- one without operands, before the code's end
 pub reaches_next : (code : List ℕ) (at op : ℕ) → at < length code → get_or code at 0 ≡ op → operand_size op ≡ 0 → eqb op PUSH_CALLDATA ≡ false → eqb op M_STI ≡ false
-    → extent code at ≡ Next (at + 1)
+    → extent code at ≡ Some (at + 1)
 reaches_next code at op inside is sized not-calldata not-sti =
     let z : at + 1 + 0 ≡ at + 1 = omega arith in
     reaches code at op 0 is sized not-calldata not-sti ∙ rw (z, le-leb (at + 1) (length code) (omega arith))
 
 -- an operand that is there
-pub operand_there : (size : ℕ) (code : List ℕ) (at : ℕ) → leb (at + size) (length code) ≡ true → operand size code at ≡ Operand (big_endian size code at)
+pub operand_there : (size : ℕ) (code : List ℕ) (at : ℕ) → leb (at + size) (length code) ≡ true → operand size code at ≡ Ok (big_endian size code at)
 unfolding operand
 operand_there size code at t = rw t
 

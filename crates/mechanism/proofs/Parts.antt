@@ -11,30 +11,10 @@ use Rattle.errors.specs.declared.Refusal.{Refusal}
 use Rattle.errors.specs.declared.Refusal.TheVariants.{UnexpectedEOB, StackOverflow}
 use Rattle.bytecode.specs.Opcodes.{PUSH_U32, JUMP_IF_FALSE, M_STI, M_ST, MULI}
 use Rattle.bytecode.specs.Operands as operands
-use Rattle.bytecode.specs.declared.Extent.{Extent}
-use Rattle.bytecode.specs.declared.OperandResult.TheVariants.{Operand, NoOperand}
 use Rattle.inlinevec.specs.Stacks as stacks
-use Rattle.inlinevec.specs.declared.PopResult.{PopResult}
-use Rattle.inlinevec.specs.declared.PopResult.TheVariants.{Popped, NotPopped}
-use Rattle.inlinevec.specs.declared.LastResult.{LastResult}
-use Rattle.inlinevec.specs.declared.LastResult.TheVariants.{Last, NoLast}
-use Rattle.inlinevec.specs.declared.LoopsResult.{LoopsResult}
-use Rattle.inlinevec.specs.declared.LoopsResult.TheVariants.{NewLoops, NoNewLoops}
-use Rattle.inlinevec.specs.declared.PopLoopResult.{PopLoopResult}
-use Rattle.inlinevec.specs.declared.PopLoopResult.TheVariants.{PoppedLoop, NotPoppedLoop}
-use Rattle.inlinevec.specs.declared.LastLoopResult.{LastLoopResult}
-use Rattle.inlinevec.specs.declared.LastLoopResult.TheVariants.{LastLoop, NoLastLoop}
 use Rattle.values.specs.Values.{is_vec, raw_tag, to_u32, to_u32_val, to_bool_val, bool_not, to_fat_pointer, turned, mul_checked, mul_checked_i, value_cmp}
 use Rattle.values.specs.declared.FatPointer.{FatPointer}
-use Rattle.values.specs.declared.ValueResult.{ValueResult}
-use Rattle.values.specs.declared.ValueResult.TheVariants.{Value, NoValue}
-use Rattle.values.specs.declared.PointerResult.{PointerResult}
-use Rattle.values.specs.declared.PointerResult.TheVariants.{Pointer, NoPointer}
 use Rattle.memory.specs.Allocation as allocation
-use Rattle.memory.specs.declared.AllocResult.{AllocResult}
-use Rattle.memory.specs.declared.AllocResult.TheVariants.{Allocated, NotAllocated}
-use Rattle.memory.specs.declared.ChangeResult.{ChangeResult}
-use Rattle.memory.specs.declared.ChangeResult.TheVariants.{Changed, NotChanged}
 use Rattle.machine.specs.Machines.{placed}
 use Rattle.machine.specs.World.{World, code, place, height, memory_in_use, moved, looping, with_memory}
 use Rattle.machine.specs.Words.{StepResult, next, refused, test, pop, popped, looked_at, push, calculated, pointed, allocated, store, element_changed, loop_pushed, loop_popped, loop_looked_at, operand_found, push_loop, next_round}
@@ -51,11 +31,11 @@ use Rattle.mechanism.specs.Cut.{cut, cut_muli, cut_value, cut_m_st, cut_size, cu
 use Rattle.mechanism.specs.Execute.{kept, changed, operated, is_equality, execute, by_extent}
 use Rattle.mechanism.specs.Step.{inner_result, on_registers}
 use Rattle.mechanism.specs.declared.Registers.{Registers}
-use Rattle.mechanism.specs.declared.RegistersResult.TheVariants.{Refused}
-use Rattle.mechanism.specs.declared.PopTwoResult.{PopTwoResult}
-use Rattle.mechanism.specs.declared.PopTwoResult.TheVariants.{PoppedTwo, NotPoppedTwo}
 use Rattle.mechanism.proofs.Settled.{on_bool}
 use Rattle.mechanism.proofs.Operands.{up_to, one_byte}
+use Rattle.std.specs.Prelude.{Ok, Err, Result, Option, ⊤}
+use Rattle.inlinevec.specs.declared.Loop.{Loop}
+use Rattle.inlinevec.specs.declared.Two.{Two}
 
 module _ (w : World) where
   abbrev r : Registers
@@ -63,25 +43,25 @@ module _ (w : World) where
 
   -- ---- values off the stack
 
-  pub one_off : (F : PopResult → StepResult) (K : ℕ → ℕ → StepResult) → ((refusal : Refusal) → F (NotPopped refusal) ≡ refused refusal)
-      → ((value below : ℕ) → F (Popped value below) ≡ K value below) → (a : PopResult) → F a ≡ popped a K
+  pub one_off : (F : Result (ℕ × ℕ) Refusal → StepResult) (K : ℕ → ℕ → StepResult) → ((refusal : Refusal) → F (Err refusal) ≡ refused refusal)
+      → ((value below : ℕ) → F (Ok (value, below)) ≡ K value below) → (a : Result (ℕ × ℕ) Refusal) → F a ≡ popped a K
   unfolding popped
-  one_off F K bad good (Popped value below) = good value below
-  one_off F K bad good (NotPopped refusal) = bad refusal
+  one_off F K bad good (Ok (value, below)) = good value below
+  one_off F K bad good (Err refusal) = bad refusal
 
-  pub two_off : (F : PopTwoResult → StepResult) (K : ℕ → ℕ → ℕ → StepResult) → ((refusal : Refusal) → F (NotPoppedTwo refusal) ≡ refused refusal)
-      → ((first second below : ℕ) → F (PoppedTwo first second below) ≡ K first second below) → (height : ℕ)
+  pub two_off : (F : Result (ℕ × ℕ × ℕ) Refusal → StepResult) (K : ℕ → ℕ → ℕ → StepResult) → ((refusal : Refusal) → F (Err refusal) ≡ refused refusal)
+      → ((first second below : ℕ) → F (Ok (first, second, below)) ≡ K first second below) → (height : ℕ)
       → F (pop_two w.stack height) ≡ (pop w height λ first above. pop w above λ second below. K first second below)
   unfolding pop_two pop_first pop_second popped
   two_off F K bad good height = on_first (stacks.pop w.stack height)
     where
-      on_second : (first : ℕ) (b : PopResult) → F (pop_second first b) ≡ popped b (K first)
-      on_second first (Popped second below) = good first second below
-      on_second first (NotPopped refusal) = bad refusal
+      on_second : (first : ℕ) (b : Result (ℕ × ℕ) Refusal) → F (pop_second first b) ≡ popped b (K first)
+      on_second first (Ok (second, below)) = good first second below
+      on_second first (Err refusal) = bad refusal
 
-      on_first : (a : PopResult) → F (pop_first w.stack a) ≡ popped a (λ first above. pop w above λ second below. K first second below)
-      on_first (Popped first above) = on_second first (stacks.pop w.stack above)
-      on_first (NotPopped refusal) = bad refusal
+      on_first : (a : Result (ℕ × ℕ) Refusal) → F (pop_first w.stack a) ≡ popped a (λ first above. pop w above λ second below. K first second below)
+      on_first (Ok (first, above)) = on_second first (stacks.pop w.stack above)
+      on_first (Err refusal) = bad refusal
 
   -- ---- a value pushed
 
@@ -89,12 +69,12 @@ module _ (w : World) where
   unfolding push_value stacks.push stacks.if_room pushed_to inner_result push test settled placed registers_of
   pushes to height value = on_bool (ltb height 1000) (λ t. rw t) (λ t. rw t)
 
-  pub finishes : (to height : ℕ) (result : ValueResult) → on_registers w (kept (finish w.stack r to height result) w.memory) ≡ calculated result (push w to height)
+  pub finishes : (to height : ℕ) (result : Result ℕ Refusal) → on_registers w (kept (finish w.stack r to height result) w.memory) ≡ calculated result (push w to height)
   unfolding finish calculated inner_result
-  finishes to height (Value value) = pushes to height value
-  finishes to height (NoValue refusal) = refl
+  finishes to height (Ok value) = pushes to height value
+  finishes to height (Err refusal) = refl
 
-  on_two_is : (calculate : ℕ → ℕ → ValueResult) (to height : ℕ)
+  on_two_is : (calculate : ℕ → ℕ → Result ℕ Refusal) (to height : ℕ)
       → on_registers w (kept (on_two calculate w.stack r to (pop_two w.stack height)) w.memory)
       ≡ (pop w height λ first above. pop w above λ second below. calculated (calculate first second) (push w to below))
   unfolding on_two inner_result
@@ -122,9 +102,9 @@ module _ (w : World) where
   unfolding op_dup dup_last opcodes.dup looked_at inner_result registers_of
   dup_is = by (stacks.last w.stack (height w))
     where
-      by : (a : LastResult) → on_registers w (kept (dup_last w.stack r (place w + 1) a) w.memory) ≡ looked_at a (push w (place w + 1) (height w))
-      by (Last value) = pushes (place w + 1) (height w) value
-      by (NoLast refusal) = refl
+      by : (a : Result ℕ Refusal) → on_registers w (kept (dup_last w.stack r (place w + 1) a) w.memory) ≡ looked_at a (push w (place w + 1) (height w))
+      by (Ok value) = pushes (place w + 1) (height w) value
+      by (Err refusal) = refl
 
   pub swap_is : on_registers w (kept (op_swap w.stack r (place w + 1)) w.memory) ≡ opcodes.swap w
   unfolding op_swap swapped opcodes.swap inner_result settled placed registers_of
@@ -144,10 +124,10 @@ module _ (w : World) where
 
   -- ---- loops
 
-  opened : (to height : ℕ) (a : LoopsResult) → on_registers w (on_memory (opened_to r to height a) w.stack w.memory) ≡ loop_pushed a (λ loops. next (looping (moved w to height) loops))
+  opened : (to height : ℕ) (a : Result (Two Loop) Refusal) → on_registers w (on_memory (opened_to r to height a) w.stack w.memory) ≡ loop_pushed a (λ loops. next (looping (moved w to height) loops))
   unfolding opened_to loop_pushed inner_result settled placed registers_of
-  opened to height (NewLoops loops) = refl
-  opened to height (NoNewLoops refusal) = refl
+  opened to height (Ok loops) = refl
+  opened to height (Err refusal) = refl
 
   pub do_is : on_registers w (on_memory (op_do w.stack r (place w + 1)) w.stack w.memory) ≡ opcodes.«do» w
   unfolding op_do do_two opcodes.«do» inner_result registers_of
@@ -157,23 +137,23 @@ module _ (w : World) where
 
   pub loop_is : on_registers w (on_memory (op_loop r (place w + 1)) w.stack w.memory) ≡ opcodes.loop w
   unfolding op_loop looped opcodes.loop loop_popped inner_result settled placed registers_of
-  loop_is = by (stacks.pop_loop w.machine.loops)
+  loop_is = by (stacks.pop_off w.machine.loops)
     where
-      by : (a : PopLoopResult) → on_registers w (on_memory (looped r (place w + 1) a) w.stack w.memory)
+      by : (a : Result (Loop × Two Loop) Refusal) → on_registers w (on_memory (looped r (place w + 1) a) w.stack w.memory)
           ≡ loop_popped a (λ innermost others. cond (ltb (innermost.index + 1) innermost.limit)
           (push_loop others (next_round innermost) λ loops. next (looping (moved w innermost.place (height w)) loops))
           (next (looping (opcodes.onward w (height w)) others)))
-      by (PoppedLoop innermost others) =
+      by (Ok (innermost, others)) =
           on_bool (ltb (innermost.index + 1) innermost.limit) (λ t. rw t (opened innermost.place (height w) _)) (λ t. rw t)
-      by (NotPoppedLoop refusal) = refl
+      by (Err refusal) = refl
 
   pub loop_index_is : on_registers w (kept (op_loop_index w.stack r (place w + 1)) w.memory) ≡ opcodes.loop_index w
   unfolding op_loop_index index_of opcodes.loop_index loop_looked_at inner_result registers_of
-  loop_index_is = by (stacks.last_loop w.machine.loops)
+  loop_index_is = by (stacks.last_on w.machine.loops)
     where
-      by : (a : LastLoopResult) → on_registers w (kept (index_of w.stack r (place w + 1) a) w.memory) ≡ loop_looked_at a (λ innermost. push w (place w + 1) (height w) (to_u32_val innermost.index))
-      by (LastLoop innermost) = pushes (place w + 1) (height w) (to_u32_val innermost.index)
-      by (NoLastLoop refusal) = refl
+      by : (a : Result Loop Refusal) → on_registers w (kept (index_of w.stack r (place w + 1) a) w.memory) ≡ loop_looked_at a (λ innermost. push w (place w + 1) (height w) (to_u32_val innermost.index))
+      by (Ok innermost) = pushes (place w + 1) (height w) (to_u32_val innermost.index)
+      by (Err refusal) = refl
 
   -- ---- equality
 
@@ -184,10 +164,10 @@ module _ (w : World) where
       (λ t. rw t (on_bool (eqb (raw_tag left) (raw_tag right)) (λ u. rw u) (λ u. rw u)))
       (λ t. rw t)
 
-  turned_round : (result : ValueResult) (k : ℕ → StepResult) → calculated (turned result) k ≡ calculated result (λ answer. k (bool_not answer))
+  turned_round : (result : Result ℕ Refusal) (k : ℕ → StepResult) → calculated (turned result) k ≡ calculated result (λ answer. k (bool_not answer))
   unfolding turned calculated
-  turned_round (Value value) k = refl
-  turned_round (NoValue refusal) k = refl
+  turned_round (Ok value) k = refl
+  turned_round (Err refusal) k = refl
 
   eq_with : (is_eq : Bool) (to : ℕ) (K : ℕ → ℕ → ℕ → StepResult)
       → ((right left below : ℕ) → calculated (turned_if is_eq (eq_values (memory_in_use w) left right)) (push w to below) ≡ K right left below)
@@ -207,24 +187,24 @@ module _ (w : World) where
 
   -- ---- memory
 
-  abbrev filled : List ℕ → ℕ → ℕ → ValueResult → allocation.AfterAllocation
+  abbrev filled : List ℕ → ℕ → ℕ → Result ℕ Refusal → allocation.AfterAllocation
   filled payload size tag a = allocation.vector_stored w.memory payload w.machine.memory size (allocation.offset_aligned w.machine.memory tag) a
 
   pub stores : (to height size tag : ℕ) (payload : List ℕ) → on_registers w (storing.store w.stack w.memory payload r to height size tag) ≡ store w to height size tag payload
   unfolding storing.store full full_by allocated-at allocation.alloc allocation.vector_stored store calculated allocated test inner_result settled placed registers_of
   stores to height size tag payload = by (allocation.vector w.machine.memory size tag)
     where
-      at : (a : AllocResult) (memory : List ℕ) → on_registers w (allocated-at w.stack r to height memory a) ≡ allocated w to height memory a
-      at (Allocated value used) memory = refl
-      at (NotAllocated refusal) memory = refl
+      at : (a : Result (ℕ × ℕ) Refusal) (memory : List ℕ) → on_registers w (allocated-at w.stack r to height memory a) ≡ allocated w to height memory a
+      at (Ok (value, used)) memory = refl
+      at (Err refusal) memory = refl
 
-      by : (a : ValueResult) → on_registers w (cond (leb 1000 height) (on_memory (Refused (full_by a)) w.stack w.memory) (allocated-at w.stack r to height (filled payload size tag a).memory (filled payload size tag a).answer))
+      by : (a : Result ℕ Refusal) → on_registers w (cond (leb 1000 height) (on_memory (Err (full_by a)) w.stack w.memory) (allocated-at w.stack r to height (filled payload size tag a).memory (filled payload size tag a).answer))
           ≡ calculated a (λ value. test (ltb height 1000) StackOverflow (allocated w to height (filled payload size tag a).memory (filled payload size tag a).answer))
-      by (Value value) =
+      by (Ok value) =
           on_bool (ltb height 1000)
-          (λ t. rw (t, lt-leb 1000 height (ltb-true height 1000 t)) (at (filled payload size tag (Value value)).answer (filled payload size tag (Value value)).memory))
+          (λ t. rw (t, lt-leb 1000 height (ltb-true height 1000 t)) (at (filled payload size tag (Ok value)).answer (filled payload size tag (Ok value)).memory))
           (λ t. rw (t, le-leb 1000 height (ltb-false height 1000 t)))
-      by (NoValue refusal) = on_bool (leb 1000 height) (λ t. rw t) (λ t. rw t)
+      by (Err refusal) = on_bool (leb 1000 height) (λ t. rw t) (λ t. rw t)
 
   pub m_muta_is : on_registers w (changed w.stack (op_m_muta w.stack w.memory r (place w + 1))) ≡ opcodes.m_muta w
   unfolding op_m_muta mutate_two mutate_last mutate mutate_at mutated mut_in_use opcodes.m_muta looked_at pointed element_changed inner_result settled placed registers_of
@@ -232,27 +212,27 @@ module _ (w : World) where
       two_off (λ a. on_registers w (changed w.stack (mutate_two w.stack w.memory r (place w + 1) a))) _
       (λ refusal. refl) (λ payload index below. on_last payload index below (stacks.last w.stack below)) (height w)
     where
-      on_change : (payload index below value : ℕ) (v : FatPointer) (a : ChangeResult) (m : List ℕ)
+      on_change : (payload index below value : ℕ) (v : FatPointer) (a : Result ⊤ Refusal) (m : List ℕ)
           → on_registers w (changed w.stack (changed_to (mutated r (place w + 1) below a) (m ++ drop w.machine.memory w.memory)))
           ≡ element_changed a (next (with_memory (opcodes.onward w below) (m ++ drop w.machine.memory w.memory) w.machine.memory))
-      on_change payload index below value v Changed m = refl
-      on_change payload index below value v (NotChanged refusal) m = refl
+      on_change payload index below value v (Ok tt) m = refl
+      on_change payload index below value v (Err refusal) m = refl
 
-      on_pointer : (payload index below value : ℕ) (a : PointerResult)
+      on_pointer : (payload index below value : ℕ) (a : Result FatPointer Refusal)
           → on_registers w (changed w.stack (mutate_at w.memory r (place w + 1) below (record { 0 = to_u32 index }) (to_u32 payload) (raw_tag value) a))
           ≡ pointed a (λ v. element_changed (opcodes.changing w value v index payload).answer (next (with_memory (opcodes.onward w below) ((opcodes.changing w value v index payload).memory ++ drop w.machine.memory w.memory) w.machine.memory)))
-      on_pointer payload index below value (Pointer v) = on_change payload index below value v (opcodes.changing w value v index payload).answer (opcodes.changing w value v index payload).memory
-      on_pointer payload index below value (NoPointer refusal) = refl
+      on_pointer payload index below value (Ok v) = on_change payload index below value v (opcodes.changing w value v index payload).answer (opcodes.changing w value v index payload).memory
+      on_pointer payload index below value (Err refusal) = refl
 
-      on_last : (payload index below : ℕ) (a : LastResult)
+      on_last : (payload index below : ℕ) (a : Result ℕ Refusal)
           → on_registers w (changed w.stack (mutate_last w.memory r (place w + 1) below payload index a))
           ≡ looked_at a (λ value. pointed (to_fat_pointer value) λ v. element_changed (opcodes.changing w value v index payload).answer (next (with_memory (opcodes.onward w below) ((opcodes.changing w value v index payload).memory ++ drop w.machine.memory w.memory) w.machine.memory)))
-      on_last payload index below (Last value) = on_pointer payload index below value (to_fat_pointer value)
-      on_last payload index below (NoLast refusal) = refl
+      on_last payload index below (Ok value) = on_pointer payload index below value (to_fat_pointer value)
+      on_last payload index below (Err refusal) = refl
 
   -- ---- opcodes with operands, whole or cut by the code's end
 
-  abbrev at_extent : ℕ → Extent → StepResult
+  abbrev at_extent : ℕ → Option ℕ → StepResult
   at_extent op reach = on_registers w (by_extent w.stack w.memory (code w) r op w.machine.count reach)
 
   abbrev on : ℕ → ℕ
@@ -266,7 +246,7 @@ module _ (w : World) where
   push_u32_is =
       on_bool (leb (on 4) (length (code w))) (λ t. rw (t, t, behind 4 5 refl) (pushes (place w + 5) (height w) _)) (λ t. rw t)
 
-  pub push_byte_is : (op : ℕ) → execute w.stack w.memory (code w) r (on 1) op w.machine.count ≡ kept (push_u8 w.stack (code w) r (on 1)) w.memory → cut w.stack r op ≡ Refused UnexpectedEOB
+  pub push_byte_is : (op : ℕ) → execute w.stack w.memory (code w) r (on 1) op w.machine.count ≡ kept (push_u8 w.stack (code w) r (on 1)) w.memory → cut w.stack r op ≡ Err UnexpectedEOB
       → at_extent op (up_to (code w) (on 1)) ≡ opcodes.push_byte w
   unfolding by_extent push_u8 op_push with_operand operands.operand opcodes.push_byte operand_found inner_result registers_of
   push_byte_is op whole short =
@@ -304,11 +284,11 @@ module _ (w : World) where
   abbrev sti_size : ℕ
   sti_size = operands.big_endian 2 (code w) (place w + 1)
 
-  sti_there : (size behind : ℕ) → place w + behind + size ≤ length (code w) → operands.operand size (code w) (place w + behind) ≡ Operand (operands.big_endian size (code w) (place w + behind))
+  sti_there : (size behind : ℕ) → place w + behind + size ≤ length (code w) → operands.operand size (code w) (place w + behind) ≡ Ok (operands.big_endian size (code w) (place w + behind))
   unfolding operands.operand
   sti_there size behind fits = rw (le-leb (place w + behind + size) (length (code w)) fits)
 
-  sti_cut : (size behind : ℕ) → leb (place w + behind + size) (length (code w)) ≡ false → operands.operand size (code w) (place w + behind) ≡ NoOperand UnexpectedEOB
+  sti_cut : (size behind : ℕ) → leb (place w + behind + size) (length (code w)) ≡ false → operands.operand size (code w) (place w + behind) ≡ Err UnexpectedEOB
   unfolding operands.operand
   sti_cut size behind short = rw short
 

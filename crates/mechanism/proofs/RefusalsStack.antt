@@ -6,39 +6,28 @@ use lib.Dec.{ltb}
 use lib.ListN.{set}
 use Rattle.errors.specs.declared.Refusal.{Refusal}
 use Rattle.errors.specs.declared.Refusal.TheVariants.{StackOverflow}
-use Rattle.values.specs.declared.ValueResult.{ValueResult}
-use Rattle.values.specs.declared.ValueResult.TheVariants.{Value, NoValue}
 use Rattle.inlinevec.specs.Stacks.{Stacked, stacked, if_room, push, last}
-use Rattle.inlinevec.specs.declared.HeightResult.TheVariants.{NewHeight, NoNewHeight}
-use Rattle.inlinevec.specs.declared.PopResult.{PopResult}
-use Rattle.inlinevec.specs.declared.PopResult.TheVariants.{Popped, NotPopped}
-use Rattle.inlinevec.specs.declared.LastResult.{LastResult}
-use Rattle.inlinevec.specs.declared.LastResult.TheVariants.{Last, NoLast}
-use Rattle.inlinevec.specs.declared.LastLoopResult.{LastLoopResult}
-use Rattle.inlinevec.specs.declared.LastLoopResult.TheVariants.{LastLoop, NoLastLoop}
 use Rattle.mechanism.specs.Registers.{OnStack, on_stack}
 use Rattle.mechanism.specs.Stack.{pushed_to, push_value, finish, op_push, on_two, op_mul, op_compare, on_one, op_muli, dup_last, op_dup, swapped, op_swap}
 use Rattle.mechanism.specs.Control.{index_of, op_loop_index}
 use Rattle.mechanism.specs.Equality.{op_eq}
 use Rattle.mechanism.specs.declared.Registers.{Registers}
-use Rattle.mechanism.specs.declared.RegistersResult.{RegistersResult}
-use Rattle.mechanism.specs.declared.RegistersResult.TheVariants.{Next, Refused}
-use Rattle.mechanism.specs.declared.PopTwoResult.{PopTwoResult}
-use Rattle.mechanism.specs.declared.PopTwoResult.TheVariants.{PoppedTwo, NotPoppedTwo}
+use Rattle.std.specs.Prelude.{Ok, Err, Result}
+use Rattle.inlinevec.specs.declared.Loop.{Loop}
 
 -- finished, or refused with the stack as it was
 pub data Leaves (stack : List ℕ) : OnStack → Type 0 where
-  finished : (registers : Registers) (s : List ℕ) → Leaves stack (on_stack (Next registers) s)
-  kept : (refusal : Refusal) → Leaves stack (on_stack (Refused refusal) stack)
+  finished : (registers : Registers) (s : List ℕ) → Leaves stack (on_stack (Ok registers) s)
+  kept : (refusal : Refusal) → Leaves stack (on_stack (Err refusal) stack)
 
 -- an instruction that does not write the stack
-pub unwritten : (stack : List ℕ) (result : RegistersResult) → Leaves stack (on_stack result stack)
-unwritten stack (Next registers) = finished registers stack
-unwritten stack (Refused refusal) = kept refusal
+pub unwritten : (stack : List ℕ) (result : Result Registers Refusal) → Leaves stack (on_stack result stack)
+unwritten stack (Ok registers) = finished registers stack
+unwritten stack (Err refusal) = kept refusal
 
 -- a push
 abbrev room : Bool → List ℕ → ℕ → ℕ → Stacked
-room b stack height value = cond b (stacked (NewHeight (height + 1)) (set stack height value)) (stacked (NoNewHeight StackOverflow) stack)
+room b stack height value = cond b (stacked (Ok (height + 1)) (set stack height value)) (stacked (Err StackOverflow) stack)
 
 in_room : (b : Bool) (stack : List ℕ) (registers : Registers) (place height value : ℕ)
     → Leaves stack (on_stack (pushed_to registers place (room b stack height value).answer) (room b stack height value).stack)
@@ -50,21 +39,21 @@ pub value_pushed : (stack : List ℕ) (registers : Registers) (place height valu
 unfolding push_value push if_room
 value_pushed stack registers place height value = in_room (ltb height 1000) stack registers place height value
 
-pub finished_with : (stack : List ℕ) (registers : Registers) (place height : ℕ) (result : ValueResult) → Leaves stack (finish stack registers place height result)
+pub finished_with : (stack : List ℕ) (registers : Registers) (place height : ℕ) (result : Result ℕ Refusal) → Leaves stack (finish stack registers place height result)
 unfolding finish
-finished_with stack registers place height (Value value) = value_pushed stack registers place height value
-finished_with stack registers place height (NoValue refusal) = kept refusal
+finished_with stack registers place height (Ok value) = value_pushed stack registers place height value
+finished_with stack registers place height (Err refusal) = kept refusal
 
 -- the opcodes
 pub push_leaves : (stack : List ℕ) (registers : Registers) (next number : ℕ) → Leaves stack (op_push stack registers next number)
 unfolding op_push
 push_leaves stack registers next number = value_pushed stack registers next _ _
 
-on_two_leaves : (calculate : ℕ → ℕ → ValueResult) (stack : List ℕ) (registers : Registers) (next : ℕ) (result : PopTwoResult)
+on_two_leaves : (calculate : ℕ → ℕ → Result ℕ Refusal) (stack : List ℕ) (registers : Registers) (next : ℕ) (result : Result (ℕ × ℕ × ℕ) Refusal)
     → Leaves stack (on_two calculate stack registers next result)
 unfolding on_two
-on_two_leaves calculate stack registers next (PoppedTwo first second height) = finished_with stack registers next height _
-on_two_leaves calculate stack registers next (NotPoppedTwo refusal) = kept refusal
+on_two_leaves calculate stack registers next (Ok (first, second, height)) = finished_with stack registers next height _
+on_two_leaves calculate stack registers next (Err refusal) = kept refusal
 
 pub mul_leaves : (stack : List ℕ) (registers : Registers) (next : ℕ) → Leaves stack (op_mul stack registers next)
 unfolding op_mul
@@ -78,38 +67,38 @@ pub eq_leaves : (stack memory : List ℕ) (registers : Registers) (next : ℕ) (
 unfolding op_eq
 eq_leaves stack memory registers next is_eq = on_two_leaves _ stack registers next _
 
-on_one_leaves : (calculate : ℕ → ValueResult) (stack : List ℕ) (registers : Registers) (next : ℕ) (result : PopResult)
+on_one_leaves : (calculate : ℕ → Result ℕ Refusal) (stack : List ℕ) (registers : Registers) (next : ℕ) (result : Result (ℕ × ℕ) Refusal)
     → Leaves stack (on_one calculate stack registers next result)
 unfolding on_one
-on_one_leaves calculate stack registers next (Popped value height) = finished_with stack registers next height _
-on_one_leaves calculate stack registers next (NotPopped refusal) = kept refusal
+on_one_leaves calculate stack registers next (Ok (value, height)) = finished_with stack registers next height _
+on_one_leaves calculate stack registers next (Err refusal) = kept refusal
 
 pub muli_leaves : (stack : List ℕ) (registers : Registers) (next number : ℕ) → Leaves stack (op_muli stack registers next number)
 unfolding op_muli
 muli_leaves stack registers next number = on_one_leaves _ stack registers next _
 
-dup_last_leaves : (stack : List ℕ) (registers : Registers) (next : ℕ) (result : LastResult) → Leaves stack (dup_last stack registers next result)
+dup_last_leaves : (stack : List ℕ) (registers : Registers) (next : ℕ) (result : Result ℕ Refusal) → Leaves stack (dup_last stack registers next result)
 unfolding dup_last
-dup_last_leaves stack registers next (Last value) = value_pushed stack registers next _ value
-dup_last_leaves stack registers next (NoLast refusal) = kept refusal
+dup_last_leaves stack registers next (Ok value) = value_pushed stack registers next _ value
+dup_last_leaves stack registers next (Err refusal) = kept refusal
 
 pub dup_leaves : (stack : List ℕ) (registers : Registers) (next : ℕ) → Leaves stack (op_dup stack registers next)
 unfolding op_dup
 dup_leaves stack registers next = dup_last_leaves stack registers next _
 
-swapped_leaves : (stack : List ℕ) (registers : Registers) (next : ℕ) (result : PopTwoResult) → Leaves stack (swapped stack registers next result)
+swapped_leaves : (stack : List ℕ) (registers : Registers) (next : ℕ) (result : Result (ℕ × ℕ × ℕ) Refusal) → Leaves stack (swapped stack registers next result)
 unfolding swapped
-swapped_leaves stack registers next (PoppedTwo top below height) = finished _ _
-swapped_leaves stack registers next (NotPoppedTwo refusal) = kept refusal
+swapped_leaves stack registers next (Ok (top, below, height)) = finished _ _
+swapped_leaves stack registers next (Err refusal) = kept refusal
 
 pub swap_leaves : (stack : List ℕ) (registers : Registers) (next : ℕ) → Leaves stack (op_swap stack registers next)
 unfolding op_swap
 swap_leaves stack registers next = swapped_leaves stack registers next _
 
-index_leaves : (stack : List ℕ) (registers : Registers) (next : ℕ) (result : LastLoopResult) → Leaves stack (index_of stack registers next result)
+index_leaves : (stack : List ℕ) (registers : Registers) (next : ℕ) (result : Result Loop Refusal) → Leaves stack (index_of stack registers next result)
 unfolding index_of
-index_leaves stack registers next (LastLoop last) = value_pushed stack registers next _ _
-index_leaves stack registers next (NoLastLoop refusal) = kept refusal
+index_leaves stack registers next (Ok last) = value_pushed stack registers next _ _
+index_leaves stack registers next (Err refusal) = kept refusal
 
 pub loop_index_leaves : (stack : List ℕ) (registers : Registers) (next : ℕ) → Leaves stack (op_loop_index stack registers next)
 unfolding op_loop_index

@@ -10,8 +10,6 @@ use borrow.Author.Tests.{leb-true, leb-false, eqb-true, lt-leb}
 use Rattle.errors.specs.declared.Refusal.TheVariants.{UnexpectedEOB}
 use Rattle.bytecode.specs.Opcodes.{PUSH_U32, PUSH_STATE, PUSH_CALLDATA, PUSH_TASK_FIELD, PUSH_MAX_STATES, T_CREATE, T_GET_FIELD, T_SET_FIELD, T_DELETE, S_SAVE, S_LEN, DO, LOOP, LOOP_INDEX, CALL, END_CALL, DROP, DUP, SWAP, EQ, NEQ, LT, GT, JUMP_IF_FALSE, M_STI, M_ST, M_MUTA, MULI, MUL, operand_size}
 use Rattle.bytecode.specs.Operands.{data_size, behind, extent}
-use Rattle.bytecode.specs.declared.Extent.{Extent}
-use Rattle.bytecode.specs.declared.Extent.TheVariants as extents
 use Rattle.storage.specs.Tasks.{blank}
 use Rattle.machine.specs.Machines.{op_at, placed}
 use Rattle.machine.specs.World.{World, code, place, height, op, at_end}
@@ -31,6 +29,7 @@ use Rattle.mechanism.proofs.Settled.{on_bool}
 use Rattle.mechanism.proofs.Operands.{reaches, reaches_next, reaches_sti, reaches_calldata}
 use Rattle.mechanism.proofs.Parts as parts
 use Rattle.mechanism.proofs.TaskParts as task-parts
+use Rattle.std.specs.Prelude.{Option, Some, None}
 
 none_left : (a b d : Bool) → (a || b || d) ≡ false → a ≡ false
 none_left true b d e = e
@@ -52,19 +51,19 @@ module _ (w : World) (inside : place w < length (code w)) where
   r = registers_of w.machine
 
   -- an opcode that needs no task, frame or pool
-  inner_step : (n : ℕ) → get_or (code w) (place w) 0 ≡ n → is_outer n ≡ false → (reach : Extent) → extent (code w) (place w) ≡ reach → {a : StepResult}
+  inner_step : (n : ℕ) → get_or (code w) (place w) 0 ≡ n → is_outer n ≡ false → (reach : Option ℕ) → extent (code w) (place w) ≡ reach → {a : StepResult}
       → on_registers w (by_extent w.stack w.memory (code w) r n w.machine.count reach) ≡ a → step_by_parts w ≡ a
   unfolding step_by_parts op_at inner instruct registers_of
   inner_step n e out reach is goes = rw (e, out, is) goes
 
   -- one that does, and does not save
-  acts_step : (n : ℕ) → get_or (code w) (place w) 0 ≡ n → is_outer n ≡ true → eqb n S_SAVE ≡ false → (reach : Extent) → extent (code w) (place w) ≡ reach → {a : StepResult}
+  acts_step : (n : ℕ) → get_or (code w) (place w) 0 ≡ n → is_outer n ≡ true → eqb n S_SAVE ≡ false → (reach : Option ℕ) → extent (code w) (place w) ≡ reach → {a : StepResult}
       → on_record w (wanted w.stack w.machine n) (act_by w.stack w.memory w.pool w.ends w.machine (get_or w.table (wanted w.stack w.machine n) blank) n (place w) reach) ≡ a → step_by_parts w ≡ a
   unfolding step_by_parts op_at outer acts act act_at
   acts_step n e out saves-not reach is goes = rw (e, out, saves-not, is, lt-leb (length (code w)) (place w) inside) goes
 
   -- the next place
-  abbrev reach_next : (n : ℕ) → get_or (code w) (place w) 0 ≡ n → operand_size n ≡ 0 → eqb n PUSH_CALLDATA ≡ false → eqb n M_STI ≡ false → extent (code w) (place w) ≡ extents.Next (place w + 1)
+  abbrev reach_next : (n : ℕ) → get_or (code w) (place w) 0 ≡ n → operand_size n ≡ 0 → eqb n PUSH_CALLDATA ≡ false → eqb n M_STI ≡ false → extent (code w) (place w) ≡ Some (place w + 1)
   reach_next n = reaches_next (code w) (place w) n inside
 
   mul : get_or (code w) (place w) 0 ≡ MUL → step_by_parts w ≡ opcodes.mul w
@@ -276,7 +275,7 @@ module _ (w : World) (inside : place w < length (code w)) where
       unused n e (record { not_PUSH_U32 = f1; not_PUSH_STATE = none_left (eqb n PUSH_STATE) (eqb n PUSH_TASK_FIELD) (eqb n PUSH_MAX_STATES) fb; not_PUSH_TASK_FIELD = none_middle (eqb n PUSH_STATE) (eqb n PUSH_TASK_FIELD) (eqb n PUSH_MAX_STATES) fb; not_PUSH_MAX_STATES = none_right (eqb n PUSH_STATE) (eqb n PUSH_TASK_FIELD) (eqb n PUSH_MAX_STATES) fb; not_PUSH_CALLDATA = f3; not_T_CREATE = f4; not_T_GET_FIELD = f5; not_T_SET_FIELD = f6; not_T_DELETE = f7; not_S_SAVE = f8; not_S_LEN = f9; not_DO = f10; not_LOOP = f11; not_LOOP_INDEX = f12; not_CALL = f13; not_END_CALL = f14; not_DROP = f15; not_DUP = f16; not_SWAP = f17; not_EQ = f18; not_NEQ = f19; not_LT = f20; not_GT = f21; not_JUMP_IF_FALSE = f22; not_M_STI = f23; not_M_ST = f24; not_M_MUTA = f25; not_MULI = f26; not_MUL = f27 }))))))))))))))))))))))))))))
 
 -- at or past it there is no instruction
-cut_off : (c : List ℕ) (p : ℕ) → length c ≤ p → extent c p ≡ extents.Cut
+cut_off : (c : List ℕ) (p : ℕ) → length c ≤ p → extent c p ≡ None
 unfolding extent behind
 cut_off c p past = rw (lt-leb (p + 1 + operand_size (get_or c p 0) + data_size c p) (length c) (omega arith))
 

@@ -1,9 +1,7 @@
 -- The run of the current code, up to an instruction that needs a task, a frame or the pool.
-use Rattle.std.specs.Prelude.{ℕ, ◌-◌, true, false, cond, List, eqb, get_or}
+use Rattle.std.specs.Prelude.{ℕ, ◌-◌, cond, List, eqb, get_or, Ok, Err, Result}
 use Rattle.bytecode.specs.Opcodes.{T_CREATE, T_GET_FIELD, T_SET_FIELD}
 use Rattle.inlinevec.specs.Stacks.{pop}
-use Rattle.inlinevec.specs.declared.PopResult.{PopResult}
-use Rattle.inlinevec.specs.declared.PopResult.TheVariants.{Popped, NotPopped}
 use Rattle.values.specs.Values.{to_u32}
 use Rattle.mechanism.specs.Steps.{Halted, steps}
 use Rattle.machine.specs.declared.Machine.{Machine}
@@ -12,13 +10,15 @@ use Rattle.mechanism.specs.declared.Halt.TheVariants as halt
 use Rattle.machine.specs.Machines.{code_of}
 use Rattle.mechanism.specs.Registers.{registers_of, settled}
 use Rattle.mechanism.specs.declared.Progress.{Progress}
+use Rattle.mechanism.specs.declared.Standing.TheVariants.{AtHand, Ended}
 use Rattle.machine.specs.declared.Outcome.{Outcome}
 use Rattle.machine.specs.declared.Outcome.TheVariants.{Done, Paused, Refused}
+use Rattle.errors.specs.declared.Refusal.{Refusal}
 
 -- the slot that the last value names; past the last slot where there is none
-unfoldable pub named_by : PopResult → ℕ
-named_by (Popped value height) = to_u32 value
-named_by (NotPopped refusal) = 256
+unfoldable pub named_by : Result (ℕ × ℕ) Refusal → ℕ
+named_by (Ok (value, height)) = to_u32 value
+named_by (Err refusal) = 256
 
 unfoldable pub named : List ℕ → ℕ → ℕ
 named stack height = named_by (pop stack height)
@@ -33,11 +33,11 @@ wanted stack machine op =
 
 -- at an outcome
 abbrev pub ended : Machine → ℕ → Outcome → Progress
-ended machine left outcome = record { machine = machine; left = left; running = false; op = 0; outcome = outcome }
+ended machine left outcome = record { machine = machine; left = left; standing = Ended outcome }
 
--- on its way, before an instruction of this opcode
+-- before an instruction of this opcode
 abbrev pub at_hand : Machine → ℕ → ℕ → Progress
-at_hand machine left op = record { machine = machine; left = left; running = true; op = op; outcome = Paused }
+at_hand machine left op = record { machine = machine; left = left; standing = AtHand op }
 
 -- why the steps halted, and what is at hand
 unfoldable pub halted_at : Machine → ℕ → ℕ → Halt → Progress

@@ -1,9 +1,7 @@
 -- One instruction that needs no task, frame or pool: the byte at the place picks it.
-use Rattle.std.specs.Prelude.{ℕ, Bool, true, false, cond, ◌||◌, List, eqb, get_or}
+use Rattle.std.specs.Prelude.{ℕ, Bool, true, false, cond, ◌||◌, List, eqb, get_or, Ok, Option, Some, None}
 use Rattle.bytecode.specs.Opcodes.{PUSH_U32, PUSH_STATE, PUSH_TASK_FIELD, PUSH_MAX_STATES, S_LEN, DO, LOOP, LOOP_INDEX, DROP, DUP, SWAP, EQ, NEQ, LT, GT, JUMP_IF_FALSE, M_STI, M_ST, M_MUTA, MULI, MUL}
 use Rattle.bytecode.specs.Operands.{extent}
-use Rattle.bytecode.specs.declared.Extent.{Extent}
-use Rattle.bytecode.specs.declared.Extent.TheVariants as extents
 use Rattle.mechanism.specs.Registers.{OnStack, on_stack, OnMemory, on_memory, moved}
 use Rattle.mechanism.specs.Stack.{op_push, op_mul, op_compare, op_dup, op_swap, op_drop}
 use Rattle.mechanism.specs.Control.{op_do, op_loop, op_loop_index}
@@ -12,7 +10,6 @@ use Rattle.mechanism.specs.Store.{ChangedTo, op_m_muta}
 use Rattle.mechanism.specs.Operated.{push_u32, push_u8, muli, jump_if_false, m_st, m_sti}
 use Rattle.mechanism.specs.Cut.{cut}
 use Rattle.mechanism.specs.declared.Registers.{Registers}
-use Rattle.mechanism.specs.declared.RegistersResult.TheVariants.{Next}
 
 -- an instruction that leaves the memory, and one that leaves the stack
 abbrev pub kept : OnStack → List ℕ → OnMemory
@@ -34,7 +31,7 @@ plain stack registers next op count =
     (cond (eqb op LOOP) (on_stack (op_loop registers next) stack)
     (cond (eqb op LOOP_INDEX) (op_loop_index stack registers next)
     (cond (eqb op S_LEN) (op_push stack registers next count)
-    (on_stack (Next (moved registers next registers.height)) stack))))))))))
+    (on_stack (Ok (moved registers next registers.height)) stack))))))))))
 
 -- over the code and the stack
 unfoldable pub operated : List ℕ → List ℕ → Registers → ℕ → ℕ → ℕ → OnStack
@@ -61,9 +58,9 @@ execute stack memory code registers next op count =
     (kept (operated stack code registers next op count) memory))))
 
 -- whole, or cut by the code's end
-unfoldable pub by_extent : List ℕ → List ℕ → List ℕ → Registers → ℕ → ℕ → Extent → OnMemory
-by_extent stack memory code registers op count (extents.Next next) = execute stack memory code registers next op count
-by_extent stack memory code registers op count extents.Cut = on_memory (cut stack registers op) stack memory
+unfoldable pub by_extent : List ℕ → List ℕ → List ℕ → Registers → ℕ → ℕ → Option ℕ → OnMemory
+by_extent stack memory code registers op count (Some next) = execute stack memory code registers next op count
+by_extent stack memory code registers op count None = on_memory (cut stack registers op) stack memory
 
 -- the instruction at the place
 unfoldable pub instruct : List ℕ → List ℕ → List ℕ → Registers → ℕ → OnMemory

@@ -1,9 +1,9 @@
 -- What an instruction that needs no task, frame or pool answers, and the registers it leaves.
-use Rattle.std.specs.Prelude.{ℕ, List, take}
+use Rattle.std.specs.Prelude.{ℕ, List, take, Result}
 use Rattle.mechanism.specs.declared.Registers.{Registers}
-use Rattle.mechanism.specs.declared.RegistersResult.{RegistersResult}
 use Rattle.machine.specs.declared.Machine.{Machine}
 use Rattle.machine.specs.Machines.{current, with_current}
+use Rattle.errors.specs.declared.Refusal.{Refusal}
 
 -- the registers at another place and another height
 abbrev pub moved : Registers → ℕ → ℕ → Registers
@@ -11,11 +11,11 @@ moved registers place height = record { place = place; height = height; loops = 
 
 -- an answer, and the stack after it
 pub record OnStack : Type 0 where
-  pub result : RegistersResult
+  pub result : Result Registers Refusal
   pub stack : List ℕ
 
 -- these two together
-abbrev pub on_stack : RegistersResult → List ℕ → OnStack
+abbrev pub on_stack : Result Registers Refusal → List ℕ → OnStack
 on_stack result stack = record { result = result; stack = stack }
 
 -- the memory in use
@@ -24,12 +24,12 @@ in_use memory registers = take registers.memory memory
 
 -- an answer, the stack and the memory after it
 pub record OnMemory : Type 0 where
-  pub result : RegistersResult
+  pub result : Result Registers Refusal
   pub stack : List ℕ
   pub memory : List ℕ
 
 -- these three together
-abbrev pub on_memory : RegistersResult → List ℕ → List ℕ → OnMemory
+abbrev pub on_memory : Result Registers Refusal → List ℕ → List ℕ → OnMemory
 on_memory result stack memory = record { result = result; stack = stack; memory = memory }
 
 -- what most opcodes change, taken out of the machine

@@ -1,13 +1,12 @@
 -- Instructions one after the other, up to the code's end, the fuel's end, a refusal, or one that needs a task, a frame or the pool.
-use Rattle.std.specs.Prelude.{ℕ, zero, suc, Bool, cond, ◌||◌, List, eqb, ltb, length, get_or}
+use Rattle.std.specs.Prelude.{ℕ, zero, suc, Bool, cond, ◌||◌, List, eqb, ltb, length, get_or, Ok, Err, Result}
 use Rattle.bytecode.specs.Opcodes.{PUSH_CALLDATA, T_CREATE, T_GET_FIELD, T_SET_FIELD, T_DELETE, S_SAVE, CALL, END_CALL}
 use Rattle.mechanism.specs.declared.Registers.{Registers}
-use Rattle.mechanism.specs.declared.RegistersResult.{RegistersResult}
-use Rattle.mechanism.specs.declared.RegistersResult.TheVariants.{Next, Refused}
 use Rattle.mechanism.specs.Execute.{instruct}
 use Rattle.mechanism.specs.declared.StepsEnd.{StepsEnd}
 use Rattle.mechanism.specs.declared.Halt.{Halt}
 use Rattle.mechanism.specs.declared.Halt.TheVariants as halt
+use Rattle.errors.specs.declared.Refusal.{Refusal}
 
 -- the opcodes that need a task, a frame or the pool
 unfoldable pub is_outer : ℕ → Bool
@@ -29,9 +28,9 @@ abbrev pub halted : Halt → ℕ → Registers → List ℕ → List ℕ → Hal
 halted reason left registers stack memory = stepped (record { registers = registers; left = left; halt = reason }) stack memory
 
 -- on after an instruction, or halted where it is refused
-unfoldable pub onward : (List ℕ → List ℕ → Registers → Halted) → ℕ → Registers → List ℕ → List ℕ → RegistersResult → Halted
-onward others fuel registers stack memory (Next next) = others stack memory next
-onward others fuel registers stack memory (Refused refusal) = halted (halt.Refused refusal) fuel registers stack memory
+unfoldable pub onward : (List ℕ → List ℕ → Registers → Halted) → ℕ → Registers → List ℕ → List ℕ → Result Registers Refusal → Halted
+onward others fuel registers stack memory (Ok next) = others stack memory next
+onward others fuel registers stack memory (Err refusal) = halted (halt.Refused refusal) fuel registers stack memory
 
 -- a turn: the code's end first, then the fuel, then the instruction
 unfoldable pub turn : (List ℕ → List ℕ → Registers → Halted) → ℕ → List ℕ → List ℕ → List ℕ → Registers → ℕ → Halted

@@ -1,7 +1,9 @@
 -- The bytes of a vector: as many as its size, the payload first and zeros behind it.
-use Rattle.std.proofs.Common.{◌≡◌, ℕ, ◌+◌, ◌-◌, ◌≤◌, List, ◌++◌, length, take, replicate, sym, ap, ◌∙◌, arith, length-append, length-take-le, take_at}
+use mathlib.Core.List.{append-nil}
+use native.Mathlib.Decide.{dec_le}
+use Rattle.std.proofs.Common.{min, drop, ◌≡◌, ℕ, ◌+◌, ◌-◌, ◌≤◌, List, ◌++◌, length, take, replicate, sym, ap, ◌∙◌, arith, length-append, length-take-le, take_at}
 use lib.ListN.{length-replicate, replicate-append-replicate}
-use lib.Seq.{sets, length-sets, take-append-le, take-append-add}
+use lib.Seq.{sets, sets-eq, take-length, length-sets, take-append-le, take-append-add}
 use borrow.Rule.Slice.PartMut.{mid_of, put_mid}
 use Rattle.memory.specs.Allocation.{filling}
 use Rattle.slices.proofs.SlicesWrites.{put_mid_sets, put_tail, sets_append}
@@ -31,18 +33,35 @@ filled_short size payload short =
     ∙ ap (λ (n : ℕ). payload ++ take (size - length payload) (replicate n 0)) more
     ∙ ap (λ (zeros : List ℕ). payload ++ zeros) (take_zeros (size - length payload) (length payload))
 
--- the payload written at the head of a part, and zeros put behind it
-pub filled_in_two : (part payload : List ℕ) (size : ℕ) → length payload ≤ size → size ≤ length part
-    → put_mid (length payload) (size - length payload) (sets part 0 payload) (replicate (size - length payload) 0) ≡ sets part 0 (filling size payload)
-filled_in_two part payload size short fits =
-    let count = length payload in
+-- as much of the payload as fits, and zeros
+filled_by : (size count : ℕ) (payload : List ℕ) → count ≡ min (length payload) size → filling size payload ≡ take count payload ++ replicate (size - count) 0
+filled_by size count payload is = by (dec_le size (length payload))
+  where
+    by : Dec (size ≤ length payload) → filling size payload ≡ take count payload ++ replicate (size - count) 0
+    by (yes enough) =
+        let all : count ≡ size = omega arith in
+        let none : size - size ≡ 0 = omega arith in
+        rw (all, none) (filled_whole size payload enough ∙ sym (append-nil (take size payload)))
+    by (no short) =
+        let all : count ≡ length payload = omega arith in
+        rw (all, take-length payload) (filled_short size payload (omega arith))
+
+-- as much of the payload as fits, put at the head of a part, and zeros put behind it
+pub filled_part : (part payload : List ℕ) (size count : ℕ) → count ≡ min (length payload) size → size ≤ length part
+    → put_mid count (size - count) (take count payload ++ drop count part) (replicate (size - count) 0) ≡ sets part 0 (filling size payload)
+filled_part part payload size count is fits =
+    let head = take count payload in
     let zeros = replicate {A = ℕ} (size - count) 0 in
+    let long : length head ≡ count = length-take-le count payload (omega arith) in
+    let begun : head ++ drop count part ≡ sets part 0 head =
+    ap (λ (n : ℕ). head ++ drop n part) (omega arith) ∙ sym (sets-eq head part 0 (omega arith)) in
     let end : count + length zeros ≡ size = omega (arith, length-replicate {A = ℕ} (size - count) 0) in
-    let inside : size ≤ length (sets part 0 payload) = omega (arith, length-sets part 0 payload) in
-    put_mid_sets (sets part 0 payload) zeros count size end inside
-    ∙ ap (λ (n : ℕ). sets (sets part 0 payload) n zeros) (omega arith)
-    ∙ sym (sets_append part 0 payload zeros)
-    ∙ ap (λ (bytes : List ℕ). sets part 0 bytes) (sym (filled_short size payload short))
+    let inside : size ≤ length (sets part 0 head) = omega (arith, length-sets part 0 head) in
+    ap (λ (l : List ℕ). put_mid count (size - count) l zeros) begun
+    ∙ put_mid_sets (sets part 0 head) zeros count size end inside
+    ∙ ap (λ (n : ℕ). sets (sets part 0 head) n zeros) (omega arith)
+    ∙ sym (sets_append part 0 head zeros)
+    ∙ ap (λ (bytes : List ℕ). sets part 0 bytes) (sym (filled_by size count payload is))
 
 -- the padding put behind the length in use, and the vector's bytes written into the tail behind it
 pub stored_bytes : (memory payload : List ℕ) (used offset size : ℕ) → used ≤ offset → offset + size ≤ length memory

@@ -1,17 +1,14 @@
 -- Change of one element of a vector: M_MUTA.
-use Rattle.std.specs.Prelude.{ℕ, ◌+◌, ◌*◌, ◌/◌, ◌%◌, ◌^◌, Bool, cond, List, length, ◌==◌, nat_le}
+use Rattle.std.specs.Prelude.{ℕ, ◌+◌, ◌*◌, ◌/◌, ◌%◌, ◌^◌, Bool, cond, List, length, ◌==◌, nat_le, Ok, Err, Result, ⊤}
 use Rattle.std.proofs.lemmas.List.Edits.{sets}
 use Rattle.slices.specs.Numbers.{little_endian}
 use Rattle.errors.specs.declared.Refusal.TheVariants.{InvalidType, MSliceOutOfBounds}
 use Rattle.values.specs.declared.FatPointer.{FatPointer}
-use Rattle.memory.specs.declared.SizeResult.{SizeResult}
-use Rattle.memory.specs.declared.SizeResult.TheVariants.{Size, NoSize}
-use Rattle.memory.specs.declared.ChangeResult.{ChangeResult}
-use Rattle.memory.specs.declared.ChangeResult.TheVariants.{Changed, NotChanged}
+use Rattle.errors.specs.declared.Refusal.{Refusal}
 
 -- the bytes of an element: 1 of a text, 4 of numbers
-unfoldable pub element_size_bytes : ℕ → SizeResult
-element_size_bytes tag = cond (tag == 4) (Size 1) (cond (tag == 6) (Size 4) (NoSize InvalidType))
+unfoldable pub element_size_bytes : ℕ → Result ℕ Refusal
+element_size_bytes tag = cond (tag == 4) (Ok 1) (cond (tag == 6) (Ok 4) (Err InvalidType))
 
 -- index times element size, wrapped to 32 bits
 unfoldable pub scaled : ℕ → ℕ → ℕ
@@ -23,21 +20,21 @@ inside memory pointer = nat_le (pointer.offset + pointer.size) (length memory)
 
 -- a change's answer, and the memory in use after it
 pub record AfterChange : Type 0 where
-  pub answer : ChangeResult
+  pub answer : Result ⊤ Refusal
   pub memory : List ℕ
 
-abbrev pub after_change : ChangeResult → List ℕ → AfterChange
+abbrev pub after_change : Result ⊤ Refusal → List ℕ → AfterChange
 after_change answer memory = record { answer = answer; memory = memory }
 
 -- the element's index is tested before the vector's place in memory
-unfoldable pub changed : List ℕ → FatPointer → ℕ → ℕ → SizeResult → AfterChange
-changed memory pointer index payload (NoSize refusal) = after_change (NotChanged refusal) memory
-changed memory pointer index payload (Size width) =
+unfoldable pub changed : List ℕ → FatPointer → ℕ → ℕ → Result ℕ Refusal → AfterChange
+changed memory pointer index payload (Err refusal) = after_change (Err refusal) memory
+changed memory pointer index payload (Ok width) =
     cond (nat_le (pointer.size / width) index)
-    (after_change (NotChanged (MSliceOutOfBounds (scaled index width) pointer.size)) memory)
+    (after_change (Err (MSliceOutOfBounds (scaled index width) pointer.size)) memory)
     (cond (inside memory pointer)
-    (after_change Changed (sets memory (pointer.offset + index * width) (little_endian width payload)))
-    (after_change (NotChanged (MSliceOutOfBounds pointer.offset pointer.size)) memory))
+    (after_change (Ok tt) (sets memory (pointer.offset + index * width) (little_endian width payload)))
+    (after_change (Err (MSliceOutOfBounds pointer.offset pointer.size)) memory))
 
 -- M_MUTA on the memory in use: 5, then 14 with the element, then 14 with the vector
 unfoldable pub mut_vec : List ℕ → FatPointer → ℕ → ℕ → ℕ → AfterChange

@@ -10,8 +10,9 @@ use lib.Seq.{paste, sets, sets-eq, take-length}
 use borrow.Author.Tests.{ltb-true, leb-true}
 use Rattle.errors.specs.declared.Refusal.TheVariants.{PoolFull}
 use Rattle.pools.specs.Pool.{has_room, pooled, new_entry, interned}
-use Rattle.pools.specs.declared.InternResult.TheVariants.{NotInterned}
-use Rattle.pools.specs.declared.InternResult.{InternResult}
+use Rattle.std.specs.Prelude.{Err, Result}
+use Rattle.errors.specs.declared.Refusal.{Refusal}
+use Rattle.pools.specs.declared.InstructionsRef.{InstructionsRef}
 
 -- what it means that there is room, as facts
 pub record Room (lent bytes entries size : ℕ) : Type 0 where
@@ -50,16 +51,16 @@ module _ (pool ends : List ℕ) (bytes entries : ℕ) (calldata : List ℕ) wher
       opened pool ends bytes entries calldata held ∙ ap (λ (written : List ℕ). pooled (new_entry entries (bytes + length calldata)) written (set ends entries (bytes + length calldata))) (sym (pasted pool bytes calldata fits))
 
   -- where there is none, nothing is
-  pub when_full : has_room (length pool) bytes entries (length calldata) ≡ false → interned pool ends bytes entries calldata ≡ pooled (NotInterned PoolFull) pool ends
+  pub when_full : has_room (length pool) bytes entries (length calldata) ≡ false → interned pool ends bytes entries calldata ≡ pooled (Err PoolFull) pool ends
   unfolding interned
   when_full failed = rw failed
 
   -- what was written is what interning says, where n is the data's length
-  pub wrote : {answer : InternResult} {written new : List ℕ} {test : Bool} (n : ℕ) → length calldata ≡ n → test ≡ has_room (length pool) bytes entries n → test ≡ true
+  pub wrote : {answer : Result (InstructionsRef × ℕ) Refusal} {written new : List ℕ} {test : Bool} (n : ℕ) → length calldata ≡ n → test ≡ has_room (length pool) bytes entries n → test ≡ true
       → answer ≡ new_entry entries (bytes + n) → written ≡ paste pool bytes calldata n → new ≡ set ends entries (bytes + n) → pooled answer written new ≡ interned pool ends bytes entries calldata
   wrote n long is held answer written new =
       let said = when_room (ap (λ (k : ℕ). has_room (length pool) bytes entries k) long ∙ sym is ∙ held) in cc
 
   -- and so is what was left
-  pub wrote_nothing : {test : Bool} (n : ℕ) → length calldata ≡ n → test ≡ has_room (length pool) bytes entries n → test ≡ false → pooled (NotInterned PoolFull) pool ends ≡ interned pool ends bytes entries calldata
+  pub wrote_nothing : {test : Bool} (n : ℕ) → length calldata ≡ n → test ≡ has_room (length pool) bytes entries n → test ≡ false → pooled (Err PoolFull) pool ends ≡ interned pool ends bytes entries calldata
   wrote_nothing n long is failed = sym (when_full (ap (λ (k : ℕ). has_room (length pool) bytes entries k) long ∙ sym is ∙ failed))

@@ -2,7 +2,7 @@
 use Prim.Native.Nat.{ℕ, zero, suc, ◌+◌, ◌-◌, ◌<◌, ◌≤◌, min}
 use mathlib.Core.Bool.{Bool, true, false}
 use mathlib.Core.List.{List, [], ◌∷◌, ◌++◌, append_assoc}
-use mathlib.Core.Path.{◌≡◌, refl, sym, ◌∙◌}
+use mathlib.Core.Path.{◌≡◌, refl, sym, ap, ◌∙◌}
 use native.Mathlib.Decide.{ℕ_discrete}
 use native.Mathlib.Numerals.{add-one}
 use native.Mathlib.Omega.{arith}
@@ -15,9 +15,8 @@ use Rattle.pools.proofs.Copies.{same_part, before_copy}
 use Rattle.pools.proofs.Ends.{Within, within, stands, stood, more, start_kept, end_kept, end_new, last_end, up_kept}
 use Rattle.pools.proofs.Interns.{Room, room, when_room, when_full}
 use Rattle.pools.specs.Pool.{end_of, start_of, bounds, entry_of, entries_of, has_room, Pooled, pooled, interned, part_in_use, end_to_end}
-use Rattle.pools.specs.declared.BoundsResult.TheVariants.{Bounds, NoBounds}
 use Rattle.pools.specs.declared.InstructionsRef.{InstructionsRef}
-use Rattle.pools.specs.declared.InternResult.TheVariants.{Interned, NotInterned}
+use Rattle.std.specs.Prelude.{Ok, Err}
 
 -- ---- the list of entries
 
@@ -56,7 +55,7 @@ same_entries pool ends other new (suc n) same =
 
 module _ (ends : List ℕ) (bytes entries : ℕ) (sound : end_to_end ends bytes entries ≡ true) where
   -- there are bounds for each entry
-  pub found : (entry : InstructionsRef) → entry.0 < entries → bounds ends entries entry ≡ Bounds (start_of ends entry.0) (end_of ends entry.0)
+  pub found : (entry : InstructionsRef) → entry.0 < entries → bounds ends entries entry ≡ Ok (start_of ends entry.0, end_of ends entry.0)
   unfolding bounds
   found entry less = let s = stands ends bytes entries sound in rw (lt-ltb entry.0 (min entries 1024) (omega arith))
 
@@ -89,7 +88,7 @@ module _ (ends : List ℕ) (bytes entries : ℕ) (sound : end_to_end ends bytes 
           get_or-take bytes pool (start_of ends i + at + k) 0 (omega arith) ∙ rw e (sym (getD_entry pool ends i (at + k) (omega arith)))
 
 -- an entry that is not there is refused with its index
-pub not_found : (ends : List ℕ) (entries : ℕ) (entry : InstructionsRef) → entries ≤ entry.0 → bounds ends entries entry ≡ NoBounds (InvalidInstructionsIndex entry.0)
+pub not_found : (ends : List ℕ) (entries : ℕ) (entry : InstructionsRef) → entries ≤ entry.0 → bounds ends entries entry ≡ Err (InvalidInstructionsIndex entry.0)
 unfolding bounds
 not_found ends entries entry past = rw (le-ltb entry.0 (min entries 1024) (omega arith))
 
@@ -101,7 +100,7 @@ module _ (pool ends : List ℕ) (bytes entries : ℕ) (calldata : List ℕ) wher
   after = interned pool ends bytes entries calldata
 
   -- what was interned had room
-  had_room : (entry : InstructionsRef) (used : ℕ) → after.answer ≡ Interned entry used → has_room (length pool) bytes entries (length calldata) ≡ true
+  had_room : (entry : InstructionsRef) (used : ℕ) → after.answer ≡ Ok (entry, used) → has_room (length pool) bytes entries (length calldata) ≡ true
   had_room entry used went = by (has_room (length pool) bytes entries (length calldata)) refl
     where
       by : (test : Bool) → has_room (length pool) bytes entries (length calldata) ≡ test → has_room (length pool) bytes entries (length calldata) ≡ true
@@ -109,14 +108,15 @@ module _ (pool ends : List ℕ) (bytes entries : ℕ) (calldata : List ℕ) wher
       by false failed = absurd (let z : ◌≡◌ {A = ℕ} 0 1 = cc (when_full pool ends bytes entries calldata failed) in omega arith)
 
   -- the answer names the new entry, and the bytes in use with it
-  pub named : (entry : InstructionsRef) (used : ℕ) → after.answer ≡ Interned entry used → (entry.0 ≡ entries) × (used ≡ bytes + length calldata)
-  named entry used went = let said = when_room pool ends bytes entries calldata (had_room entry used went) in (cc, cc)
+  pub named : (entry : InstructionsRef) (used : ℕ) → after.answer ≡ Ok (entry, used) → (entry.0 ≡ entries) × (used ≡ bytes + length calldata)
+  named entry used went = let said = when_room pool ends bytes entries calldata (had_room entry used went) in
+      let both : ◌≡◌ {A = InstructionsRef × ℕ} (entry, used) (record { 0 = entries }, bytes + length calldata) = cc in (ap (λ p. p.0.0) both, ap (λ p. p.1) both)
 
   -- a refused one changes nothing
-  pub refused : (refusal : Refusal) → after.answer ≡ NotInterned refusal → after ≡ pooled (NotInterned PoolFull) pool ends
+  pub refused : (refusal : Refusal) → after.answer ≡ Err refusal → after ≡ pooled (Err PoolFull) pool ends
   refused refusal stopped = by (has_room (length pool) bytes entries (length calldata)) refl
     where
-      by : (test : Bool) → has_room (length pool) bytes entries (length calldata) ≡ test → after ≡ pooled (NotInterned PoolFull) pool ends
+      by : (test : Bool) → has_room (length pool) bytes entries (length calldata) ≡ test → after ≡ pooled (Err PoolFull) pool ends
       by true held = absurd (let z : ◌≡◌ {A = ℕ} 0 1 = cc (when_room pool ends bytes entries calldata held) in omega arith)
       by false failed = when_full pool ends bytes entries calldata failed
 
@@ -130,7 +130,7 @@ module _ (pool ends : List ℕ) (bytes entries : ℕ) (calldata : List ℕ) wher
           rw (when_room pool ends bytes entries calldata held) (length-paste pool bytes calldata (length calldata) r.there (omega arith), length-set ends entries (bytes + length calldata))
       by false failed = rw (when_full pool ends bytes entries calldata failed) (refl, refl)
 
-  module _ (lent : length ends ≡ 1024) (sound : end_to_end ends bytes entries ≡ true) (entry : InstructionsRef) (used : ℕ) (went : after.answer ≡ Interned entry used) where
+  module _ (lent : length ends ≡ 1024) (sound : end_to_end ends bytes entries ≡ true) (entry : InstructionsRef) (used : ℕ) (went : after.answer ≡ Ok (entry, used)) where
     -- the facts of the room that there was
     roomy : Room (length pool) bytes entries (length calldata)
     roomy = room (length pool) bytes entries (length calldata) (had_room entry used went)

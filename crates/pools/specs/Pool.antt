@@ -1,12 +1,9 @@
 -- The pool of instructions: entries end to end in the bytes in use, entry i from the end before it to its own end.
-use Rattle.std.specs.Prelude.{ℕ, zero, suc, ◌+◌, ◌-◌, min, Bool, true, cond, ◌&&◌, List, [], ◌∷◌, ◌++◌, length, get_or, take, drop, set, eqb, ltb, leb}
+use Rattle.std.specs.Prelude.{ℕ, zero, suc, ◌+◌, ◌-◌, min, Bool, true, cond, ◌&&◌, List, [], ◌∷◌, ◌++◌, length, get_or, take, drop, set, eqb, ltb, leb, Ok, Err, Result}
 use Rattle.std.proofs.lemmas.List.Edits.{sets}
 use Rattle.errors.specs.declared.Refusal.TheVariants.{InvalidInstructionsIndex, PoolFull}
 use Rattle.pools.specs.declared.InstructionsRef.{InstructionsRef}
-use Rattle.pools.specs.declared.BoundsResult.{BoundsResult}
-use Rattle.pools.specs.declared.BoundsResult.TheVariants.{Bounds, NoBounds}
-use Rattle.pools.specs.declared.InternResult.{InternResult}
-use Rattle.pools.specs.declared.InternResult.TheVariants.{Interned, NotInterned}
+use Rattle.errors.specs.declared.Refusal.{Refusal}
 
 -- the end of an entry
 unfoldable pub end_of : List ℕ → ℕ → ℕ
@@ -18,10 +15,10 @@ start_of ends zero = 0
 start_of ends (suc i) = end_of ends i
 
 -- where an entry stands, where there is one
-unfoldable pub bounds : List ℕ → ℕ → InstructionsRef → BoundsResult
+unfoldable pub bounds : List ℕ → ℕ → InstructionsRef → Result (ℕ × ℕ) Refusal
 bounds ends entries entry =
-    cond (ltb entry.0 (min entries 1024)) (Bounds (start_of ends entry.0) (end_of ends entry.0))
-    (NoBounds (InvalidInstructionsIndex entry.0))
+    cond (ltb entry.0 (min entries 1024)) (Ok (start_of ends entry.0, end_of ends entry.0))
+    (Err (InvalidInstructionsIndex entry.0))
 
 -- the bytes of an entry
 unfoldable pub entry_of : List ℕ → List ℕ → ℕ → List ℕ
@@ -38,17 +35,17 @@ has_room lent bytes entries size = ltb entries 1024 && leb (bytes + size) (min 6
 
 -- an answer, and the lent pool and ends after it
 pub record Pooled : Type 0 where
-  pub answer : InternResult
+  pub answer : Result (InstructionsRef × ℕ) Refusal
   pub pool : List ℕ
   pub ends : List ℕ
 
 -- these three together
-abbrev pub pooled : InternResult → List ℕ → List ℕ → Pooled
+abbrev pub pooled : Result (InstructionsRef × ℕ) Refusal → List ℕ → List ℕ → Pooled
 pooled answer pool ends = record { answer = answer; pool = pool; ends = ends }
 
 -- the entry after the others, and the bytes in use up to its end
-abbrev pub new_entry : ℕ → ℕ → InternResult
-new_entry entries end = Interned (record { 0 = entries }) end
+abbrev pub new_entry : ℕ → ℕ → Result (InstructionsRef × ℕ) Refusal
+new_entry entries end = Ok (record { 0 = entries }, end)
 
 -- one more entry: its data from the bytes in use on, and its end; where it does not fit nothing is written
 unfoldable pub interned : List ℕ → List ℕ → ℕ → ℕ → List ℕ → Pooled
@@ -57,7 +54,7 @@ interned pool ends bytes entries calldata =
     (pooled (new_entry entries (bytes + length calldata))
     (sets pool bytes calldata)
     (set ends entries (bytes + length calldata)))
-    (pooled (NotInterned PoolFull) pool ends)
+    (pooled (Err PoolFull) pool ends)
 
 -- data that stands in the pool itself, within the bytes in use
 unfoldable pub part_in_use : List ℕ → ℕ → ℕ → ℕ → List ℕ

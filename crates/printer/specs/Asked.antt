@@ -1,20 +1,17 @@
 -- What a host asks of a machine as nine bytes, and what came of it.
-use Rattle.std.specs.Prelude.{ℕ, ◌*◌, ◌/◌, cond, List, [], eqb, leb, length, take, drop, get_or}
+use Rattle.std.specs.Prelude.{ℕ, ◌*◌, ◌/◌, cond, List, [], eqb, leb, length, take, drop, get_or, Ok, Err, Result}
 use Rattle.slices.specs.Numbers.{number_at}
-use Rattle.image.specs.declared.SaveResult.{SaveResult}
-use Rattle.image.specs.declared.SaveResult.TheVariants.{Saved, NotSaved}
 use Rattle.listing.specs.declared.Head.{Head}
 use Rattle.listing.specs.declared.Head.TheVariants as head
 use Rattle.machine.specs.declared.Machine.{Machine}
 use Rattle.machine.specs.declared.Outcome.{Outcome}
 use Rattle.machine.specs.declared.Outcome.TheVariants.{Done, Paused, Refused}
-use Rattle.machine.specs.declared.CreateResult.{CreateResult}
-use Rattle.machine.specs.declared.CreateResult.TheVariants.{Created, NotCreated}
 use Rattle.machine.specs.declared.Report.{Report}
 use Rattle.machine.specs.declared.SaveReport.{SaveReport}
 use Rattle.machine.specs.declared.Verb.{Verb}
 use Rattle.machine.specs.declared.Verb.TheVariants.{Start, Rerun, Continue}
 use Rattle.printer.specs.declared.CallOutcome.{CallOutcome}
+use Rattle.errors.specs.declared.Refusal.{Refusal}
 
 -- ---- calls as bytes
 
@@ -49,9 +46,9 @@ unfoldable pub ran : Report → CallOutcome
 ran report = answered report.machine (ended report.finished report.outcome)
 
 -- how a save ended
-unfoldable pub kept : SaveResult → Head
-kept (Saved length) = head.Saved length
-kept (NotSaved refusal) = head.Refused refusal
+unfoldable pub kept : Result ℕ Refusal → Head
+kept (Ok length) = head.Saved length
+kept (Err refusal) = head.Refused refusal
 
 unfoldable pub saved : SaveReport → CallOutcome
 saved report = answered report.machine (kept report.result)
@@ -59,6 +56,6 @@ saved report = answered report.machine (kept report.result)
 -- ---- before the first call
 
 -- how many calls are performed: none without a machine
-unfoldable pub count_of : CreateResult → ℕ → ℕ
-count_of (Created machine) count = count
-count_of (NotCreated refusal) count = 0
+unfoldable pub count_of : Result Machine Refusal → ℕ → ℕ
+count_of (Ok machine) count = count
+count_of (Err refusal) count = 0

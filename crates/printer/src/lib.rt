@@ -8,11 +8,11 @@ pub mod shows;
 
 ghost use Rattle.std.specs.Prelude.{◌≡◌};
 
+use errors::Refusal;
 use listing::Head;
 use machine::Machine;
 use report::Report;
 use std::rt::Stdout;
-use text::LineResult;
 
 // What came of a call: the machine after it, and how it ended.
 #[derive(Clone, Copy)]
@@ -22,14 +22,11 @@ pub struct CallOutcome {
 }
 
 // Writes a line.
-pub(crate) fn emit(out: Stdout, room: &[u8], line: LineResult)
+pub(crate) fn emit(out: Stdout, room: &[u8], line: Result<usize, Refusal>)
     ensures { result ≡ tt }
 {
-    match line {
-        LineResult::Line(length) => {
-            streams::write(out, slices::part(room, 0, length));
-        }
-        LineResult::NoLine(_) => {}
+    if let Ok(length) = line {
+        streams::write(out, slices::part(room, 0, length));
     }
 }
 

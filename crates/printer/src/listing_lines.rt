@@ -7,32 +7,16 @@ use crate::{CallOutcome, emit};
 use errors::Refusal;
 use listing::Head;
 use listing::lines::{height_of, line_at, line_count, words_of};
-use machine::CreateResult;
+use machine::Machine;
 use std::rt::Stdout;
 use storage::Task;
-use text::LineResult;
-
-// Room for any value's line: a text of 65,535 bytes, each escaped, 16,383 numbers, or 65,536 bytes in hex.
-fn value_room() -> [u8; 196611] {
-    [0u8; 196611]
-}
-
-// Ends of no entries.
-fn no_ends() -> [u32; 1024] {
-    [0u32; 1024]
-}
 
 // How many values are listed: no more than a stack has.
 #[tactic(auto, unfolding(crate::specs::Listed::values_listed))]
 pub(crate) fn values_listed(answered: CallOutcome) -> usize
     ensures { result ≡ values_listed answered }
 {
-    let head = answered.head;
-    let height = height_of(head, answered.machine.height);
-    if height < 1000 {
-        return height;
-    }
-    1000
+    height_of(answered.head, answered.machine.height).min(1000)
 }
 
 // A line of the listing of a call, by its number, into a room.
@@ -46,10 +30,9 @@ fn call_line<'a>(
     living: usize,
     task: Task,
     number: usize,
-) -> LineResult
+) -> Result<usize, Refusal>
     ensures { lined result room.new ≡ put_line room.old (call_line answered stack.now memory.now pool.now ends.now living task number) }
 {
-    let head = answered.head;
     let words = words_of(stack, values_listed(answered));
     let used = slices::part(memory, 0, answered.machine.memory);
     line_at(
@@ -58,7 +41,7 @@ fn call_line<'a>(
         used,
         pool,
         ends,
-        head,
+        answered.head,
         answered.machine.entries,
         living,
         task,
@@ -84,35 +67,29 @@ pub(crate) fn show_line(
     let line = call_line(
         &mut room, stack, memory, pool, ends, answered, living, task, number,
     );
-    match line {
-        LineResult::Line(_) => {
-            emit(out, &room, line);
-        }
-        LineResult::NoLine(_) => {
-            let mut large = value_room();
-            let long = call_line(
-                &mut large, stack, memory, pool, ends, answered, living, task, number,
-            );
-            emit(out, &large, long);
-        }
+    if line.is_ok() {
+        emit(out, &room, line);
+    } else {
+        // Any value's line: a text of 65,535 bytes, each escaped, 16,383 numbers, or 65,536 bytes in hex.
+        let mut large = [0u8; 196611];
+        let long = call_line(
+            &mut large, stack, memory, pool, ends, answered, living, task, number,
+        );
+        emit(out, &large, long);
     }
 }
 
 // The listing of a refusal with no values and no tasks.
 fn show_refusal(out: Stdout, refusal: Refusal) {
-    let words = [0u64; 0];
-    let bytes = [0u8; 0];
-    let ends = no_ends();
+    let ends = [0u32; 1024];
     let blank = storage::task_types::blank();
     let mut room = [0u8; 4096];
-    let count = line_count(0, 0);
-    let mut number = 0;
-    while number < count {
+    for number in 0..line_count(0, 0) {
         let line = line_at(
             &mut room,
-            &words,
-            &bytes,
-            &bytes,
+            &[],
+            &[],
+            &[],
             &ends,
             Head::Refused(refusal),
             0,
@@ -121,18 +98,14 @@ fn show_refusal(out: Stdout, refusal: Refusal) {
             number,
         );
         emit(out, &room, line);
-        number = number + 1;
     }
 }
 
 // A creation that was refused.
-pub(crate) fn show_creation(out: Stdout, creation: CreateResult)
+pub(crate) fn show_creation(out: Stdout, creation: Result<Machine, Refusal>)
     ensures { result ≡ tt }
 {
-    match creation {
-        CreateResult::Created(_) => {}
-        CreateResult::NotCreated(refusal) => {
-            show_refusal(out, refusal);
-        }
+    if let Err(refusal) = creation {
+        show_refusal(out, refusal);
     }
 }

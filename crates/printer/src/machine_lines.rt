@@ -8,16 +8,12 @@ use std::rt::Stdout;
 
 // The call that was asked for.
 fn call_of(verb: u8, fuel: u64) -> Report {
-    if verb == 0 {
-        return Report::Start(fuel);
+    match verb {
+        0 => Report::Start(fuel),
+        2 => Report::Save,
+        3 => Report::Rerun(fuel),
+        _ => Report::Continue(fuel),
     }
-    if verb == 2 {
-        return Report::Save;
-    }
-    if verb == 3 {
-        return Report::Rerun(fuel);
-    }
-    Report::Continue(fuel)
 }
 
 // Where everything is shown: the call.
@@ -38,55 +34,41 @@ fn show_word(out: Stdout, word: Word) {
 
 // The open loops, the outer one first.
 fn show_loops(out: Stdout, loops: Loops) {
-    let outer = loops.outer;
-    let inner = loops.inner;
     if 0 < loops.count {
-        show_report(out, Report::Open(outer));
+        show_report(out, Report::Open(loops.first));
     }
     if 1 < loops.count {
-        show_report(out, Report::Open(inner));
+        show_report(out, Report::Open(loops.second));
     }
 }
 
 // The frames, main first.
 fn show_frames(out: Stdout, frames: Frames) {
-    let main = frames.main;
-    let task = frames.task;
-    show_report(out, Report::Called(main));
+    show_report(out, Report::Called(frames.first));
     if 1 < frames.count {
-        show_report(out, Report::Called(task));
+        show_report(out, Report::Called(frames.second));
     }
 }
 
-// So many bytes in hex as a room holds.
-fn show_part(out: Stdout, room: &mut [u8], bytes: &[u8]) {
-    let part = text::hex::hex_part(room, bytes, 0);
-    streams::write(out, slices::part(room, 0, part.length));
-}
-
-// Bytes in hex, 2,048 at a time.
-fn show_hex(out: Stdout, room: &mut [u8], bytes: &[u8]) {
-    let mut at = 0;
-    while at < bytes.len() {
-        show_part(out, room, slices::part(bytes, at, 2048));
-        if bytes.len() - at < 2048 {
-            return;
-        }
-        at = at + 2048;
+// Bytes in hex, as many at a time as a line's room holds.
+fn show_hex(out: Stdout, bytes: &[u8]) {
+    let mut room = [0u8; 4096];
+    for part in bytes.chunks(2048) {
+        let put = text::hex::hex_part(&mut room, part, 0);
+        streams::write(out, slices::part(&room, 0, put.length));
     }
 }
 
 // A word, and bytes in hex behind it.
 fn show_bytes(out: Stdout, word: Word, bytes: &[u8]) {
-    let mut room = [0u8; 4096];
     show_word(out, word);
-    show_hex(out, &mut room, bytes);
+    show_hex(out, bytes);
     show_word(out, Word::LineEnd);
 }
 
 // The image that was saved last, if there is one.
 fn show_image(out: Stdout, image: &[u8]) {
-    if 0 < image.len() {
+    if !image.is_empty() {
         show_bytes(out, Word::Image, image);
     }
 }
@@ -103,11 +85,9 @@ pub(crate) fn show_machine(
 {
     if everything {
         let after = answered.machine;
-        let loops = after.loops;
-        let frames = after.frames;
         show_report(out, Report::After(after));
-        show_loops(out, loops);
-        show_frames(out, frames);
+        show_loops(out, after.loops);
+        show_frames(out, after.frames);
         show_bytes(out, Word::Memory, slices::part(memory, 0, after.memory));
         show_image(out, slices::part(save, 0, after.saved));
     }

@@ -5,7 +5,7 @@ ghost use Rattle.machine.specs.World.{world};
 ghost use Rattle.printer.specs.Shows.{acted, performed, after_call, after_calls, lent, own};
 
 use crate::CallOutcome;
-use crate::asked::{count_of, fuel_at, machine_after, ran, saved, verb_at, verb_of};
+use crate::asked::{count_of, fuel_at, ran, saved, verb_at, verb_of};
 use crate::listing_lines::{show_creation, show_line, values_listed};
 use crate::machine_lines::{show_call, show_machine};
 use listing::lines::{line_count, slot_shown};
@@ -28,19 +28,17 @@ fn show_listing(
 {
     let living = table::slots::living(table);
     let values = values_listed(answered);
-    let count = line_count(values, table.len());
-    let mut number = 0;
-    while number < count {
+    for number in 0..line_count(values, table.len()) {
         let slot = slot_shown(values, number);
         let task = table::get(table, slot);
         show_line(
             out, stack, memory, pool, ends, answered, living, task, number,
         );
-        number = number + 1;
     }
 }
 
 // One call, by its verb: 2 saves, any other is a run.
+#[tactic(auto, unfolding(crate::specs::Shows::performed))]
 fn act(
     table: &mut [Task],
     stack: &mut [u64; 1000],
@@ -54,18 +52,19 @@ fn act(
 ) -> CallOutcome
     ensures { acted result table.new stack.new memory.new pool.new ends.new save.new ≡ performed verb fuel (world machine table.old stack.old memory.old pool.old ends.old save.old) }
 {
-    if verb != 2 {
-        let asked = verb_of(verb);
-        let report = runner::calling::call(
-            table, stack, memory, pool, ends, save, machine, asked, fuel,
-        );
-        return ran(report);
+    if verb == 2 {
+        let kept = vm::saving::save(table, stack, memory, pool, ends, save, machine);
+        return saved(kept);
     }
-    let kept = vm::saving::save(table, stack, memory, pool, ends, save, machine);
-    saved(kept)
+    let asked = verb_of(verb);
+    let report = runner::calling::call(
+        table, stack, memory, pool, ends, save, machine, asked, fuel,
+    );
+    ran(report)
 }
 
 // The call of a number, and its lines: the listing, and where everything is shown the call before it and the machine behind it.
+#[tactic(auto, unfolding(crate::specs::Shows::after_call))]
 fn turn(
     out: Stdout,
     table: &mut [Task],
@@ -88,10 +87,11 @@ fn turn(
     show_call(out, verb, fuel, everything);
     show_listing(out, table, stack, memory, pool, ends, answered);
     show_machine(out, memory, save, answered, everything);
-    machine_after(answered)
+    answered.machine
 }
 
 // The first so many calls, one after the other, and the machine after them.
+#[tactic(auto, using(crate::proofs::Performing::none_yet))]
 fn play(
     out: Stdout,
     table: &mut [Task],
@@ -109,12 +109,10 @@ fn play(
     ensures { after (world result table.new stack.new memory.new pool.new ends.new save.new) calls.new ≡ after (after_calls calls.old from count (world begun table.old stack.old memory.old pool.old ends.old save.old)) calls.old }
 {
     let mut machine = begun;
-    let mut number = 0;
-    while number < count {
+    for number in 0..count {
         machine = turn(
             out, table, stack, memory, pool, ends, save, calls, machine, from, number, everything,
         );
-        number = number + 1;
     }
     machine
 }

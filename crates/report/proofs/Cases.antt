@@ -20,8 +20,8 @@ machine : Machine
 machine = record {
   phase = Done;
   height = 1;
-  loops = record { count = 0; outer = loop; inner = loop };
-  frames = record { count = 1; main = frame; task = frame };
+  loops = record { count = 0; first = loop; second = loop };
+  frames = record { count = 1; first = frame; second = frame };
   memory = 20;
   pool = 300;
   entries = 4;

@@ -7,10 +7,11 @@ ghost use Rattle.std.specs.Prelude.{◌≡◌};
 ghost use Rattle.text.specs.Lines.{said, lined, put_line};
 ghost use Rattle.report.specs.Reports.{line_of_report};
 
+use errors::Refusal;
 use inlinevec::{Frame, Loop};
 use machine::Machine;
+use text::Form;
 use text::lines::put_line;
-use text::{Form, LineResult};
 
 // A line: a case, a call, the machine after it with its open loops and its frames, or the place of a batch that breaks its form.
 #[derive(Drop)]
@@ -35,14 +36,16 @@ pub enum Word {
 }
 
 // A line of a template and its numbers.
-fn say(out: &mut [u8], template: &[u8], numbers: &[u64]) -> LineResult
+#[tactic(auto, unfolding(text::specs::Lines::said))]
+fn say(out: &mut [u8], template: &[u8], numbers: &[u64]) -> Result<usize, Refusal>
     ensures { lined result out.new ≡ put_line out.old (said template.now numbers.now) }
 {
     put_line(out, template, numbers, Form::Plain, b"")
 }
 
 // The line of a machine.
-fn machine_line(out: &mut [u8], machine: Machine) -> LineResult
+#[tactic(auto, unfolding(crate::specs::Reports::line_of_report, text::specs::Ascii::ascii))]
+fn machine_line(out: &mut [u8], machine: Machine) -> Result<usize, Refusal>
     ensures { lined result out.new ≡ put_line out.old (line_of_report (Report.After machine)) }
 {
     let numbers = [
@@ -62,7 +65,8 @@ fn machine_line(out: &mut [u8], machine: Machine) -> LineResult
 }
 
 // A line of a report.
-pub fn report_line(out: &mut [u8], report: Report) -> LineResult
+#[tactic(auto, unfolding(crate::specs::Reports::line_of_report, text::specs::Ascii::ascii))]
+pub fn report_line(out: &mut [u8], report: Report) -> Result<usize, Refusal>
     ensures { lined result out.new ≡ put_line out.old (line_of_report report) }
 {
     match report {
@@ -70,7 +74,7 @@ pub fn report_line(out: &mut [u8], report: Report) -> LineResult
         Report::Start(fuel) => say(out, b"start #", &[fuel]),
         Report::Rerun(fuel) => say(out, b"rerun #", &[fuel]),
         Report::Continue(fuel) => say(out, b"continue #", &[fuel]),
-        Report::Save => say(out, b"save", &[0u64; 0]),
+        Report::Save => say(out, b"save", &[]),
         Report::After(machine) => machine_line(out, machine),
         Report::Open(open) => say(
             out,

@@ -5,21 +5,22 @@ ghost use Rattle.text.specs.Lines.{lined, put_line};
 
 use crate::Word;
 use errors::Refusal;
-use text::LineResult;
 
 // Bytes as they are at the buffer's start.
-fn put_bytes(out: &mut [u8], bytes: &[u8]) -> LineResult
+#[tactic(auto, unfolding(text::specs::Lines::put_line))]
+fn put_bytes(out: &mut [u8], bytes: &[u8]) -> Result<usize, Refusal>
     ensures { lined result out.new ≡ put_line out.old bytes.now }
 {
-    if bytes.len() <= out.len() {
-        slices::writes::write(out, bytes, 0);
-        return LineResult::Line(bytes.len());
+    if out.len() < bytes.len() {
+        return Err(Refusal::SaveBufferTooShort);
     }
-    LineResult::NoLine(Refusal::SaveBufferTooShort)
+    slices::writes::write(out, bytes, 0);
+    Ok(bytes.len())
 }
 
 // A word before bytes in hex, or the line feed behind them.
-pub fn put_word(out: &mut [u8], word: Word) -> LineResult
+#[tactic(auto, unfolding(crate::specs::Reports::text_of_word, text::specs::Ascii::ascii))]
+pub fn put_word(out: &mut [u8], word: Word) -> Result<usize, Refusal>
     ensures { lined result out.new ≡ put_line out.old (text_of_word word) }
 {
     match word {

@@ -14,12 +14,12 @@ use Rattle.roundtrips.proofs.SaveLoad.{save_load}
 use Rattle.image.specs.Image.{ImageTask, Image, written, SoundImage, sound, read_image}
 use Rattle.image.specs.Slots.{saved_task, title_in, task_in}
 use Rattle.image.specs.Table.{living_tasks, refusal_by, task_refusal, or_else, first_refusal, image_of_tasks, saved_table, saved_over, saved_unless, save_tasks, save_table}
-use Rattle.image.specs.declared.SaveResult.TheVariants.{Saved, NotSaved}
 use Rattle.pools.specs.Pool.{bounds}
 use Rattle.storage.specs.Tasks.{blank}
 use Rattle.storage.specs.declared.Task.{Task}
 use Rattle.table_image.proofs.Saves.{living_more, living_less}
 use Rattle.utf8.specs.Utf8.{valid}
+use Rattle.std.specs.Prelude.{Ok, Err}
 
 -- a living slot that holds a task: its reference names an entry, its title is UTF-8
 pub record Holds (pool ends : List ℕ) (entries : ℕ) (slot : Task) (task : ImageTask) : Type 0 where
@@ -78,12 +78,12 @@ module _ {table : List Task} {pool ends : List ℕ} {entries : ℕ} (image : Ima
   saved_lists = let k = lists_kept l (omega arith) in rw (k.none_refused, k.tasks_are)
 
   -- a table that holds an image's tasks is saved as the image, where it fits, and bytes past it stay
-  pub save_lists : length (written image) ≤ length save → save_table image.next_id table pool ends entries save ≡ saved_table (Saved (length (written image))) (sets save 0 (written image))
+  pub save_lists : length (written image) ≤ length save → save_table image.next_id table pool ends entries save ≡ saved_table (Ok (length (written image))) (sets save 0 (written image))
   unfolding saved_over
   save_lists fits = saved_lists ∙ rw (le-leb (length (written image)) (length save) fits)
 
   -- where it does not fit the answer is 24, and nothing is written
-  pub too_short : length save < length (written image) → save_table image.next_id table pool ends entries save ≡ saved_table (NotSaved SaveBufferTooShort) save
+  pub too_short : length save < length (written image) → save_table image.next_id table pool ends entries save ≡ saved_table (Err SaveBufferTooShort) save
   unfolding saved_over
   too_short past = saved_lists ∙ rw (lt-leb (length (written image)) (length save) past)
 

@@ -11,8 +11,10 @@ use Rattle.image.specs.Table.{Loading, bytes_after, entries_after, load_slot}
 use Rattle.pools.proofs.Interns.{when_room}
 use Rattle.pools.proofs.Laws.{length_entries, getD_entries, joined, still_sound, same_lengths}
 use Rattle.pools.specs.Pool.{entry_of, entries_of, has_room, Pooled, new_entry, interned, end_to_end}
-use Rattle.pools.specs.declared.InternResult.{InternResult}
 use Rattle.storage.specs.declared.Task.{Task}
+use Rattle.std.specs.Prelude.{Result}
+use Rattle.errors.specs.declared.Refusal.{Refusal}
+use Rattle.pools.specs.declared.InstructionsRef.{InstructionsRef}
 
 -- a pool lent with 1,024 ends, its entries end to end
 pub record Pool (l : Loading) : Type 0 where
@@ -62,8 +64,8 @@ module _ (l : Loading) (task : Task) (instructions : List ℕ) (p : Pool l) (few
       let lengths = same_lengths l.pool l.ends l.bytes l.entries instructions in
       record {
         slots = refl;
-        one_more = ap (λ (a : InternResult). entries_after a l.entries) answered;
-        bytes_more = ap (λ (a : InternResult). bytes_after a l.bytes) answered;
+        one_more = ap (λ (a : Result (InstructionsRef × ℕ) Refusal). entries_after a l.entries) answered;
+        bytes_more = ap (λ (a : Result (InstructionsRef × ℕ) Refusal). bytes_after a l.bytes) answered;
         same_pool = lengths.0;
         still = record {
           lent = lengths.1 ∙ p.lent;

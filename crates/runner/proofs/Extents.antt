@@ -2,8 +2,8 @@
 use Rattle.std.proofs.Common.{◌≡◌, ℕ, ◌+◌, ◌<◌, Bool, true, false, cond, eqb, List, length, get_or, sym, refl, ap, ◌∙◌, subst, arith, eqb-true, le-leb}
 use Rattle.bytecode.specs.Opcodes.{operand_size, PUSH_CALLDATA, M_STI, T_CREATE, T_GET_FIELD, T_SET_FIELD, T_DELETE, CALL, END_CALL}
 use Rattle.bytecode.specs.Operands.{data_size, behind, extent}
-use Rattle.bytecode.specs.declared.Extent.TheVariants.{Next}
 use Rattle.mechanism.specs.Act.{bare}
+use Rattle.std.specs.Prelude.{Some}
 
 -- by a test
 on_bool : {A : Type 0} (b : Bool) → (b ≡ true → A) → (b ≡ false → A) → A
@@ -38,6 +38,6 @@ behind_alone code at (none, calldata, payload) =
     let e : behind code at ≡ at + 1 + 0 + 0 = simp (none, calldata, payload) in
     e ∙ omega arith
 
-pub bare_extent : (code : List ℕ) (at : ℕ) → at < length code → bare (get_or code at 0) ≡ true → extent code at ≡ Next (at + 1)
+pub bare_extent : (code : List ℕ) (at : ℕ) → at < length code → bare (get_or code at 0) ≡ true → extent code at ≡ Some (at + 1)
 unfolding extent
 bare_extent code at inside one = simp (behind_alone code at (alone (get_or code at 0) one), le-leb (at + 1) (length code) (omega (arith, inside)))

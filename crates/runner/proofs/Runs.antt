@@ -5,28 +5,25 @@ use borrow.Author.Tests.{lt-leb}
 use Rattle.errors.specs.declared.Refusal.{Refusal}
 use Rattle.bytecode.specs.Opcodes.{S_SAVE}
 use Rattle.storage.specs.declared.Task.{Task}
-use Rattle.storage.specs.Tasks.{blank}
 use Rattle.mechanism.specs.Registers.{OnMemory, on_memory}
 use Rattle.mechanism.specs.declared.Registers.{Registers}
-use Rattle.mechanism.specs.declared.RegistersResult.{RegistersResult}
-use Rattle.mechanism.specs.declared.RegistersResult.TheVariants.{Next, Refused}
 use Rattle.image.specs.Table.{SavedTable, saved_table, saved_over, saved_unless, save_tasks, save_table}
-use Rattle.image.specs.declared.SaveResult.TheVariants.{Saved, NotSaved}
-use Rattle.mechanism.specs.Changes.{applied}
 use Rattle.mechanism.specs.Execute.{instruct}
 use Rattle.mechanism.specs.Steps.{Halted, is_outer, halted, onward, turn as core-turn, steps}
 use Rattle.machine.specs.declared.Machine.{Machine}
-use Rattle.mechanism.specs.declared.Halt.{Halt}
 use Rattle.mechanism.specs.declared.Halt.TheVariants as halt
 use Rattle.machine.specs.Machines.{code_of}
 use Rattle.mechanism.specs.Registers.{registers_of, settled}
-use Rattle.mechanism.specs.Advance.{ended as outcome-at, at_hand, halted_at, after_steps, advance}
-use Rattle.mechanism.specs.Turns.{turned, save_result}
+use Rattle.mechanism.specs.Advance.{ended as outcome-at, wanted, halted_at, after_steps, advance}
+use Rattle.mechanism.specs.Turns.{going_on, turned, save_result}
+use Rattle.mechanism.specs.declared.Standing.{Standing}
+use Rattle.mechanism.specs.declared.Standing.TheVariants as standing
 use Rattle.runner.specs.Behind.{next_of, save_answered, saved}
 use Rattle.runner.proofs.Leaving.{inside, next_is}
 use Rattle.mechanism.proofs.Whole.{step_is}
 use Rattle.mechanism.specs.Act.{OnAll}
 use Rattle.machine.specs.Machines.{op_at}
+use Rattle.machine.specs.declared.Outcome.{Outcome}
 use Rattle.machine.specs.declared.Outcome.TheVariants as outcomes
 use Rattle.mechanism.proofs.Either.{either}
 use Rattle.mechanism.proofs.Acts as acts-law
@@ -37,37 +34,52 @@ use Rattle.machine.specs.World.{World, world, at_end}
 use Rattle.machine.specs.Words.{StepResult, next, refused}
 use Rattle.mechanism.specs.Step.{outer, inner, inner_result, acts_result, acts, saves_result, saves, step_by_parts}
 use Rattle.machine.specs.Run.{End, end_at, follow, run}
-use Rattle.runner.specs.Going.{Going, going, beside, Acting, after_act, task_turn, slot_at, act_turn, after_save, save_turn, from_acting, from_saving, turn, begins, goes_on}
+use Rattle.runner.specs.Going.{Going, going, beside, Acting, acted, after_act, task_turn, after_save, save_turn, from_acting, from_saving, turn_by, turn, begins, goes_on}
 use Rattle.runner.proofs.Stating.{acts_on_record}
 use Rattle.mechanism.proofs.Settled.{on_bool, registers_settled, code_settled, place_settled, settled_twice, settled_same, op_settled, count_settled}
+use Rattle.std.specs.Prelude.{Ok, Err, Result}
 
 -- the machine with everything lent to it
 abbrev pub world_of : Going → World
 world_of g = world g.progress.machine g.table g.stack g.memory g.pool g.ends g.save
 
 -- where it ends, between two turns
-unfoldable pub comes_to : Going → End
-comes_to g = cond g.progress.running (run g.progress.left (world_of g)) (end_at (world_of g) g.progress.left g.progress.outcome)
+unfoldable pub comes_by : Going → Standing → End
+comes_by g standing.Going = run g.progress.left (world_of g)
+comes_by g (standing.AtHand op) = run g.progress.left (world_of g)
+comes_by g (standing.Ended outcome) = end_at (world_of g) g.progress.left outcome
 
--- where it ends, with an instruction at hand
-unfoldable pub finishes : Going → End
-finishes g =
-    cond g.progress.running
-    (follow (λ v. run (g.progress.left - 1) v) (world_of g) g.progress.left (outer (world_of g) (eqb g.progress.op S_SAVE) (slot_at g.stack g.progress)))
-    (end_at (world_of g) g.progress.left g.progress.outcome)
+abbrev pub comes_to : Going → End
+comes_to g = comes_by g g.progress.standing
 
--- the turns that may still come
+-- where it ends, behind an instruction at hand
+unfoldable finishes_by : Going → Standing → End
+finishes_by g standing.Going = run g.progress.left (world_of g)
+finishes_by g (standing.AtHand op) =
+    follow (λ v. run (g.progress.left - 1) v) (world_of g) g.progress.left (outer (world_of g) (eqb op S_SAVE) (wanted g.stack g.progress.machine op))
+finishes_by g (standing.Ended outcome) = end_at (world_of g) g.progress.left outcome
+
+abbrev finishes : Going → End
+finishes g = finishes_by g g.progress.standing
+
+-- the turns that may still come: two to a unit of fuel, and one more before an outcome
+unfoldable pub one_more : Standing → ℕ
+one_more standing.Going = 1
+one_more (standing.AtHand op) = 1
+one_more (standing.Ended outcome) = 0
+
 abbrev pub turns_left : Going → ℕ
-turns_left g = g.progress.left * 2 + cond g.progress.running 1 0
+turns_left g = g.progress.left * 2 + one_more g.progress.standing
+
+-- it is not at an outcome
+abbrev pub Onward : Going → Type 0
+Onward g = (outcome : Outcome) → g.progress.standing ≡ standing.Ended outcome → ⊥
 
 past : (a b : ℕ) → ltb a b ≡ true → leb b a ≡ false
 past a b t = lt-leb b a (ltb-true a b t)
 
 before : (a b : ℕ) → ltb a b ≡ false → leb b a ≡ true
 before a b t = le-leb b a (ltb-false a b t)
-
-never : false ≡ true → ⊥
-never e = let z : ◌≡◌ {A = ℕ} 0 1 = ap (λ (b : Bool). cond {A = ℕ} b 1 0) e in omega arith
 
 one_less : (n : ℕ) → suc n - 1 ≡ n
 one_less n = omega arith
@@ -87,34 +99,34 @@ module _ (machine : Machine) (table : List Task) (pool ends save : List ℕ) whe
   Claim fuel registers stack memory = finishes (goes (steps fuel stack memory code registers machine.count)) ≡ run fuel (at registers stack memory)
 
   at_the_end : (fuel : ℕ) (registers : Registers) (stack memory : List ℕ) → ltb registers.place (length code) ≡ false → Claim fuel registers stack memory
-  unfolding finishes after_steps halted_at steps run at_end
+  unfolding finishes_by after_steps halted_at steps run at_end
   at_the_end zero registers stack memory t = simp (code_settled, place_settled, t, before registers.place (length code) t)
   at_the_end (suc fuel) registers stack memory t = simp (code_settled, place_settled, t, before registers.place (length code) t)
 
   no_fuel : (registers : Registers) (stack memory : List ℕ) → ltb registers.place (length code) ≡ true → Claim zero registers stack memory
-  unfolding finishes after_steps halted_at steps run at_end
+  unfolding finishes_by after_steps halted_at steps run at_end
   no_fuel registers stack memory t = simp (code_settled, place_settled, t, past registers.place (length code) t)
 
   at_outer : (fuel : ℕ) (registers : Registers) (stack memory : List ℕ) → ltb registers.place (length code) ≡ true → is_outer (get_or code registers.place 0) ≡ true → Claim (suc fuel) registers stack memory
-  unfolding finishes after_steps halted_at steps core-turn run at_end step_by_parts
+  unfolding finishes_by after_steps halted_at steps core-turn run at_end step_by_parts
   at_outer fuel registers stack memory t o = simp (← step_is (at registers stack memory), code_settled, place_settled, op_settled, t, past registers.place (length code) t, o, one_less)
 
   -- an instruction that is finished
   runs_on : (fuel : ℕ) (registers reached : Registers) (stack memory s m : List ℕ) → ltb registers.place (length code) ≡ true → is_outer (get_or code registers.place 0) ≡ false
-      → on_memory (Next reached) s m ≡ instruct stack memory code registers machine.count → run (suc fuel) (at registers stack memory) ≡ run fuel (at reached s m)
+      → on_memory (Ok reached) s m ≡ instruct stack memory code registers machine.count → run (suc fuel) (at registers stack memory) ≡ run fuel (at reached s m)
   unfolding run at_end step_by_parts inner inner_result follow
   runs_on fuel registers reached stack memory s m t o e =
       simp (← step_is (at registers stack memory), code_settled, place_settled, registers_settled, op_settled, count_settled, settled_twice, past registers.place (length code) t, o, ← e)
 
   steps_on : (fuel : ℕ) (registers reached : Registers) (stack memory s m : List ℕ) → ltb registers.place (length code) ≡ true → is_outer (get_or code registers.place 0) ≡ false
-      → on_memory (Next reached) s m ≡ instruct stack memory code registers machine.count → steps (suc fuel) stack memory code registers machine.count ≡ steps fuel s m code reached machine.count
+      → on_memory (Ok reached) s m ≡ instruct stack memory code registers machine.count → steps (suc fuel) stack memory code registers machine.count ≡ steps fuel s m code reached machine.count
   unfolding steps core-turn onward
   steps_on fuel registers reached stack memory s m t o e = simp (t, o, ← e)
 
   -- one that is refused
   runs_not : (fuel : ℕ) (registers : Registers) (stack memory : List ℕ) (refusal : Refusal) → ltb registers.place (length code) ≡ true → is_outer (get_or code registers.place 0) ≡ false
-      → on_memory (Refused refusal) stack memory ≡ instruct stack memory code registers machine.count → Claim (suc fuel) registers stack memory
-  unfolding finishes after_steps halted_at steps core-turn onward run at_end step_by_parts inner inner_result follow
+      → on_memory (Err refusal) stack memory ≡ instruct stack memory code registers machine.count → Claim (suc fuel) registers stack memory
+  unfolding finishes_by after_steps halted_at steps core-turn onward run at_end step_by_parts inner inner_result follow
   runs_not fuel registers stack memory refusal t o e =
       simp (← step_is (at registers stack memory), code_settled, place_settled, registers_settled, op_settled, count_settled, t, past registers.place (length code) t, o, ← e)
 
@@ -157,11 +169,11 @@ more fuel _ (refuses refusal left r s m less) = refuses refusal left r s m (omeg
 more fuel _ (waits left r s m less some) = waits left r s m (omega arith) some
 
 module _ (code : List ℕ) (count : ℕ) where
-  onward_spare : (fuel : ℕ) → ((s m : List ℕ) (r : Registers) → Spare fuel (steps fuel s m code r count)) → (registers : Registers) (s m : List ℕ) (result : RegistersResult)
+  onward_spare : (fuel : ℕ) → ((s m : List ℕ) (r : Registers) → Spare fuel (steps fuel s m code r count)) → (registers : Registers) (s m : List ℕ) (result : Result Registers Refusal)
       → Spare (suc fuel) (onward (λ s m r. steps fuel s m code r count) (suc fuel) registers s m result)
   unfolding onward
-  onward_spare fuel others registers s m (Next reached) = more fuel _ (others s m reached)
-  onward_spare fuel others registers s m (Refused refusal) = refuses refusal (suc fuel) registers s m (omega arith)
+  onward_spare fuel others registers s m (Ok reached) = more fuel _ (others s m reached)
+  onward_spare fuel others registers s m (Err refusal) = refuses refusal (suc fuel) registers s m (omega arith)
 
   spare : (fuel : ℕ) (s m : List ℕ) (r : Registers) → Spare fuel (steps fuel s m code r count)
   unfolding steps core-turn
@@ -172,75 +184,45 @@ module _ (code : List ℕ) (count : ℕ) where
       (onward_spare fuel (spare fuel) r _ _ _))
       (ends (suc fuel) r s m (omega arith))
 
--- of the machine that they are put back into
-left_falls : (fuel : ℕ) (machine : Machine) (op : ℕ) (h : Halted) → Spare fuel h → (halted_at machine op h.at.left h.at.halt).left ≤ fuel
-unfolding halted_at
-left_falls fuel machine op _ (ends left r _ m less) = less
-left_falls fuel machine op _ (pauses left r _ m less) = less
-left_falls fuel machine op _ (refuses refusal left r _ m less) = less
-left_falls fuel machine op _ (waits left r _ m less some) = less
-
-waits_fueled : (fuel : ℕ) (machine : Machine) (op : ℕ) (h : Halted) → Spare fuel h → (halted_at machine op h.at.left h.at.halt).running ≡ true → 0 < (halted_at machine op h.at.left h.at.halt).left
-unfolding halted_at
-waits_fueled fuel machine op _ (ends left r _ m less) running = absurd (never running)
-waits_fueled fuel machine op _ (pauses left r _ m less) running = absurd (never running)
-waits_fueled fuel machine op _ (refuses refusal left r _ m less) running = absurd (never running)
-waits_fueled fuel machine op _ (waits left r _ m less some) running = some
-
--- an instruction at hand has fuel
-fueled : (fuel : ℕ) (w : World) → (begins fuel w).progress.running ≡ true → 0 < (begins fuel w).progress.left
-unfolding begins advance after_steps
-fueled fuel w running = waits_fueled fuel _ _ _ (spare _ _ fuel _ _ _) running
-
-begins_left : (fuel : ℕ) (w : World) → (begins fuel w).progress.left ≤ fuel
-unfolding begins advance after_steps
-begins_left fuel w = left_falls fuel _ _ _ (spare _ _ fuel _ _ _)
-
--- at an outcome nothing is to be saved
-none_saved : (machine : Machine) (op left : ℕ) (h : Halt) → (halted_at machine op left h).running ≡ false → eqb (halted_at machine op left h).op S_SAVE ≡ false
-unfolding halted_at
-none_saved machine op left halt.AtEnd stopped = refl
-none_saved machine op left halt.OutOfFuel stopped = refl
-none_saved machine op left (halt.Refused refusal) stopped = refl
-none_saved machine op left halt.Outer stopped = absurd (never (sym stopped))
-
-begins_none_saved : (fuel : ℕ) (w : World) → (begins fuel w).progress.running ≡ false → eqb (begins fuel w).progress.op S_SAVE ≡ false
-unfolding begins advance after_steps
-begins_none_saved fuel w stopped = none_saved _ _ _ _ stopped
-
--- on its way the opcode at hand is the one at the place
-shows_op : (p e : List ℕ) (machine : Machine) (op left : ℕ) (h : Halt) → op_at p e machine ≡ op → (halted_at machine op left h).running ≡ true → op_at p e (halted_at machine op left h).machine ≡ (halted_at machine op left h).op
-unfolding halted_at
-shows_op p e machine op left halt.AtEnd at running = absurd (never running)
-shows_op p e machine op left halt.OutOfFuel at running = absurd (never running)
-shows_op p e machine op left (halt.Refused refusal) at running = absurd (never running)
-shows_op p e machine op left halt.Outer at running = at
-
 -- the opcode at the place, and a pool that is not too long to count in
-record Seen (g : Going) : Type 0 where
-  at_place : op_at g.pool g.ends g.progress.machine ≡ g.progress.op
+record Seen (g : Going) (op : ℕ) : Type 0 where
+  at_place : op_at g.pool g.ends g.progress.machine ≡ op
   fits : length g.pool < 2 ^ 64
 
-begins_seen : (fuel : ℕ) (w : World) → length w.pool < 2 ^ 64 → (begins fuel w).progress.running ≡ true → Seen (begins fuel w)
-unfolding begins advance after_steps
-begins_seen fuel w fits running = record { at_place = shows_op w.pool w.ends _ _ _ _ (op_settled w.pool w.ends w.machine _) running; fits = fits }
+-- at an outcome, or before the instruction at the place, with fuel for it
+data Halts (fuel : ℕ) (g : Going) : Type 0 where
+  at_outcome : (outcome : Outcome) → g.progress.standing ≡ standing.Ended outcome → g.progress.left ≤ fuel → Halts fuel g
+  before_one : (op : ℕ) → g.progress.standing ≡ standing.AtHand op → g.progress.left ≤ fuel → 0 < g.progress.left → Seen g op → Halts fuel g
+
+-- so the steps of a code halt
+module _ (machine : Machine) (table : List Task) (pool e save : List ℕ) where
+  goes_halts : (fuel : ℕ) (h : Halted) → length pool < 2 ^ 64 → Spare fuel h → Halts fuel (goes machine table pool e save h)
+  unfolding after_steps halted_at
+  goes_halts fuel _ fits (ends left r s m less) = at_outcome outcomes.Done refl less
+  goes_halts fuel _ fits (pauses left r s m less) = at_outcome outcomes.Paused refl less
+  goes_halts fuel _ fits (refuses refusal left r s m less) = at_outcome (outcomes.Refused refusal) refl less
+  goes_halts fuel _ fits (waits left r s m less some) = before_one _ refl less some (record { at_place = op_settled pool e machine r; fits = fits })
+
+begins_halts : (fuel : ℕ) (w : World) → length w.pool < 2 ^ 64 → Halts fuel (begins fuel w)
+unfolding begins advance
+begins_halts fuel w fits = goes_halts w.machine w.table w.pool w.ends w.save fuel _ fits (spare _ _ fuel _ _ _)
 
 -- ---- a turn
 
 -- where the machine goes on after an instruction that was finished, or stays after one that was refused
 data Turns (g : Going) : Going → StepResult → Type 0 where
-  on : (machine : Machine) (table : List Task) (s m p e save : List ℕ) → Turns g (going (at_hand machine (g.progress.left - 1) 0) table s m p e save) (next (world machine table s m p e save))
+  on : (machine : Machine) (table : List Task) (s m p e save : List ℕ) → Turns g (going (going_on machine (g.progress.left - 1)) table s m p e save) (next (world machine table s m p e save))
   stays : (refusal : Refusal) → Turns g (going (outcome-at g.progress.machine g.progress.left (outcomes.Refused refusal)) g.table g.stack g.memory g.pool g.ends g.save) (refused refusal)
 
-acts_turns : (g : Going) (slot : ℕ) (a : OnAll) → acts-law.Leaves g.stack g.memory g.pool g.ends (get_or g.table slot blank) a
-    → Turns g (from_acting (after_act g.progress slot g.table a) g.save) (acts_result (world_of g) slot a a.acted.result)
-unfolding turned acts_result applied
+acts_turns : (g : Going) (slot : ℕ) (a : OnAll) → acts-law.Leaves g.stack g.memory g.pool g.ends a
+    → Turns g (from_acting (after_act g.progress.machine g.progress.left slot g.table a) g.save) (acts_result (world_of g) slot a a.acted)
+unfolding turned acts_result acted
 acts_turns g slot _ (acts-law.finished machine change s m p e) = on machine _ s m p e g.save
 acts_turns g slot _ (acts-law.kept refusal) = stays refusal
 
 pub data Saves (save : List ℕ) : SavedTable → Type 0 where
-  has_saved : (length : ℕ) (after : List ℕ) → Saves save (saved_table (Saved length) after)
-  not_saved : (refusal : Refusal) → Saves save (saved_table (NotSaved refusal) save)
+  has_saved : (length : ℕ) (after : List ℕ) → Saves save (saved_table (Ok length) after)
+  not_saved : (refusal : Refusal) → Saves save (saved_table (Err refusal) save)
 
 saved_leaves : (refusal : Option Refusal) (image save : List ℕ) → Saves save (saved_unless refusal image save)
 unfolding saved_unless saved_over
@@ -253,102 +235,96 @@ save_leaves next_id table pool e entries save = saved_leaves _ _ save
 
 saves_turns : (g : Going) (a : SavedTable) → Saves g.save a
     → next_of g.progress.machine ≡ (registers_of g.progress.machine).place + 1
-    → Turns g (from_saving (after_save g.progress g.table g.pool g.ends a) g.stack g.memory) (saves_result (world_of g) a.save (save_result g.progress.machine a.answer))
+    → Turns g (from_saving (after_save g.progress.machine g.progress.left g.table g.pool g.ends a) g.stack g.memory) (saves_result (world_of g) a.save (save_result g.progress.machine a.answer))
 unfolding saved save_answered turned save_result saves_result
 saves_turns g _ (has_saved length after) behind = rw behind (on _ g.table g.stack g.memory g.pool g.ends after)
 saves_turns g _ (not_saved refusal) behind = stays refusal
 
 -- an instruction that saves, or works on the record of the slot that it names
-abbrev record_turn : Going → Going
-record_turn g = from_acting (task_turn g.table g.stack g.memory g.pool g.ends g.progress) g.save
+abbrev record_turn : Going → ℕ → Going
+record_turn g op = from_acting (task_turn g.table g.stack g.memory g.pool g.ends g.progress.machine g.progress.left op) g.save
 
 abbrev saving_turn : Going → Going
-saving_turn g = from_saving (save_turn g.table g.pool g.ends g.save g.progress) g.stack g.memory
+saving_turn g = from_saving (save_turn g.table g.pool g.ends g.save g.progress.machine g.progress.left) g.stack g.memory
 
 -- the place behind a save
-behind_save : (g : Going) → Seen g → eqb g.progress.op S_SAVE ≡ true → next_of g.progress.machine ≡ (registers_of g.progress.machine).place + 1
+behind_save : (g : Going) (op : ℕ) → Seen g op → eqb op S_SAVE ≡ true → next_of g.progress.machine ≡ (registers_of g.progress.machine).place + 1
 unfolding registers_of
-behind_save g seen is =
+behind_save g op seen is =
     next_is g.pool g.ends g.progress.machine seen.fits (inside g.pool g.ends g.progress.machine S_SAVE (seen.at_place ∙ eqb-true _ _ is) (λ none. omega arith))
 
-turns_by : (g : Going) (b : Bool) → (b ≡ true → next_of g.progress.machine ≡ (registers_of g.progress.machine).place + 1) → Turns g (cond b (saving_turn g) (record_turn g)) (outer (world_of g) b (slot_at g.stack g.progress))
+turns_by : (g : Going) (op : ℕ) (b : Bool) → (b ≡ true → next_of g.progress.machine ≡ (registers_of g.progress.machine).place + 1) → Turns g (cond b (saving_turn g) (record_turn g op)) (outer (world_of g) b (wanted g.stack g.progress.machine op))
 unfolding outer saves acts save_turn task_turn
-turns_by g true behind = saves_turns g _ (save_leaves _ g.table g.pool g.ends _ g.save) (behind refl)
-turns_by g false behind = acts_turns g (slot_at g.stack g.progress) _ (act_leaves g.stack g.memory g.pool g.ends g.progress.machine _)
+turns_by g op true behind = saves_turns g _ (save_leaves _ g.table g.pool g.ends _ g.save) (behind refl)
+turns_by g op false behind = acts_turns g (wanted g.stack g.progress.machine op) _ (act_leaves g.stack g.memory g.pool g.ends g.progress.machine _)
 
--- a machine on its way turns
-at_work : (g : Going) → g.progress.running ≡ true → Seen g → turn g ≡ cond (eqb g.progress.op S_SAVE) (saving_turn g) (record_turn g)
-unfolding turn
-at_work g running seen =
-    ap (λ (b : Bool). cond (eqb g.progress.op S_SAVE) (saving_turn g) (cond b (from_acting (act_turn g.table g.stack g.memory g.pool g.ends g.progress) g.save) g)) running
-    ∙ ap (λ (a : Acting). cond (eqb g.progress.op S_SAVE) (saving_turn g) (from_acting a g.save)) (acts_on_record g.table g.stack g.memory g.pool g.ends g.progress seen.fits seen.at_place)
+-- the instruction at hand turns it
+at_work : (g : Going) (op : ℕ) → Seen g op → turn_by g (standing.AtHand op) ≡ cond (eqb op S_SAVE) (saving_turn g) (record_turn g op)
+unfolding turn_by
+at_work g op seen =
+    ap (λ (a : Acting). cond (eqb op S_SAVE) (saving_turn g) (from_acting a g.save)) (acts_on_record g.table g.stack g.memory g.pool g.ends g.progress.machine g.progress.left op seen.fits seen.at_place)
 
-turns : (g : Going) → g.progress.running ≡ true → Seen g → Turns g (turn g) (outer (world_of g) (eqb g.progress.op S_SAVE) (slot_at g.stack g.progress))
-turns g running seen =
-    subst (λ (h : Going). Turns g h (outer (world_of g) (eqb g.progress.op S_SAVE) (slot_at g.stack g.progress))) (sym (at_work g running seen))
-    (turns_by g (eqb g.progress.op S_SAVE) (behind_save g seen))
-
--- one at its outcome stays
-stays_put : (g : Going) → g.progress.running ≡ false → eqb g.progress.op S_SAVE ≡ false → turn g ≡ g
-unfolding turn
-stays_put g stopped none = simp (none, stopped)
+turns : (g : Going) (op : ℕ) → Seen g op → Turns g (turn_by g (standing.AtHand op)) (outer (world_of g) (eqb op S_SAVE) (wanted g.stack g.progress.machine op))
+turns g op seen =
+    subst (λ (h : Going). Turns g h (outer (world_of g) (eqb op S_SAVE) (wanted g.stack g.progress.machine op))) (sym (at_work g op seen))
+    (turns_by g op (eqb op S_SAVE) (behind_save g op seen))
 
 -- ---- where it ends
 
-with_instruction : (g : Going) → g.progress.running ≡ true
-    → finishes g ≡ follow (λ v. run (g.progress.left - 1) v) (world_of g) g.progress.left (outer (world_of g) (eqb g.progress.op S_SAVE) (slot_at g.stack g.progress))
-unfolding finishes
-with_instruction g running = simp (running)
-
-without : (g : Going) → g.progress.running ≡ false → finishes g ≡ end_at (world_of g) g.progress.left g.progress.outcome
-unfolding finishes
-without g stopped = simp (stopped)
-
-on_its_way : (g : Going) → g.progress.running ≡ true → comes_to g ≡ run g.progress.left (world_of g)
-unfolding comes_to
-on_its_way g running = simp (running)
+on_its_way : (g : Going) (s : Standing) → ((outcome : Outcome) → s ≡ standing.Ended outcome → ⊥) → comes_by g s ≡ run g.progress.left (world_of g)
+unfolding comes_by
+on_its_way g standing.Going onward = refl
+on_its_way g (standing.AtHand op) onward = refl
+on_its_way g (standing.Ended outcome) onward = absurd (onward outcome refl)
 
 -- at its outcome
-pub ended : (g : Going) → g.progress.running ≡ false → comes_to g ≡ end_at (world_of g) g.progress.left g.progress.outcome
-unfolding comes_to
-ended g stopped = simp (stopped)
+pub ended : (g : Going) {outcome : Outcome} → g.progress.standing ≡ standing.Ended outcome → comes_to g ≡ end_at (world_of g) g.progress.left outcome
+unfolding comes_by
+ended g is = ap (comes_by g) is
 
 -- after the instruction at hand
 comes_after : (g h : Going) (stepped : StepResult) → Turns g h stepped → comes_to h ≡ follow (λ v. run (g.progress.left - 1) v) (world_of g) g.progress.left stepped
-unfolding comes_to follow
+unfolding comes_by follow
 comes_after g _ _ (on machine table s m p e save) = refl
 comes_after g _ _ (stays refusal) = refl
 
-turned_on : (g : Going) → (g.progress.running ≡ true → Seen g) → (g.progress.running ≡ false → eqb g.progress.op S_SAVE ≡ false) → comes_to (turn g) ≡ finishes g
-turned_on g seen none =
-    on_bool g.progress.running (λ running. comes_after g _ _ (turns g running (seen running)) ∙ sym (with_instruction g running))
-    (λ stopped. ap comes_to (stays_put g stopped (none stopped)) ∙ ended g stopped ∙ sym (without g stopped))
+turned_on : (fuel : ℕ) (g : Going) → Halts fuel g → comes_to (turn g) ≡ finishes g
+unfolding turn_by finishes_by
+turned_on fuel g (at_outcome outcome is less) = ap (λ (s : Standing). comes_to (turn_by g s)) is ∙ ended g is ∙ sym (ap (finishes_by g) is)
+turned_on fuel g (before_one op is less some seen) = ap (λ (s : Standing). comes_to (turn_by g s)) is ∙ comes_after g _ _ (turns g op seen) ∙ sym (ap (finishes_by g) is)
 
 -- after the current code and the instruction that it comes to
-pub went_on : (g : Going) → length g.pool < 2 ^ 64 → g.progress.running ≡ true → comes_to (goes_on g) ≡ comes_to g
+pub went_on : (g : Going) → length g.pool < 2 ^ 64 → Onward g → comes_to (goes_on g) ≡ comes_to g
 unfolding goes_on
-went_on g fits running =
-    turned_on (begins g.progress.left (world_of g)) (begins_seen g.progress.left (world_of g) fits) (begins_none_saved g.progress.left (world_of g)) ∙ begun g.progress.left (world_of g) ∙ sym (on_its_way g running)
+went_on g fits onward =
+    turned_on g.progress.left (begins g.progress.left (world_of g)) (begins_halts g.progress.left (world_of g) fits)
+    ∙ begun g.progress.left (world_of g) ∙ sym (on_its_way g g.progress.standing onward)
 
 -- ---- with fewer turns to come
 
 fewer_after : (fuel : ℕ) (g h : Going) (stepped : StepResult) → Turns g h stepped → g.progress.left ≤ fuel → 0 < g.progress.left → turns_left h < fuel * 2 + 1
+unfolding one_more
 fewer_after fuel g _ _ (on machine table s m p e save) less some = omega (arith, less, some)
 fewer_after fuel g _ _ (stays refusal) less some = omega (arith, less)
 
-fewer_at_rest : (fuel : ℕ) (g : Going) → g.progress.running ≡ false → g.progress.left ≤ fuel → turns_left g < fuel * 2 + 1
-fewer_at_rest fuel g stopped less =
-    let none : ◌≡◌ {A = ℕ} (cond g.progress.running 1 0) 0 = ap (λ (b : Bool). cond {A = ℕ} b 1 0) stopped in
-    omega (arith, less, none)
+fewer_at_rest : (fuel : ℕ) (g : Going) (outcome : Outcome) → g.progress.standing ≡ standing.Ended outcome → g.progress.left ≤ fuel → turns_left g < fuel * 2 + 1
+unfolding one_more
+fewer_at_rest fuel g outcome is less = let none : one_more g.progress.standing ≡ 0 = ap one_more is in omega (arith, less, none)
 
-fewer_than : (fuel : ℕ) (w : World) → length w.pool < 2 ^ 64 → turns_left (turn (begins fuel w)) < fuel * 2 + 1
-fewer_than fuel w fits =
-    on_bool (begins fuel w).progress.running (λ running. fewer_after fuel (begins fuel w) _ _ (turns (begins fuel w) running (begins_seen fuel w fits running)) (begins_left fuel w) (fueled fuel w running))
-    (λ stopped. subst (λ (h : Going). turns_left h < fuel * 2 + 1) (sym (stays_put (begins fuel w) stopped (begins_none_saved fuel w stopped))) (fewer_at_rest fuel (begins fuel w) stopped (begins_left fuel w)))
+fewer_than : (fuel : ℕ) (g : Going) → Halts fuel g → turns_left (turn g) < fuel * 2 + 1
+unfolding turn_by
+fewer_than fuel g (at_outcome outcome is less) = subst (λ (s : Standing). turns_left (turn_by g s) < fuel * 2 + 1) (sym is) (fewer_at_rest fuel g outcome is less)
+fewer_than fuel g (before_one op is less some seen) = subst (λ (s : Standing). turns_left (turn_by g s) < fuel * 2 + 1) (sym is) (fewer_after fuel g _ _ (turns g op seen) less some)
 
-pub fewer : (g : Going) → length g.pool < 2 ^ 64 → g.progress.running ≡ true → turns_left (goes_on g) < turns_left g
+has_one : (s : Standing) → ((outcome : Outcome) → s ≡ standing.Ended outcome → ⊥) → one_more s ≡ 1
+unfolding one_more
+has_one standing.Going onward = refl
+has_one (standing.AtHand op) onward = refl
+has_one (standing.Ended outcome) onward = absurd (onward outcome refl)
+
+pub fewer : (g : Going) → length g.pool < 2 ^ 64 → Onward g → turns_left (goes_on g) < turns_left g
 unfolding goes_on
-fewer g fits running =
-    let one : ◌≡◌ {A = ℕ} (cond g.progress.running 1 0) 1 = ap (λ (b : Bool). cond {A = ℕ} b 1 0) running in
-    let less = fewer_than g.progress.left (world_of g) fits in
+fewer g fits onward =
+    let one = has_one g.progress.standing onward in
+    let less = fewer_than g.progress.left (begins g.progress.left (world_of g)) (begins_halts g.progress.left (world_of g) fits) in
     omega (arith, one, less)

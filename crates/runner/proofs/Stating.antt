@@ -3,34 +3,29 @@ use Rattle.std.proofs.Common.{◌≡◌, ℕ, ◌+◌, ◌-◌, ◌^◌, ◌<◌
 use native.Mathlib.Decide.{dec_lt}
 use borrow.Author.Tests.{lt-leb}
 use Rattle.inlinevec.specs.Stacks.{if_room, if_some, push, pop}
-use Rattle.inlinevec.specs.declared.PopResult.TheVariants.{Popped}
 use Rattle.values.specs.Values.{to_u32, to_u32_val}
 use Rattle.storage.specs.declared.Task.{Task}
-use Rattle.storage.specs.declared.StateResult.{StateResult}
 use Rattle.storage.specs.Storage.{find}
-use Rattle.storage.specs.Table.{set_state_at}
-use Rattle.storage.specs.Tasks.{After, after, blank, with_state}
+use Rattle.storage.specs.Tasks.{after, blank, with_state}
 use Rattle.mechanism.specs.Registers.{OnMemory, on_memory, moved}
 use Rattle.mechanism.specs.Stack.{pushed_to, push_value}
-use Rattle.mechanism.specs.declared.RegistersResult.TheVariants.{Next}
-use Rattle.mechanism.specs.Changes.{keep, restate, tasked, applied}
-use Rattle.mechanism.specs.declared.RegistersAndChange.{RegistersAndChange}
+use Rattle.mechanism.specs.declared.Change.{Change}
+use Rattle.mechanism.specs.declared.Change.TheVariants.{Keep, Restate}
+use Rattle.mechanism.specs.declared.Registers.{Registers}
 use Rattle.mechanism.specs.Fields.{if_found, owner_popped, owner, field_popped, field_of, get_field, get_found, op_t_get_field, state_answered, set_state, set_field, set_popped, set_found, op_t_set_field}
-use Rattle.mechanism.specs.declared.FieldResult.TheVariants.{Field}
 use Rattle.bytecode.specs.Opcodes.{T_GET_FIELD, T_SET_FIELD, CALL, END_CALL}
 use Rattle.machine.specs.declared.Machine.{Machine}
 use Rattle.mechanism.specs.Registers.{registers_of}
 use Rattle.mechanism.specs.Registers.{machine_at}
-use Rattle.mechanism.specs.Act.{OnAll, on_all, acted, settled_by, tasked_by, after_memory, on_task, on_frames, act, bare}
+use Rattle.mechanism.specs.Act.{keeping, OnAll, on_all, settled_by, tasked_by, after_memory, on_task, on_frames, act, bare}
 use Rattle.machine.specs.Machines.{op_at}
-use Rattle.mechanism.specs.Turns.{turned}
-use Rattle.mechanism.specs.declared.Progress.{Progress}
-use Rattle.mechanism.specs.declared.MachineResult.TheVariants.{Onto}
-use Rattle.runner.specs.Going.{acting, after_act, task_turn, slot_at, state_turn, act_turn}
-use Rattle.runner.specs.States.{names_state, whole, went_on, got, gets, sets_to, set_third, sets, stated, restated}
-use Rattle.mechanism.specs.declared.StateAnswer.{StateAnswer}
+use Rattle.mechanism.specs.Advance.{wanted}
+use Rattle.runner.specs.Going.{acted, after_act, task_turn, state_turned, state_turn, act_turn}
+use Rattle.runner.specs.States.{names_state, behind, got, gets, sets_to, set_third, sets, stated}
 use Rattle.runner.proofs.Leaving.{place, inside, next_is, acts_bare, returns_turn, calls_turn, at_end_call, at_call, at_other}
 use Rattle.mechanism.proofs.Settled.{on_bool}
+use Rattle.std.specs.Prelude.{Ok, Some, None, Result}
+use Rattle.errors.specs.declared.Refusal.{Refusal}
 
 never : {A : Type 0} → false ≡ true → A
 never e = absurd (let z : ◌≡◌ {A = ℕ} 0 1 = ap (λ (b : Bool). cond {A = ℕ} b 1 0) e in omega arith)
@@ -72,7 +67,7 @@ module _ (stack : List ℕ) (height : ℕ) (task : Task) (named : names_state st
 -- ---- the instruction on the whole record
 
 -- pops that are there
-popped : (stack : List ℕ) (height : ℕ) → 1 ≤ height → height ≤ 1000 → pop stack height ≡ Popped (get_or stack (height - 1) 0) (height - 1)
+popped : (stack : List ℕ) (height : ℕ) → 1 ≤ height → height ≤ 1000 → pop stack height ≡ Ok (get_or stack (height - 1) 0, height - 1)
 unfolding pop if_some
 popped stack height some few =
     let there : eqb height 0 ≡ false = ne_eqb height 0 (λ none. omega (arith, some, none)) in
@@ -83,14 +78,14 @@ module _ (stack : List ℕ) (height : ℕ) (task : Task) (named : names_state st
   field_is : to_u32 (get_or stack (height - 1) 0) ≡ 1
   field_is = eqb-true _ 1 (all_tests stack height task named).3
 
-  named_field : field_of stack height task ≡ Field 1 (height - 1 - 1)
+  named_field : field_of stack height task ≡ Ok (1, height - 1 - 1)
   unfolding field_of field_popped owner owner_popped if_found find
   named_field =
       simp (popped stack height (omega (arith, named_low stack height task named)) (named_high stack height task named), field_is, popped stack (height - 1) (omega (arith, named_low stack height task named)) (omega (arith, named_high stack height task named)), (all_tests stack height task named).2)
 
 module _ (stack memory : List ℕ) (machine : Machine) (next : ℕ) (task : Task) (named : names_state stack machine.height task ≡ true) where
   -- T_GET_FIELD
-  get_is : op_t_get_field stack memory (registers_of machine) next task ≡ on_memory (Next (moved (registers_of machine) next (machine.height - 1))) (set stack (machine.height - 2) (to_u32_val task.state.state)) memory
+  get_is : op_t_get_field stack memory (registers_of machine) next task ≡ on_memory (Ok (moved (registers_of machine) next (machine.height - 1))) (set stack (machine.height - 2) (to_u32_val task.state.state)) memory
   unfolding op_t_get_field get_found get_field push_value pushed_to push if_room registers_of
   get_is =
       let low = named_low stack machine.height task named in
@@ -101,7 +96,7 @@ module _ (stack memory : List ℕ) (machine : Machine) (next : ℕ) (task : Task
 
   -- T_SET_FIELD
   module _ (third : 3 ≤ machine.height) (has : to_u32 (get_or stack (machine.height - 3) 0) < task.state.len) (few : to_u32 (get_or stack (machine.height - 3) 0) < 255) where
-    set_is : op_t_set_field stack memory (registers_of machine) next task ≡ tasked (Next (moved (registers_of machine) next (machine.height - 3))) (restate task (to_u32 (get_or stack (machine.height - 3) 0)))
+    set_is : op_t_set_field stack memory (registers_of machine) next task ≡ Ok (moved (registers_of machine) next (machine.height - 3), Restate (to_u32 (get_or stack (machine.height - 3) 0)))
     unfolding op_t_set_field set_found set_popped set_field set_state state_answered with_state registers_of
     set_is =
         let high = named_high stack machine.height task named in
@@ -112,42 +107,39 @@ module _ (stack memory : List ℕ) (machine : Machine) (next : ℕ) (task : Task
 -- ---- the instruction at hand
 
 module _ (stack memory pool ends : List ℕ) (machine : Machine) (task : Task) where
-  -- what it leaves, by its answer
-  abbrev leaves : After StateAnswer (List ℕ) → OnAll
-  leaves a = on_all (acted a.answer.result (cond a.answer.states (restate task a.answer.state) (keep task))) a.lent memory pool ends
-
-  -- the state is set
-  abbrev set_to : ℕ → StateAnswer
-  set_to state = record { whole = false; states = true; state = state; result = went_on machine (machine.height - 3) }
+  -- what it leaves: a machine, a change of the slot, a stack
+  abbrev leaves : Machine → Change → List ℕ → OnAll
+  leaves after change stack' = on_all (Ok (after, change)) stack' memory pool ends
 
   module _ (fits : length pool < 2 ^ 64) (named : names_state stack machine.height task ≡ true) where
-    got_acts : op_at pool ends machine ≡ T_GET_FIELD → act stack memory pool ends machine task ≡ leaves (got stack machine task)
-    unfolding got on_frames settled_by bare
+    got_acts : op_at pool ends machine ≡ T_GET_FIELD
+        → act stack memory pool ends machine task ≡ leaves (behind machine (machine.height - 1)) Keep (set stack (machine.height - 2) (to_u32_val task.state.state))
+    unfolding on_frames settled_by keeping bare
     got_acts at =
         acts_bare stack memory pool ends machine task T_GET_FIELD at (λ none. omega arith) refl
-        ∙ ap (λ (m : OnMemory). after_memory machine m pool ends task) (get_is stack memory machine (place pool ends machine + 1) task named)
-        ∙ ap (λ (next : ℕ). on_all (acted (Onto (machine_at machine next (machine.height - 1))) (keep task)) (set stack (machine.height - 2) (to_u32_val task.state.state)) memory pool ends)
+        ∙ ap (λ (m : OnMemory). after_memory machine m pool ends) (get_is stack memory machine (place pool ends machine + 1) task named)
+        ∙ ap (λ (next : ℕ). leaves (machine_at machine next (machine.height - 1)) Keep (set stack (machine.height - 2) (to_u32_val task.state.state)))
         (sym (next_is pool ends machine fits (inside pool ends machine T_GET_FIELD at (λ none. omega arith))))
 
     set_acts : 3 ≤ machine.height → to_u32 (get_or stack (machine.height - 3) 0) < task.state.len → to_u32 (get_or stack (machine.height - 3) 0) < 255 → op_at pool ends machine ≡ T_SET_FIELD
-        → act stack memory pool ends machine task ≡ leaves (after (set_to (to_u32 (get_or stack (machine.height - 3) 0))) stack)
-    unfolding on_frames on_task tasked_by settled_by bare
+        → act stack memory pool ends machine task ≡ leaves (behind machine (machine.height - 3)) (Restate (to_u32 (get_or stack (machine.height - 3) 0))) stack
+    unfolding on_frames on_task tasked_by bare
     set_acts third has few at =
         acts_bare stack memory pool ends machine task T_SET_FIELD at (λ none. omega arith) refl
-        ∙ ap (λ (t : RegistersAndChange). on_all (tasked_by machine t) stack memory pool ends) (set_is stack memory machine (place pool ends machine + 1) task named third has few)
-        ∙ ap (λ (next : ℕ). on_all (acted (Onto (machine_at machine next (machine.height - 3))) (restate task (to_u32 (get_or stack (machine.height - 3) 0)))) stack memory pool ends)
+        ∙ ap (λ (t : Result (Registers × Change) Refusal). on_all (tasked_by machine t) stack memory pool ends) (set_is stack memory machine (place pool ends machine + 1) task named third has few)
+        ∙ ap (λ (next : ℕ). leaves (machine_at machine next (machine.height - 3)) (Restate (to_u32 (get_or stack (machine.height - 3) 0))) stack)
         (sym (next_is pool ends machine fits (inside pool ends machine T_SET_FIELD at (λ none. omega arith))))
 
   -- the answer is that nothing was done, or what the instruction does
   data Answered (op : ℕ) : Type 0 where
-    not_done : stated stack machine op task ≡ after (whole machine) stack → Answered op
-    done : {s : StateAnswer} {stack' : List ℕ} → stated stack machine op task ≡ after s stack' → s.whole ≡ false → act stack memory pool ends machine task ≡ leaves (after s stack') → Answered op
+    not_done : stated stack machine op task ≡ after None stack → Answered op
+    done : {to : Machine} {change : Change} {stack' : List ℕ} → stated stack machine op task ≡ after (Some (to, change)) stack' → act stack memory pool ends machine task ≡ leaves to change stack' → Answered op
 
   gets_answered : (op : ℕ) → length pool < 2 ^ 64 → op_at pool ends machine ≡ op → eqb op T_GET_FIELD ≡ true → Answered op
   unfolding stated gets got
   gets_answered op fits at get =
       on_bool (names_state stack machine.height task)
-      (λ named. done {s = (got stack machine task).answer} {stack' = (got stack machine task).lent} (simp (get, named)) refl (got_acts fits named (at ∙ eqb-true op T_GET_FIELD get)))
+      (λ named. done (simp (get, named)) (got_acts fits named (at ∙ eqb-true op T_GET_FIELD get)))
       (λ not. not_done (simp (get, not)))
 
   sets_answered : (op : ℕ) → length pool < 2 ^ 64 → op_at pool ends machine ≡ op → eqb op T_GET_FIELD ≡ false → eqb op T_SET_FIELD ≡ true → Answered op
@@ -157,7 +149,7 @@ module _ (stack memory pool ends : List ℕ) (machine : Machine) (task : Task) w
       (λ named. on_bool (ltb machine.height 3) (λ low. not_done (simp (get, set, named, low)))
       (λ third. on_bool (leb task.state.len (to_u32 (get_or stack (machine.height - 3) 0))) (λ lacks. not_done (simp (get, set, named, third, lacks)))
       (λ has. on_bool (leb 255 (to_u32 (get_or stack (machine.height - 3) 0))) (λ many. not_done (simp (get, set, named, third, has, many)))
-      (λ few. done {s = set_to (to_u32 (get_or stack (machine.height - 3) 0))} (simp (get, set, named, third, has, few)) refl (set_acts fits named (ltb_false _ _ third) (leb_false _ _ has) (leb_false _ _ few) (at ∙ eqb-true op T_SET_FIELD set))))))
+      (λ few. done (simp (get, set, named, third, has, few)) (set_acts fits named (ltb_false _ _ third) (leb_false _ _ has) (leb_false _ _ few) (at ∙ eqb-true op T_SET_FIELD set))))))
       (λ not. not_done (simp (get, set, not)))
 
   answered : (op : ℕ) → length pool < 2 ^ 64 → op_at pool ends machine ≡ op → Answered op
@@ -168,57 +160,36 @@ module _ (stack memory pool ends : List ℕ) (machine : Machine) (task : Task) w
 
 -- ---- a turn
 
--- a state set is the change made
-restates : (table : List Task) (slot : ℕ) (task : Task) (s : StateAnswer) → restated table slot s ≡ applied table slot (cond s.states (restate task s.state) (keep task))
-unfolding restated applied
-restates table slot task s = on_bool s.states (λ yes. simp (yes)) (λ no. simp (no))
-
 -- without the rest of the record, or with it, it is the turn on the whole one
-module _ (table : List Task) (stack memory pool ends : List ℕ) (progress : Progress) where
+module _ (table : List Task) (stack memory pool ends : List ℕ) (machine : Machine) (left op : ℕ) where
   abbrev slot : ℕ
-  slot = slot_at stack progress
+  slot = wanted stack machine op
 
   abbrev record_of : Task
   record_of = get_or table slot blank
 
-  not_stated : state_turn table memory pool ends progress slot (after (whole progress.machine) stack) ≡ task_turn table stack memory pool ends progress
-  unfolding state_turn
+  not_stated : state_turn table memory pool ends machine left op slot (after None stack) ≡ task_turn table stack memory pool ends machine left op
+  unfolding state_turned
   not_stated = refl
 
-  is_stated : (s : StateAnswer) (stack' : List ℕ) → s.whole ≡ false → act stack memory pool ends progress.machine record_of ≡ leaves stack memory pool ends progress.machine record_of (after s stack')
-      → state_turn table memory pool ends progress slot (after s stack') ≡ task_turn table stack memory pool ends progress
-  unfolding state_turn task_turn
-  is_stated s stack' small acts =
-      let told : cond s.whole (task_turn table stack' memory pool ends progress) (acting (turned progress.machine progress.left s.result) (restated table slot s) stack' memory pool ends)
-      ≡ acting (turned progress.machine progress.left s.result) (restated table slot s) stack' memory pool ends = simp (small) in
-      told ∙ ap (λ (t : List Task). acting (turned progress.machine progress.left s.result) t stack' memory pool ends) (restates table slot record_of s)
-      ∙ sym (ap (after_act progress slot table) acts)
+  is_stated : (to : Machine) (change : Change) (stack' : List ℕ) → act stack memory pool ends machine record_of ≡ leaves stack memory pool ends machine record_of to change stack'
+      → state_turn table memory pool ends machine left op slot (after (Some (to, change)) stack') ≡ task_turn table stack memory pool ends machine left op
+  unfolding state_turned task_turn acted
+  is_stated to change stack' acts = sym (ap (after_act machine left slot table) acts)
 
-  by_answer : (op : ℕ) → Answered stack memory pool ends progress.machine record_of op → state_turn table memory pool ends progress slot (stated stack progress.machine op record_of) ≡ task_turn table stack memory pool ends progress
-  by_answer op (not_done e) = ap (state_turn table memory pool ends progress slot) e ∙ not_stated
-  by_answer op (done {s} {stack'} e small acts) = ap (state_turn table memory pool ends progress slot) e ∙ is_stated s stack' small acts
-
-  states_turn : length pool < 2 ^ 64 → op_at pool ends progress.machine ≡ progress.op → state_turn table memory pool ends progress slot (stated stack progress.machine progress.op record_of) ≡ task_turn table stack memory pool ends progress
-  states_turn fits at = by_answer progress.op (answered stack memory pool ends progress.machine record_of progress.op fits at)
+  by_answer : Answered stack memory pool ends machine record_of op → state_turn table memory pool ends machine left op slot (stated stack machine op record_of) ≡ task_turn table stack memory pool ends machine left op
+  by_answer (not_done e) = ap (state_turn table memory pool ends machine left op slot) e ∙ not_stated
+  by_answer (done {to} {change} {stack'} e acts) = ap (state_turn table memory pool ends machine left op slot) e ∙ is_stated to change stack' acts
 
 -- ---- an instruction by its opcode is the one on the whole record, if its opcode is the one at the place
 
-pub acts_on_record : (table : List Task) (stack memory pool ends : List ℕ) (progress : Progress) → length pool < 2 ^ 64 → op_at pool ends progress.machine ≡ progress.op
-    → act_turn table stack memory pool ends progress ≡ task_turn table stack memory pool ends progress
-acts_on_record table stack memory pool ends progress fits at =
-    on_bool (eqb progress.op END_CALL)
-    (λ is. at_end_call table stack memory pool ends progress is ∙ returns_turn table stack memory pool ends progress fits (at ∙ eqb-true progress.op END_CALL is))
-    (λ not. on_bool (eqb progress.op CALL)
-    (λ is. at_call table stack memory pool ends progress not is ∙ calls_turn table stack memory pool ends progress fits (eqb-true progress.op CALL is) (at ∙ eqb-true progress.op CALL is))
-    (λ none. at_other table stack memory pool ends progress not none ∙ states_turn table stack memory pool ends progress fits at))
-
--- ---- what the calls of the carrier answer, put together
-
--- set, or not
-pub sets_state : (table : List Task) (slot : ℕ) (s : StateAnswer) {answer : StateResult} {table' : List Task} → s.states ≡ true → after answer table' ≡ set_state_at table slot s.state → table' ≡ restated table slot s
-unfolding restated
-sets_state table slot s sets e = ap (λ (a : After StateResult (List Task)). a.lent) e ∙ sym (simp (sets))
-
-pub sets_none : (table : List Task) (slot : ℕ) (s : StateAnswer) → s.states ≡ false → table ≡ restated table slot s
-unfolding restated
-sets_none table slot s none = sym (simp (none))
+pub acts_on_record : (table : List Task) (stack memory pool ends : List ℕ) (machine : Machine) (left op : ℕ) → length pool < 2 ^ 64 → op_at pool ends machine ≡ op
+    → act_turn table stack memory pool ends machine left op ≡ task_turn table stack memory pool ends machine left op
+acts_on_record table stack memory pool ends machine left op fits at =
+    on_bool (eqb op END_CALL)
+    (λ is. at_end_call table stack memory pool ends machine left op is ∙ returns_turn table stack memory pool ends machine left op fits (at ∙ eqb-true op END_CALL is))
+    (λ not. on_bool (eqb op CALL)
+    (λ is. at_call table stack memory pool ends machine left op not is ∙ calls_turn table stack memory pool ends machine left op fits (eqb-true op CALL is) (at ∙ eqb-true op CALL is))
+    (λ none.
+    at_other table stack memory pool ends machine left op not none
+    ∙ by_answer table stack memory pool ends machine left op (answered stack memory pool ends machine (get_or table (wanted stack machine op) blank) op fits at)))

@@ -14,27 +14,19 @@ use storage::Task;
 use vm::sound::sound;
 
 // Whether a run may start, from main or again: on a new machine, or after one that is done.
+#[tactic(auto, unfolding(machine::specs::Calls::may_start))]
 fn may_start(phase: Phase) -> bool
     ensures { result ≡ may_start phase }
 {
-    match phase {
-        Phase::New => true,
-        Phase::Paused => false,
-        Phase::Done => true,
-        Phase::Stopped => false,
-    }
+    matches!(phase, Phase::New | Phase::Done)
 }
 
 // Whether a run may go on.
+#[tactic(auto, unfolding(machine::specs::Calls::may_continue))]
 fn may_continue(phase: Phase) -> bool
     ensures { result ≡ may_continue phase }
 {
-    match phase {
-        Phase::New => false,
-        Phase::Paused => true,
-        Phase::Done => false,
-        Phase::Stopped => false,
-    }
+    matches!(phase, Phase::Paused)
 }
 
 // Whether a phase allows a call.
@@ -42,31 +34,28 @@ fn allows(verb: Verb, phase: Phase) -> bool
     ensures { result ≡ allows verb phase }
 {
     match verb {
-        Verb::Start => may_start(phase),
-        Verb::Rerun => may_start(phase),
+        Verb::Start | Verb::Rerun => may_start(phase),
         Verb::Continue => may_continue(phase),
     }
 }
 
 // Whether a call is allowed: where the record is sound, by its phase.
+#[tactic(auto, unfolding(machine::specs::Calls::allowed))]
 fn allowed(machine: Machine, sound: bool, verb: Verb) -> bool
     ensures { result ≡ (allowed machine sound verb).allowed }
 {
-    let phase = machine.phase;
-    if sound {
-        return allows(verb, phase);
-    }
-    false
+    sound && allows(verb, machine.phase)
 }
 
 // A start or a rerun: no memory in use, no values.
 fn fresh(machine: Machine) -> Machine
     ensures { result ≡ fresh machine }
 {
-    let mut started = machine;
-    started.height = 0;
-    started.memory = 0;
-    started
+    Machine {
+        height: 0,
+        memory: 0,
+        ..machine
+    }
 }
 
 // What a call begins with: a start at main, with no loop open; a rerun with frames and loops as the run before left them.
@@ -81,6 +70,7 @@ fn begun(machine: Machine, verb: Verb) -> Machine
 }
 
 // The machine at its code's start.
+#[tactic(auto, unfolding(machine::specs::Machines::rewound, machine::specs::Machines::placed, mechanism::specs::Registers::settled, mechanism::specs::Registers::registers_of))]
 fn rewound(machine: Machine) -> Machine
     ensures { result ≡ rewound machine }
 {
@@ -92,24 +82,11 @@ fn rewound(machine: Machine) -> Machine
 fn phased(machine: Machine, phase: Phase) -> Machine
     ensures { result ≡ phased machine phase }
 {
-    let loops = machine.loops;
-    let frames = machine.frames;
-    let next_id = machine.next_id;
-    Machine {
-        phase,
-        height: machine.height,
-        loops,
-        frames,
-        memory: machine.memory,
-        pool: machine.pool,
-        entries: machine.entries,
-        next_id,
-        count: machine.count,
-        saved: machine.saved,
-    }
+    Machine { phase, ..machine }
 }
 
 // The machine at the end of a run.
+#[tactic(auto, unfolding(machine::specs::Calls::ended))]
 fn ended(machine: Machine, outcome: Outcome) -> Machine
     ensures { result ≡ ended machine outcome }
 {
@@ -124,21 +101,18 @@ fn ended(machine: Machine, outcome: Outcome) -> Machine
 fn spent(fuel: u64, left: u64) -> u64
     ensures { result ≡ spent fuel left }
 {
-    if fuel <= left {
-        return 0;
-    }
-    fuel - left
+    fuel.saturating_sub(left)
 }
 
 // What a run reports.
+#[tactic(auto, unfolding(machine::specs::Calls::report))]
 fn report(fuel: u64, ran: RunEnd) -> Report
     ensures { result ≡ report fuel ran }
 {
-    let outcome = ran.outcome;
     Report {
-        machine: ended(ran.machine, outcome),
+        machine: ended(ran.machine, ran.outcome),
         finished: spent(fuel, ran.left),
-        outcome,
+        outcome: ran.outcome,
     }
 }
 
@@ -154,6 +128,7 @@ fn not_allowed(machine: Machine) -> Report
 }
 
 // A run that starts at main, starts again from where the last one ended, or goes on where it paused, if that is allowed.
+#[tactic(auto, unfolding(machine::specs::Calls::call, machine::specs::Calls::call_with, machine::specs::Calls::allowed))]
 pub fn call(
     table: &mut [Task],
     stack: &mut [u64; 1000],
@@ -168,10 +143,10 @@ pub fn call(
     ensures { reported result table.new stack.new memory.new pool.new ends.new save.new ≡ call verb fuel (world machine table.old stack.old memory.old pool.old ends.old save.old) }
 {
     let good = sound(table, memory, pool, ends, save, machine);
-    if allowed(machine, good, verb) {
-        let begins = begun(machine, verb);
-        let ran = run(table, stack, memory, pool, ends, save, begins, fuel);
-        return report(fuel, ran);
+    if !allowed(machine, good, verb) {
+        return not_allowed(machine);
     }
-    not_allowed(machine)
+    let begins = begun(machine, verb);
+    let ran = run(table, stack, memory, pool, ends, save, begins, fuel);
+    report(fuel, ran)
 }

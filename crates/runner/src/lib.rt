@@ -12,121 +12,121 @@ ghost use Rattle.mechanism.specs.Changes.{applied};
 ghost use Rattle.machine.specs.World.{world};
 ghost use Rattle.runner.specs.Going.{going, acting, task_turn, act_turn, entering, call_turn, saving, save_turn, turn};
 ghost use Rattle.machine.specs.Run.{ran_to, run};
-ghost use Rattle.runner.specs.States.{restated};
 
 use crate::act::act;
+use crate::progress::{called, going_on, returned, saved, turned};
+use crate::states::stated;
+use crate::wanted::{named, wanted};
 use bytecode::opcodes::{CALL, END_CALL, S_SAVE};
 use machine::{Machine, RunEnd};
-use mechanism::{Change, MachineResult, Progress, StateAnswer};
+use mechanism::{Change, Progress, Standing};
 use stepper::advance::advance;
 use storage::Task;
 
 // What an instruction changes in the slot that it names.
+#[tactic(auto, unfolding(mechanism::specs::Changes::applied))]
 fn apply(table: &mut [Task], slot: usize, change: Change)
     ensures { table.new ≡ applied table.old slot change }
 {
-    if change.puts {
-        table::put(table, slot, change.task);
-        return;
-    }
-    if change.states {
-        let answer = table::set_state_at(table, slot, change.state);
-        return;
+    match change {
+        Change::Keep => {}
+        Change::Put(task) => table::put(table, slot, task),
+        Change::Restate(state) => {
+            let _answer = table::set_state_at(table, slot, state);
+        }
     }
 }
 
 // The instruction at hand, on the record of the slot it names.
+#[tactic(auto, unfolding(crate::specs::Going::task_turn, crate::specs::Going::acted))]
 fn task_turn(
     table: &mut [Task],
     stack: &mut [u64; 1000],
     memory: &mut [u8],
     pool: &mut [u8],
     ends: &mut [u32; 1024],
-    progress: Progress,
+    machine: Machine,
+    left: u64,
+    op: u8,
 ) -> Progress
-    ensures { acting result table.new stack.new memory.new pool.new ends.new ≡ task_turn table.old stack.old memory.old pool.old ends.old progress }
+    ensures { acting result table.new stack.new memory.new pool.new ends.new ≡ task_turn table.old stack.old memory.old pool.old ends.old machine left op }
 {
-    let slot = crate::wanted::slot_of(stack, progress);
+    let slot = wanted(stack, machine, op);
     let task = table::get(table, slot);
-    let acted = act(stack, memory, pool, ends, progress.machine, task);
-    apply(table, slot, acted.change);
-    crate::progress::turned(progress.machine, progress.left, acted.result)
-}
-
-// The state that an instruction sets in the slot that it names.
-fn restate(table: &mut [Task], slot: usize, stated: StateAnswer)
-    ensures { table.new ≡ restated table.old slot stated }
-{
-    if stated.states {
-        let answer = table::set_state_at(table, slot, stated.state);
-        return;
+    match act(stack, memory, pool, ends, machine, task) {
+        Ok((after, change)) => {
+            apply(table, slot, change);
+            turned(machine, left, Ok(after))
+        }
+        Err(refusal) => turned(machine, left, Err(refusal)),
     }
 }
 
 // CALL, at hand.
+#[tactic(auto, unfolding(crate::specs::Going::call_turn))]
 fn call_turn(
     table: &mut [Task],
     stack: &mut [u64; 1000],
     ends: &mut [u32; 1024],
-    progress: Progress,
+    machine: Machine,
+    left: u64,
 ) -> Progress
-    ensures { entering result table.new stack.new ends.new ≡ call_turn table.old stack.old ends.old progress }
+    ensures { entering result table.new stack.new ends.new ≡ call_turn table.old stack.old ends.old machine left }
 {
-    let slot = crate::wanted::slot_of_call(stack, progress);
+    let slot = named(stack, machine.height);
     let task = table::get(table, slot);
-    crate::progress::called(stack, ends, progress, task)
+    called(stack, ends, machine, left, task)
 }
 
 // The instruction at hand. CALL, END_CALL and those on a state have their own way: where all came together, each carried the whole record of a slot.
+#[tactic(auto, unfolding(crate::specs::Going::act_turn, crate::specs::Going::state_turned))]
 fn act_turn(
     table: &mut [Task],
     stack: &mut [u64; 1000],
     memory: &mut [u8],
     pool: &mut [u8],
     ends: &mut [u32; 1024],
-    progress: Progress,
+    machine: Machine,
+    left: u64,
+    op: u8,
 ) -> Progress
-    ensures { acting result table.new stack.new memory.new pool.new ends.new ≡ act_turn table.old stack.old memory.old pool.old ends.old progress }
+    ensures { acting result table.new stack.new memory.new pool.new ends.new ≡ act_turn table.old stack.old memory.old pool.old ends.old machine left op }
 {
-    let op = progress.op;
     if op == END_CALL {
-        return crate::progress::returned(progress);
+        return returned(machine, left);
     }
     if op == CALL {
-        return call_turn(table, stack, ends, progress);
+        return call_turn(table, stack, ends, machine, left);
     }
-    let slot = crate::wanted::slot_of(stack, progress);
+    let slot = wanted(stack, machine, op);
     let task = table::get(table, slot);
-    let stated = crate::states::stated(stack, progress.machine, op, task);
-    if stated.whole {
-        return task_turn(table, stack, memory, pool, ends, progress);
+    match stated(stack, machine, op, task) {
+        None => task_turn(table, stack, memory, pool, ends, machine, left, op),
+        Some((after, change)) => {
+            apply(table, slot, change);
+            turned(machine, left, Ok(after))
+        }
     }
-    restate(table, slot, stated);
-    crate::progress::turned(progress.machine, progress.left, stated.result)
 }
 
 // S_SAVE, at hand.
+#[tactic(auto, unfolding(crate::specs::Going::save_turn))]
 fn save_turn(
     table: &mut [Task],
     pool: &mut [u8],
     ends: &mut [u32; 1024],
     save: &mut [u8],
-    progress: Progress,
+    machine: Machine,
+    left: u64,
 ) -> Progress
-    ensures { saving result table.new pool.new ends.new save.new ≡ save_turn table.old pool.old ends.old save.old progress }
+    ensures { saving result table.new pool.new ends.new save.new ≡ save_turn table.old pool.old ends.old save.old machine left }
 {
-    let result = table_image::save_table(
-        table,
-        pool,
-        ends,
-        save,
-        progress.machine.entries,
-        progress.machine.next_id,
-    );
-    crate::progress::saved(progress.machine, progress.left, result)
+    let result = table_image::save_table(table, pool, ends, save, machine.entries, machine.next_id);
+    saved(machine, left, result)
 }
 
-// The instruction at hand; a machine that is at its outcome stays as it is.
+// The instruction at hand; where none is, all stays as it is.
+#[tactic(auto, unfolding(crate::specs::Going::turn_by))]
 fn turn(
     table: &mut [Task],
     stack: &mut [u64; 1000],
@@ -138,13 +138,22 @@ fn turn(
 ) -> Progress
     ensures { going result table.new stack.new memory.new pool.new ends.new save.new ≡ turn (going progress table.old stack.old memory.old pool.old ends.old save.old) }
 {
-    if progress.op == S_SAVE {
-        return save_turn(table, pool, ends, save, progress);
+    match progress.standing {
+        Standing::AtHand(S_SAVE) => {
+            save_turn(table, pool, ends, save, progress.machine, progress.left)
+        }
+        Standing::AtHand(op) => act_turn(
+            table,
+            stack,
+            memory,
+            pool,
+            ends,
+            progress.machine,
+            progress.left,
+            op,
+        ),
+        Standing::Going | Standing::Ended(_) => progress,
     }
-    if progress.running {
-        return act_turn(table, stack, memory, pool, ends, progress);
-    }
-    progress
 }
 
 // The run: at most so many instructions.
@@ -160,11 +169,16 @@ pub fn run(
 ) -> RunEnd
     ensures { ran_to result table.new stack.new memory.new pool.new ends.new save.new ≡ run fuel (world machine table.old stack.old memory.old pool.old ends.old save.old) }
 {
-    let mut progress = crate::progress::begun(machine, fuel);
-    while progress.running {
+    let mut progress = going_on(machine, fuel);
+    loop {
+        if let Standing::Ended(outcome) = progress.standing {
+            return RunEnd {
+                machine: progress.machine,
+                left: progress.left,
+                outcome,
+            };
+        }
         progress = advance(stack, memory, pool, ends, progress.machine, progress.left);
-        let next = turn(table, stack, memory, pool, ends, save, progress);
-        progress = next;
+        progress = turn(table, stack, memory, pool, ends, save, progress);
     }
-    crate::progress::ran(progress)
 }

@@ -1,28 +1,25 @@
 // What an instruction that needs a task, a frame or the pool makes of a machine on its way: one unit of fuel less, or a refusal.
 ghost use Rattle.std.specs.Prelude.{◌≡◌};
 ghost use Rattle.storage.specs.Tasks.{after};
-ghost use Rattle.mechanism.specs.Turns.{begun, spent, turned, ran};
-ghost use Rattle.runner.specs.Behind.{saved};
-ghost use Rattle.runner.specs.Behind.{next_of};
+ghost use Rattle.mechanism.specs.Turns.{going_on, spent, turned};
+ghost use Rattle.runner.specs.Behind.{next_of, save_answered, saved};
 ghost use Rattle.runner.specs.Going.{returned, called};
 
-use image::SaveResult;
-use machine::{Machine, Outcome, RunEnd};
+use errors::Refusal;
+use machine::{Machine, Outcome};
 use mechanism::machines::{current, registers_of, settled};
 use mechanism::stack::moved;
-use mechanism::{MachineResult, Progress};
+use mechanism::{Progress, Standing};
 use storage::Task;
 
-// A run at its beginning.
-pub(crate) fn begun(machine: Machine, fuel: u64) -> Progress
-    ensures { result ≡ begun machine fuel }
+// A run that goes on, as at its beginning.
+pub(crate) fn going_on(machine: Machine, left: u64) -> Progress
+    ensures { result ≡ going_on machine left }
 {
     Progress {
         machine,
-        left: fuel,
-        running: true,
-        op: 0,
-        outcome: Outcome::Paused,
+        left,
+        standing: Standing::Going,
     }
 }
 
@@ -30,94 +27,73 @@ pub(crate) fn begun(machine: Machine, fuel: u64) -> Progress
 fn spent(left: u64) -> u64
     ensures { result ≡ spent left }
 {
-    if left == 0 {
-        return 0;
-    }
-    left - 1
+    left.saturating_sub(1)
 }
 
-// After an instruction: on its way again, or refused, the machine as before it.
-pub(crate) fn turned(machine: Machine, left: u64, res: MachineResult) -> Progress
+// After an instruction: the run goes on, or is refused, the machine as before it.
+#[tactic(auto, unfolding(mechanism::specs::Turns::turned))]
+pub(crate) fn turned(machine: Machine, left: u64, res: Result<Machine, Refusal>) -> Progress
     ensures { result ≡ turned machine left res }
 {
     match res {
-        MachineResult::Onto(after) => Progress {
-            machine: after,
-            left: spent(left),
-            running: true,
-            op: 0,
-            outcome: Outcome::Paused,
-        },
-        MachineResult::Refused(refusal) => Progress {
+        Ok(after) => going_on(after, spent(left)),
+        Err(refusal) => Progress {
             machine,
             left,
-            running: false,
-            op: 0,
-            outcome: Outcome::Refused(refusal),
+            standing: Standing::Ended(Outcome::Refused(refusal)),
         },
     }
 }
 
 // The place behind an instruction without operands.
+#[tactic(auto, unfolding(crate::specs::Behind::next_of))]
 pub(crate) fn next_of(machine: Machine) -> usize
     ensures { result ≡ next_of machine }
 {
-    let frame = current(machine.frames);
-    std::num::wrapping_add_usize(frame.place, 1)
+    current(machine.frames).place.wrapping_add(1)
 }
 
 // After END_CALL, which needs no slot.
-pub(crate) fn returned(progress: Progress) -> Progress
-    ensures { result ≡ returned progress }
+#[tactic(auto, unfolding(crate::specs::Going::returned))]
+pub(crate) fn returned(machine: Machine, left: u64) -> Progress
+    ensures { result ≡ returned machine left }
 {
-    let result = stepper::entering::op_end_call(progress.machine, next_of(progress.machine));
-    turned(progress.machine, progress.left, result)
+    let result = stepper::entering::op_end_call(machine, next_of(machine));
+    turned(machine, left, result)
 }
 
 // After CALL, which changes no slot.
+#[tactic(auto, unfolding(crate::specs::Going::called))]
 pub(crate) fn called(
     stack: &mut [u64; 1000],
     ends: &mut [u32; 1024],
-    progress: Progress,
+    machine: Machine,
+    left: u64,
     task: Task,
 ) -> Progress
-    ensures { after (after result stack.new) ends.new ≡ after (after (called stack.old ends.old progress task) stack.old) ends.old }
+    ensures { after (after result stack.new) ends.new ≡ after (after (called stack.old ends.old machine left task) stack.old) ends.old }
 {
-    let result = stepper::entering::op_call(
-        stack,
-        ends,
-        progress.machine,
-        next_of(progress.machine),
-        task,
-    );
-    turned(progress.machine, progress.left, result)
+    let result = stepper::entering::op_call(stack, ends, machine, next_of(machine), task);
+    turned(machine, left, result)
 }
 
-// After S_SAVE: the length of the image is kept.
-pub(crate) fn saved(machine: Machine, left: u64, res: SaveResult) -> Progress
+// What S_SAVE answers: the length of the image is kept.
+#[tactic(auto, unfolding(crate::specs::Behind::save_answered))]
+fn save_answered(machine: Machine, res: Result<usize, Refusal>) -> Result<Machine, Refusal>
+    ensures { result ≡ save_answered machine res }
+{
+    let length = res?;
+    let registers = registers_of(machine);
+    let next = next_of(machine);
+    let mut after = settled(machine, moved(registers, next, machine.height));
+    after.saved = length;
+    Ok(after)
+}
+
+// After S_SAVE.
+#[tactic(auto, unfolding(crate::specs::Behind::saved))]
+pub(crate) fn saved(machine: Machine, left: u64, res: Result<usize, Refusal>) -> Progress
     ensures { result ≡ saved machine left res }
 {
-    match res {
-        SaveResult::NotSaved(refusal) => turned(machine, left, MachineResult::Refused(refusal)),
-        SaveResult::Saved(length) => {
-            let registers = registers_of(machine);
-            let next = next_of(machine);
-            let mut after = settled(machine, moved(registers, next, machine.height));
-            after.saved = length;
-            turned(machine, left, MachineResult::Onto(after))
-        }
-    }
-}
-
-// The end of a run.
-pub(crate) fn ran(progress: Progress) -> RunEnd
-    ensures { result ≡ ran progress }
-{
-    let machine = progress.machine;
-    let outcome = progress.outcome;
-    RunEnd {
-        machine,
-        left: progress.left,
-        outcome,
-    }
+    turned(machine, left, save_answered(machine, res))
 }

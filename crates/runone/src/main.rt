@@ -3,35 +3,26 @@
 
 use std::io;
 
-// Room for the stack.
-fn stack_room() -> [u64; 1000] {
-    [0u64; 1000]
-}
-
-// Room for the ends of the pool's entries.
-fn ends_room() -> [u32; 1024] {
-    [0u32; 1024]
-}
-
-// Room for one save.
+// Room for one save. In a function of its own: where `main` itself makes it, the check runs out of stack.
 fn save_room() -> [u8; 1048576] {
     [0u8; 1048576]
 }
 
-// The one call: a start with 1,000,000 units of fuel.
+// The one call: a start (0) with 1,000,000 units of fuel.
 fn only_call() -> [u8; 9] {
-    [0u8, 64u8, 66u8, 15u8, 0u8, 0u8, 0u8, 0u8, 0u8]
+    let mut call = [0u8; 9];
+    call[1..].copy_from_slice(&1_000_000u64.to_le_bytes());
+    call
 }
 
 fn main(rt: HostRuntime) -> io::Result<()> {
     let mut program = [0u8; 65536];
     let length = streams::read(rt.stdin(), &mut program)?;
-    let mut stack = stack_room();
+    let mut stack = [0u64; 1000];
     let mut memory = [0u8; 65536];
     let mut pool = [0u8; 65536];
-    let mut ends = ends_room();
+    let mut ends = [0u32; 1024];
     let mut save = save_room();
-    let image = [0u8; 0];
     let mut calls = only_call();
     printer::shows::own(
         rt.stdout(),
@@ -40,7 +31,7 @@ fn main(rt: HostRuntime) -> io::Result<()> {
         &mut pool,
         &mut ends,
         &mut save,
-        &image,
+        &[],
         &program[..length],
         &mut calls,
         0,

@@ -11,18 +11,13 @@ use Rattle.bytecode.specs.Opcodes.{PUSH_CALLDATA, PUSH_TASK_FIELD, T_CREATE, T_G
 use Rattle.bytecode.specs.Operands.{behind, data_size}
 use Rattle.values.specs.Values.{to_u32_val}
 use Rattle.storage.specs.Tasks.{blank}
-use Rattle.image.specs.declared.SaveResult.{SaveResult}
 use Rattle.mechanism.specs.Registers.{moved}
-use Rattle.mechanism.specs.declared.RegistersResult.{RegistersResult}
-use Rattle.mechanism.specs.declared.RegistersResult.TheVariants.{Next}
-use Rattle.mechanism.specs.Changes.{keep}
 use Rattle.mechanism.specs.Fields.{op_t_get_field, op_t_set_field}
 use Rattle.mechanism.specs.declared.Change.{Change}
 use Rattle.mechanism.specs.Registers.{registers_of}
 use Rattle.mechanism.specs.Frames.{op_end_call}
-use Rattle.mechanism.specs.Act.{acted, OnAll, on_all, settled_by, created, tasked_by, created_by, on_task, on_frames, act_by, act_at, act}
+use Rattle.mechanism.specs.Act.{keeping, OnAll, on_all, settled_by, created, tasked_by, created_by, on_task, on_frames, act_by, act_at, act}
 use Rattle.mechanism.specs.Turns.{save_result}
-use Rattle.mechanism.specs.declared.MachineResult.{MachineResult}
 use Rattle.machine.specs.World.{World, place, at_end}
 use Rattle.machine.specs.World as worlds
 use Rattle.mechanism.specs.Step.{acts_result, acted_at, acts, saves_result, saves}
@@ -37,11 +32,18 @@ use Rattle.labels.specs.Labels.{Open, Label, Labelling}
 use Rattle.safety.proofs.Kinded.{Kinded, lengths}
 use Rattle.safety.proofs.Rules.{Shape, is_unchanged, is_adds}
 use Rattle.safety.proofs.Holds.{FieldKind, registers_at, At, Looping, starts, Good, goes_on, may_end, GoodIn}
-use Rattle.safety.proofs.Tasks.{create_good, delete_good, get_good, set_good}
+use Rattle.safety.proofs.Tasks.{GoodTasked, changes_to, may_refuse, create_good, delete_good, get_good, set_good}
 use Rattle.safety.proofs.Places.{behind_get, behind_set, operands, extent_whole, instruction_whole, follows_op, no_rule, exchanges}
 use Rattle.safety.proofs.Stands.{Main, Steps, steps_to, may_stop, settles}
 use Rattle.safety.proofs.Saves.{SavesAs, is_saved, not_saved, table_saves}
 use Rattle.safety.proofs.Calldata.{calldata_steps}
+use Rattle.std.specs.Prelude.{Ok, Result}
+use Rattle.errors.specs.declared.Refusal.{Refusal}
+use Rattle.mechanism.specs.declared.Registers.{Registers}
+use Rattle.machine.specs.declared.Machine.{Machine}
+use Rattle.inlinevec.specs.declared.Two.{Two}
+use Rattle.inlinevec.specs.declared.Loop as records
+use Rattle.storage.specs.declared.Task.{Task}
 
 module _ (w : World) (labels : ℕ → Label) (lent : length w.stack ≡ 1000) (main : Main (worlds.code w) w.machine.frames w.machine.pool w.machine.entries w.pool w.ends) where
   -- the code that runs, and what an instruction makes of everything lent
@@ -55,21 +57,29 @@ module _ (w : World) (labels : ℕ → Label) (lent : length w.stack ≡ 1000) (
   next = behind code here
 
   abbrev StepsBy : ℕ → OnAll → Type 0
-  StepsBy slot after = Steps code labels (acts_result w slot after after.acted.result)
+  StepsBy slot after = Steps code labels (acts_result w slot after after.acted)
 
   -- ---- what an instruction's registers leave
 
-  by_registers : {result : RegistersResult} {stack : List ℕ} (slot : ℕ) (memory : List ℕ) (change : Change) → Good code labels result stack → StepsBy slot (on_all (acted (settled_by w.machine result) change) stack memory w.pool w.ends)
-  unfolding acts_result settled_by
-  by_registers slot memory change (goes_on {registers = registers} long holds) = steps_to (settles w.machine registers _ _ memory w.pool w.ends w.save long main holds)
-  by_registers slot memory change (may_end may) = may_stop may
+  by_registers : {result : Result Registers Refusal} {stack : List ℕ} (slot : ℕ) (memory : List ℕ) → Good code labels result stack → StepsBy slot (on_all (keeping (settled_by w.machine result)) stack memory w.pool w.ends)
+  unfolding acts_result settled_by keeping
+  by_registers slot memory (goes_on {registers = registers} long holds) = steps_to (settles w.machine registers _ _ memory w.pool w.ends w.save long main holds)
+  by_registers slot memory (may_end may) = may_stop may
 
-  by_creation : {result : RegistersResult} {stack : List ℕ} (slot : ℕ) (memory : List ℕ) (change : Change) → Good code labels result stack → StepsBy slot (on_all (acted (created w.machine result) change) stack memory w.pool w.ends)
-  unfolding acts_result created
-  by_creation {stack = stack} slot memory change (goes_on {registers = registers} long holds) =
-      let s = settles w.machine registers w.table stack memory w.pool w.ends w.save long main holds in
+  -- and with a change of the slot
+  by_change : {place used next : ℕ} {loops : Two records.Loop} {task : Task} {result : Result (Registers × Change) Refusal} (slot : ℕ) → GoodTasked code labels place used next w.stack w.memory lent loops task result
+      → StepsBy slot (on_all (tasked_by w.machine result) w.stack w.memory w.pool w.ends)
+  unfolding acts_result tasked_by
+  by_change slot (changes_to {registers = registers} long holds) = steps_to (settles w.machine registers _ _ w.memory w.pool w.ends w.save long main holds)
+  by_change slot (may_refuse may) = may_stop may
+
+  by_creation : {place used next : ℕ} {loops : Two records.Loop} {task : Task} {result : Result (Registers × Change) Refusal} (slot : ℕ) → GoodTasked code labels place used next w.stack w.memory lent loops task result
+      → StepsBy slot (on_all (created_by w.machine result) w.stack w.memory w.pool w.ends)
+  unfolding acts_result created_by created
+  by_creation slot (changes_to {registers = registers} long holds) =
+      let s = settles w.machine registers w.table w.stack w.memory w.pool w.ends w.save long main holds in
       steps_to (record { lent = s.lent; main = s.main; holds = s.holds })
-  by_creation slot memory change (may_end may) = may_stop may
+  by_creation slot (may_refuse may) = may_stop may
 
   -- ---- the instruction at the place
 
@@ -92,7 +102,7 @@ module _ (w : World) (labels : ℕ → Label) (lent : length w.stack ≡ 1000) (
       let n : next ≡ here + 1 = behind_get code here e in
       let a : At code labels next (kind ∷ kinds) opens = subst (λ (i : ℕ). At code labels i (kind ∷ kinds) opens) (sym n) at in
       by_acting T_GET_FIELD slot inside e (omega arith)
-      (by_registers slot _ _ (subst (λ (k : ℕ). GoodIn code labels (op_t_get_field w.stack w.memory (registers_at here k w.machine.loops w.machine.memory) next (get_or w.table slot blank))) (sym high)
+      (by_registers slot _ (subst (λ (k : ℕ). GoodIn code labels (op_t_get_field w.stack w.memory (registers_at here k w.machine.loops w.machine.memory) next (get_or w.table slot blank))) (sym high)
       (get_good code labels here w.machine.memory next w.stack w.memory lent w.machine.loops (get_or w.table slot blank) few top fielded a kinded looping)))
 
   pub set_acts : {h field : ℕ} {kind : Kind} {kinds : List Kind} {opens : List Open} (slot : ℕ) → at_end w ≡ false → here < length code → get_or code here 0 ≡ T_SET_FIELD → w.machine.height ≡ suc h → h < 1000
@@ -102,7 +112,7 @@ module _ (w : World) (labels : ℕ → Label) (lent : length w.stack ≡ 1000) (
       let n : next ≡ here + 1 = behind_set code here e in
       let a : At code labels next kinds opens = subst (λ (i : ℕ). At code labels i kinds opens) (sym n) at in
       by_acting T_SET_FIELD slot inside e (omega arith)
-      (by_registers slot _ _ (subst (λ (k : ℕ). Good code labels (op_t_set_field w.stack w.memory (registers_at here k w.machine.loops w.machine.memory) next (get_or w.table slot blank)).result w.stack) (sym high)
+      (by_change slot (subst (λ (k : ℕ). GoodTasked code labels here w.machine.memory next w.stack w.memory lent w.machine.loops (get_or w.table slot blank) (op_t_set_field w.stack w.memory (registers_at here k w.machine.loops w.machine.memory) next (get_or w.table slot blank))) (sym high)
       (set_good code labels here w.machine.memory next w.stack w.memory lent w.machine.loops (get_or w.table slot blank) few top fielded a kinded looping)))
 
   -- ---- at an element's start
@@ -125,27 +135,27 @@ module _ (w : World) (labels : ℕ → Label) (lent : length w.stack ≡ 1000) (
     pub create_acts : (slot : ℕ) → get_or code here 0 ≡ T_CREATE → Steps code labels (acts w slot)
     unfolding on_frames on_task created_by registers_of whole_element plain_element
     create_acts slot e = by_kinds T_CREATE Creates e refl refl (λ left s a. by_acting T_CREATE slot inside e whole_here
-        (by_creation slot _ _ (create_good code labels here w.machine.memory next w.stack w.memory lent w.machine.loops (get_or w.table slot blank) w.machine.next_id.0 few s a kinded looping)))
+        (by_creation slot (create_good code labels here w.machine.memory next w.stack w.memory lent w.machine.loops (get_or w.table slot blank) w.machine.next_id.0 few s a kinded looping)))
 
     pub delete_acts : (slot : ℕ) → get_or code here 0 ≡ T_DELETE → Steps code labels (acts w slot)
     unfolding on_frames on_task tasked_by registers_of whole_element plain_element
     delete_acts slot e = by_kinds T_DELETE (Takes Number) e refl refl (λ left s a. by_acting T_DELETE slot inside e whole_here
-        (by_registers slot _ _ (delete_good code labels here w.machine.memory next w.stack w.memory lent w.machine.loops (get_or w.table slot blank) few s a kinded looping)))
+        (by_change slot (delete_good code labels here w.machine.memory next w.stack w.memory lent w.machine.loops (get_or w.table slot blank) few s a kinded looping)))
 
     -- kinds that stay
     unchanged : {before left : List Kind} → Shape Unchanged before left → Kinded w.stack w.machine.height before → Kinded w.stack w.machine.height left
     unchanged is_unchanged k = k
 
     -- END_CALL in main
-    end_call_is : op_end_call w.machine next ≡ settled_by w.machine (Next (registers_at next w.machine.height w.machine.loops w.machine.memory))
+    end_call_is : op_end_call w.machine next ≡ settled_by w.machine (Ok (registers_at next w.machine.height w.machine.loops w.machine.memory))
     unfolding op_end_call settled_by registers_of
     end_call_is = simp (le-leb w.machine.frames.count 1 (omega (arith, main.one_frame)))
 
     pub end_call_acts : (slot : ℕ) → get_or code here 0 ≡ END_CALL → Steps code labels (acts w slot)
     unfolding on_frames whole_element plain_element moving_element
     end_call_acts slot e = by_kinds END_CALL Unchanged e refl refl (λ left s a. by_acting END_CALL slot inside e whole_here
-        (subst (λ (result : MachineResult). StepsBy slot (on_all (acted result (keep (get_or w.table slot blank))) w.stack w.memory w.pool w.ends)) (sym end_call_is)
-        (by_registers slot w.memory (keep (get_or w.table slot blank)) (goes_on lent (starts a (unchanged s kinded) looping)))))
+        (subst (λ (result : Result Machine Refusal). StepsBy slot (on_all (keeping result) w.stack w.memory w.pool w.ends)) (sym end_call_is)
+        (by_registers slot w.memory (goes_on lent (starts a (unchanged s kinded) looping)))))
 
     -- PUSH_CALLDATA
     calldata_added : {left : List Kind} (slot : ℕ) → get_or code here 0 ≡ PUSH_CALLDATA → Shape (Adds Calldata) kinds left → At code labels next left opens
@@ -175,7 +185,7 @@ module _ (w : World) (labels : ℕ → Label) (lent : length w.stack ≡ 1000) (
     lone_set_acts e = without_rule T_SET_FIELD e refl refl
 
     -- S_SAVE
-    saved_steps : {answer : SaveResult} {left : List Kind} (save : List ℕ) → here + 1 ≡ next → Shape Unchanged kinds left → At code labels next left opens → SavesAs answer
+    saved_steps : {answer : Result ℕ Refusal} {left : List Kind} (save : List ℕ) → here + 1 ≡ next → Shape Unchanged kinds left → At code labels next left opens → SavesAs answer
         → Steps code labels (saves_result w save (save_result w.machine answer))
     unfolding saves_result save_result registers_of
     saved_steps {left = left} save n s a is_saved =

@@ -11,15 +11,12 @@ use Rattle.errors.specs.declared.Refusal.{Refusal}
 use Rattle.errors.specs.Refusals.{number_of}
 use Rattle.inlinevec.specs.Stacks.{last_two}
 use Rattle.inlinevec.specs.declared.Frame.{Frame}
-use Rattle.inlinevec.specs.declared.Loops.{Loops}
 use Rattle.machine.specs.declared.Machine.{Machine}
 use Rattle.machine.specs.Machines.{current, at_main}
 use Rattle.mechanism.specs.Registers.{registers_of, settled}
 use Rattle.machine.specs.Machines.{rewound, placed}
 use Rattle.machine.specs.declared.Outcome.TheVariants.{Done, Paused, Refused}
 use Rattle.machine.specs.World.{World, place, at_end}
-use Rattle.image.specs.declared.SaveResult.{SaveResult}
-use Rattle.image.specs.declared.SaveResult.TheVariants.{Saved, NotSaved}
 use Rattle.machine.specs.Opcodes.{saving}
 use Rattle.machine.specs.Run.{End, end_at}
 use Rattle.mechanism.proofs.Settled.{current_changed}
@@ -39,6 +36,9 @@ use Rattle.safety.proofs.Rules.{on_bool}
 use Rattle.safety.proofs.Holds.{May, Looping, none_open, Holds, starts}
 use Rattle.safety.proofs.Stands.{Main, Stands, moved_main}
 use Rattle.safety.proofs.Runs.{listed, Runs, runs_done, runs_paused, runs_refused, run_good, end_good}
+use Rattle.std.specs.Prelude.{Ok, Err, Result}
+use Rattle.inlinevec.specs.declared.Two.{Two}
+use Rattle.inlinevec.specs.declared.Loop.{Loop}
 
 -- what may come is not ruled out
 least : (n : ℕ) → may_come n ≡ true → 7 ≤ n
@@ -73,8 +73,8 @@ module _ (program : List ℕ) (kinds : List Kind) (labelled : Labelled program k
     on_its_way : may_start w.machine.phase ≡ false → Stands program labels w → Ready w
 
   -- a rerun from rest
-  closed_looping : (loops : Loops) → loops.count ≡ 0 → Looping program labels loops []
-  closed_looping loops e = subst (λ (n : ℕ). Looping program labels (record { count = n; outer = loops.outer; inner = loops.inner }) []) (sym e) none_open
+  closed_looping : (loops : Two Loop) → loops.count ≡ 0 → Looping program labels loops []
+  closed_looping loops e = subst (λ (n : ℕ). Looping program labels (record { count = n; first = loops.first; second = loops.second }) []) (sym e) none_open
 
   starts_over : (w : World) → Rests w → Stands program labels (with_machine w (fresh w.machine))
   starts_over w r = record {
@@ -206,12 +206,12 @@ module _ (program : List ℕ) (kinds : List Kind) (labelled : Labelled program k
 
   -- ---- the save by the host
 
-  save_by : (w : World) (answer : SaveResult) (save : List ℕ) → Ready w → Ready (world_saved (saved_to (host_saved w.machine answer) w.table w.stack w.memory w.pool w.ends save))
+  save_by : (w : World) (answer : Result ℕ Refusal) (save : List ℕ) → Ready w → Ready (world_saved (saved_to (host_saved w.machine answer) w.table w.stack w.memory w.pool w.ends save))
   unfolding host_saved
-  save_by w (Saved size) save (rests c r) = rests c (record { lent = r.lent; main = r.main; at_zero = r.at_zero; closed = r.closed })
-  save_by w (Saved size) save (on_its_way s t) = on_its_way s (record { lent = t.lent; main = t.main; holds = t.holds })
-  save_by w (NotSaved refusal) save (rests c r) = rests c (record { lent = r.lent; main = r.main; at_zero = r.at_zero; closed = r.closed })
-  save_by w (NotSaved refusal) save (on_its_way s t) = on_its_way s (record { lent = t.lent; main = t.main; holds = t.holds })
+  save_by w (Ok size) save (rests c r) = rests c (record { lent = r.lent; main = r.main; at_zero = r.at_zero; closed = r.closed })
+  save_by w (Ok size) save (on_its_way s t) = on_its_way s (record { lent = t.lent; main = t.main; holds = t.holds })
+  save_by w (Err refusal) save (rests c r) = rests c (record { lent = r.lent; main = r.main; at_zero = r.at_zero; closed = r.closed })
+  save_by w (Err refusal) save (on_its_way s t) = on_its_way s (record { lent = t.lent; main = t.main; holds = t.holds })
 
   save_keeps : (w : World) → Ready w → Ready (world_saved (host_save w))
   unfolding host_save

@@ -10,31 +10,28 @@ use Rattle.errors.specs.declared.Refusal.{Refusal}
 use Rattle.errors.specs.Refusals.{number_of}
 use Rattle.bytecode.specs.Opcodes.{T_GET_FIELD, T_SET_FIELD}
 use Rattle.values.specs.Values.{to_u32_val}
-use Rattle.values.specs.declared.ValueResult.{ValueResult}
-use Rattle.values.specs.declared.ValueResult.TheVariants.{Value, NoValue}
 use Rattle.inlinevec.specs.Stacks.{if_room, push}
 use Rattle.inlinevec.specs.declared.Loop.{Loop}
-use Rattle.inlinevec.specs.declared.Loops.{Loops}
 use Rattle.mechanism.specs.Registers.{OnStack, OnMemory}
 use Rattle.mechanism.specs.Stack.{pushed_to, push_value, finish}
 use Rattle.mechanism.specs.declared.Registers.{Registers}
-use Rattle.mechanism.specs.declared.RegistersResult.{RegistersResult}
-use Rattle.mechanism.specs.declared.RegistersResult.TheVariants.{Next, Refused}
 use Rattle.labels.specs.declared.Kind.{Kind}
 use Rattle.labels.specs.declared.Kind.TheVariants.{Number, Calldata, Text}
 use Rattle.labels.specs.Labels.{Open, opened, Label, label, Start}
 use Rattle.safety.specs.Kinds.{HasKind}
 use Rattle.safety.specs.Safe.{may_come}
 use Rattle.safety.proofs.Kinded.{Kinded, lengths, pushed}
+use Rattle.std.specs.Prelude.{Ok, Err, Result}
+use Rattle.inlinevec.specs.declared.Two.{Two}
 
 -- a refusal that may still come at run
 abbrev pub May : Refusal → Type 0
 May refusal = may_come (number_of refusal) ≡ true
 
 -- a calculation gives a value of a kind, or such a refusal
-pub data Result (kind : Kind) : ValueResult → Type 0 where
-  is_value : {value : ℕ} → HasKind kind value → Result kind (Value value)
-  is_refused : {refusal : Refusal} → May refusal → Result kind (NoValue refusal)
+pub data Gives (kind : Kind) : Result ℕ Refusal → Type 0 where
+  is_value : {value : ℕ} → HasKind kind value → Gives kind (Ok value)
+  is_refused : {refusal : Refusal} → May refusal → Gives kind (Err refusal)
 
 -- a field's number and its kind
 pub data FieldKind : ℕ → Kind → Type 0 where
@@ -48,7 +45,7 @@ pub data Second : ℕ → Kind → List Kind → List Kind → Type 0 where
   is_set : {kind : Kind} {kinds : List Kind} → Second T_SET_FIELD kind (Number ∷ kind ∷ kinds) kinds
 
 -- the registers of a machine
-abbrev pub registers_at : ℕ → ℕ → Loops → ℕ → Registers
+abbrev pub registers_at : ℕ → ℕ → Two Loop → ℕ → Registers
 registers_at place height loops used = record { place = place; height = height; loops = loops; memory = used }
 
 module _ (code : List ℕ) (labels : ℕ → Label) where
@@ -64,22 +61,22 @@ module _ (code : List ℕ) (labels : ℕ → Label) where
     goes_back : {left : List Kind} {outer : List Open} → At loop.place left (opened loop.place left ∷ outer) → Opened loop (opened loop.place left) outer
 
   -- the machine's loops are a label's open loops
-  pub data Looping : Loops → List Open → Type 0 where
-    none_open : {outer inner : Loop} → Looping (record { count = 0; outer = outer; inner = inner }) []
-    one_open : {outer inner : Loop} {first : Open} → Opened outer first [] → Looping (record { count = 1; outer = outer; inner = inner }) (first ∷ [])
-    two_open : {outer inner : Loop} {first second : Open} → Opened outer first [] → Opened inner second (first ∷ []) → Looping (record { count = 2; outer = outer; inner = inner }) (second ∷ first ∷ [])
+  pub data Looping : Two Loop → List Open → Type 0 where
+    none_open : {outer inner : Loop} → Looping (record { count = 0; first = outer; second = inner }) []
+    one_open : {outer inner : Loop} {first : Open} → Opened outer first [] → Looping (record { count = 1; first = outer; second = inner }) (first ∷ [])
+    two_open : {outer inner : Loop} {first second : Open} → Opened outer first [] → Opened inner second (first ∷ []) → Looping (record { count = 2; first = outer; second = inner }) (second ∷ first ∷ [])
 
   -- at an element's start, or between the two instructions of a joined element with the field's number on top
-  pub data Holds (place height : ℕ) (loops : Loops) (stack : List ℕ) : Type 0 where
+  pub data Holds (place height : ℕ) (loops : Two Loop) (stack : List ℕ) : Type 0 where
     starts : {kinds : List Kind} {opens : List Open} → At place kinds opens → Kinded stack height kinds → Looping loops opens → Holds place height loops stack
     middle : {op h field : ℕ} {kind : Kind} {before kinds : List Kind} {opens : List Open} → place < length code → get_or code place 0 ≡ op → Second op kind before kinds
         → height ≡ suc h → h < 1000 → get_or stack h 0 ≡ to_u32_val field → FieldKind field kind → Kinded stack h before → At (place + 1) kinds opens → Looping loops opens
         → Holds place height loops stack
 
   -- an instruction goes on to where this holds again, or is refused with what admission leaves possible
-  pub data Good : RegistersResult → List ℕ → Type 0 where
-    goes_on : {registers : Registers} {stack : List ℕ} → length stack ≡ 1000 → Holds registers.place registers.height registers.loops stack → Good (Next registers) stack
-    may_end : {refusal : Refusal} {stack : List ℕ} → May refusal → Good (Refused refusal) stack
+  pub data Good : Result Registers Refusal → List ℕ → Type 0 where
+    goes_on : {registers : Registers} {stack : List ℕ} → length stack ≡ 1000 → Holds registers.place registers.height registers.loops stack → Good (Ok registers) stack
+    may_end : {refusal : Refusal} {stack : List ℕ} → May refusal → Good (Err refusal) stack
 
   abbrev pub GoodOn : OnStack → Type 0
   GoodOn a = Good a.result a.stack
@@ -96,8 +93,8 @@ module _ (code : List ℕ) (labels : ℕ → Label) where
       simp (lt-ltb height 1000 few) (goes_on (length-set stack height value ∙ lent) (starts at (pushed value (omega arith) has kinded) looping))
 
   -- a calculation's value pushed
-  pub finish_good : {kind : Kind} {kinds : List Kind} {opens : List Open} {result : ValueResult} (registers : Registers) (next height : ℕ) (stack : List ℕ) → length stack ≡ 1000 → At next (kind ∷ kinds) opens
-      → Result kind result → Kinded stack height kinds → Looping registers.loops opens → GoodOn (finish stack registers next height result)
+  pub finish_good : {kind : Kind} {kinds : List Kind} {opens : List Open} {result : Result ℕ Refusal} (registers : Registers) (next height : ℕ) (stack : List ℕ) → length stack ≡ 1000 → At next (kind ∷ kinds) opens
+      → Gives kind result → Kinded stack height kinds → Looping registers.loops opens → GoodOn (finish stack registers next height result)
   unfolding finish
   finish_good registers next height stack lent at (is_value {value = value} has) kinded looping = push_good registers next height value stack lent at has kinded looping
   finish_good registers next height stack lent at (is_refused may) kinded looping = may_end may

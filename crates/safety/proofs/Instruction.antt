@@ -13,20 +13,16 @@ use lib.Seq.{get_or-set_same}
 use borrow.Author.Tests.{eqb-true, lt-ltb}
 use Rattle.bytecode.specs.Opcodes.{PUSH_U32, PUSH_STATE, PUSH_TASK_FIELD, PUSH_MAX_STATES, T_GET_FIELD, T_SET_FIELD, S_LEN, DO, LOOP, LOOP_INDEX, DROP, DUP, SWAP, EQ, NEQ, LT, GT, JUMP_IF_FALSE, M_STI, M_ST, M_MUTA, MULI, MUL, operand_size}
 use Rattle.bytecode.specs.Operands.{big_endian, operand, behind}
-use Rattle.bytecode.specs.declared.OperandResult.TheVariants.{Operand}
 use Rattle.values.specs.Values.{to_u32_val}
 use Rattle.inlinevec.specs.Stacks.{if_room, push}
-use Rattle.inlinevec.specs.declared.Loops.{Loops}
 use Rattle.mechanism.specs.Registers.{on_memory, moved}
 use Rattle.mechanism.specs.Stack.{pushed_to, push_value, op_push}
 use Rattle.mechanism.specs.declared.Registers.{Registers}
-use Rattle.mechanism.specs.declared.RegistersResult.TheVariants.{Next}
 use Rattle.mechanism.specs.Operated.{with_operand, push_u32, push_u8, muli, jump_if_false, m_st, payload_of, m_sti_of, m_sti}
 use Rattle.mechanism.specs.Execute.{plain, operated, is_equality, execute, by_extent, instruct}
 use Rattle.mechanism.specs.Steps.{is_outer}
 use Rattle.labels.specs.declared.Kind.{Kind}
 use Rattle.labels.specs.declared.Kind.TheVariants.{Number, Boolean}
-use Rattle.labels.specs.declared.KindResult.TheVariants.{Known, Unknown}
 use Rattle.labels.specs.declared.Exchange.{Exchange}
 use Rattle.labels.specs.declared.Exchange.TheVariants.{Unchanged, Adds, Turns, Joins, Gets, Sets, Dup, Swap, Drop, Compares, Changes}
 use Rattle.labels.specs.declared.Element.TheVariants.{NoRule, Kinds, Do, Loop, LoopIndex, JumpIfFalse}
@@ -39,6 +35,9 @@ use Rattle.safety.proofs.Stack.{number_good, mul_good, muli_good, compare_good, 
 use Rattle.safety.proofs.Store.{TagKind, is_text, is_numbers, store_good, m_st_good, m_muta_good}
 use Rattle.safety.proofs.Opcodes.{Unused, Opcode, at_push_u32, at_push_state, at_push_calldata, at_push_task_field, at_push_max_states, at_t_create, at_t_get_field, at_t_set_field, at_t_delete, at_s_save, at_s_len, at_do, at_loop, at_loop_index, at_call, at_end_call, at_drop, at_dup, at_swap, at_eq, at_neq, at_lt, at_gt, at_jump_if_false, at_m_sti, at_m_st, at_m_muta, at_muli, at_mul, at_unused, opcode}
 use Rattle.safety.proofs.Places.{one_byte, operand_there, tags, fields, behind_field, operands, after_alone, extent_whole, element_whole, whole, instruction_whole, follows, follows_op, no_rule, exchanges}
+use Rattle.std.specs.Prelude.{Ok, Some, None}
+use Rattle.inlinevec.specs.declared.Loop as records
+use Rattle.inlinevec.specs.declared.Two.{Two}
 
 -- the tag of a vector is below 256
 tag_wrapped : {tag : ℕ} {kind : Kind} → TagKind tag kind → tag % 256 ≡ tag
@@ -55,7 +54,7 @@ gets_joined field fielded (is_gets few) = joins fielded refl is_get few
 sets_joined : {kind : Kind} {kinds left : List Kind} (field : ℕ) → FieldKind field kind → Shape (Sets kind) kinds left → Joined field kinds left T_SET_FIELD
 sets_joined field fielded (is_sets few) = joins fielded refl is_set few
 
-module _ (code : List ℕ) (labels : ℕ → Label) (lab : Labelling code labels) (place height used count : ℕ) (loops : Loops) (stack memory : List ℕ) (lent : length stack ≡ 1000)
+module _ (code : List ℕ) (labels : ℕ → Label) (lab : Labelling code labels) (place height used count : ℕ) (loops : Two records.Loop) (stack memory : List ℕ) (lent : length stack ≡ 1000)
     {kinds : List Kind} {opens : List Open} (at : At code labels place kinds opens) (inside : place < length code) (kinded : Kinded stack height kinds) (looping : Looping code labels loops opens) where
   -- the registers, and the place behind the instruction
   abbrev now : Registers
@@ -72,7 +71,7 @@ module _ (code : List ℕ) (labels : ℕ → Label) (lab : Labelling code labels
   few = omega (arith, lengths kinded, at.few_kinds)
 
   -- the operand behind the opcode
-  operand_is : (op size : ℕ) → get_or code place 0 ≡ op → operand_size op ≡ size → operand size code (place + 1) ≡ Operand (big_endian size code (place + 1))
+  operand_is : (op size : ℕ) → get_or code place 0 ≡ op → operand_size op ≡ size → operand size code (place + 1) ≡ Ok (big_endian size code (place + 1))
   operand_is op size e s = operand_there size code (place + 1) (subst (λ (n : ℕ). place + 1 + n ≤ length code) s (operands code place op e (instruction_whole code labels lab at inside)))
 
   -- an opcode whose element exchanges kinds
@@ -122,7 +121,7 @@ module _ (code : List ℕ) (labels : ℕ → Label) (lab : Labelling code labels
   unfolding execute is_equality whole_element plain_element
   m_muta_at e = by_kinds M_MUTA Changes e refl refl (λ left s a. m_muta_good code labels next stack memory lent place used loops few s a kinded looping)
 
-  unchanged : {left : List Kind} → Shape Unchanged kinds left → At code labels next left opens → GoodIn code labels (on_memory (Next (moved now next height)) stack memory)
+  unchanged : {left : List Kind} → Shape Unchanged kinds left → At code labels next left opens → GoodIn code labels (on_memory (Ok (moved now next height)) stack memory)
   unchanged s a = goes_on lent (starts a (same s kinded) looping)
     where
       same : {before left : List Kind} → Shape Unchanged before left → Kinded stack height before → Kinded stack height left
@@ -213,7 +212,7 @@ module _ (code : List ℕ) (labels : ℕ → Label) (lab : Labelling code labels
   abbrev st_tag : ℕ
   st_tag = get_or code (place + 1) 0
 
-  m_st_known : (kind : Kind) → TagKind st_tag kind → tag_kind st_tag ≡ Known kind → Goal M_ST
+  m_st_known : (kind : Kind) → TagKind st_tag kind → tag_kind st_tag ≡ Some kind → Goal M_ST
   unfolding execute is_equality m_st with_operand operand_size whole_element with_kind
   m_st_known kind tagged known e =
       rw (operand_is M_ST 1 e refl, one_byte code (place + 1), tag_wrapped tagged)
@@ -229,7 +228,7 @@ module _ (code : List ℕ) (labels : ℕ → Label) (lab : Labelling code labels
   abbrev sti_tag : ℕ
   sti_tag = get_or code (place + 3) 0
 
-  sti_operand : (ahead size : ℕ) → ahead + size ≤ 5 → get_or code place 0 ≡ M_STI → operand size code (place + ahead) ≡ Operand (big_endian size code (place + ahead))
+  sti_operand : (ahead size : ℕ) → ahead + size ≤ 5 → get_or code place 0 ≡ M_STI → operand size code (place + ahead) ≡ Ok (big_endian size code (place + ahead))
   unfolding operand_size
   sti_operand ahead size short e = operand_there size code (place + ahead) (omega (arith, operands code place M_STI e (instruction_whole code labels lab at inside)))
 
@@ -238,7 +237,7 @@ module _ (code : List ℕ) (labels : ℕ → Label) (lab : Labelling code labels
   unfolding m_sti_of
   sti_store size signal tagged is_adds a k = rw (tag_wrapped tagged) (store_good code labels next stack memory lent now (payload_of code place size signal) (size % 65536) tagged a k looping)
 
-  m_sti_known : (kind : Kind) → TagKind sti_tag kind → tag_kind sti_tag ≡ Known kind → Goal M_STI
+  m_sti_known : (kind : Kind) → TagKind sti_tag kind → tag_kind sti_tag ≡ Some kind → Goal M_STI
   unfolding execute is_equality m_sti with_operand whole_element with_kind
   m_sti_known kind tagged known e =
       rw (sti_operand 1 2 (omega arith) e, sti_operand 3 1 (omega arith) e, sti_operand 4 1 (omega arith) e, one_byte code (place + 3))
@@ -287,27 +286,27 @@ module _ (code : List ℕ) (labels : ℕ → Label) (lab : Labelling code labels
   within_joined e t = rw (after_joined e t) at (whole code labels lab at inside)
 
   -- before T_GET_FIELD
-  get_known : (kind : Kind) → FieldKind field kind → field_kind field ≡ Known kind → eqb second T_GET_FIELD ≡ true → get_or code place 0 ≡ PUSH_TASK_FIELD → GoodOn code labels (op_push stack now next field)
+  get_known : (kind : Kind) → FieldKind field kind → field_kind field ≡ Some kind → eqb second T_GET_FIELD ≡ true → get_or code place 0 ≡ PUSH_TASK_FIELD → GoodOn code labels (op_push stack now next field)
   unfolding field_element with_kind
   get_known kind fielded known t e =
       let joined_to : (eqb second T_GET_FIELD || eqb second T_SET_FIELD) ≡ true = rw t in
       exchanges code labels lab at inside (follows code labels lab at inside (Kinds (Gets kind)) (place + 3) (field_element_is e ∙ rw (t, known)) (after_joined e joined_to))
       (λ left s a. joined_good e (eqb-true second T_GET_FIELD t) (within_joined e joined_to) (gets_joined field fielded s) a)
 
-  get_unknown : field_kind field ≡ Unknown → eqb second T_GET_FIELD ≡ true → get_or code place 0 ≡ PUSH_TASK_FIELD → GoodOn code labels (op_push stack now next field)
+  get_unknown : field_kind field ≡ None → eqb second T_GET_FIELD ≡ true → get_or code place 0 ≡ PUSH_TASK_FIELD → GoodOn code labels (op_push stack now next field)
   unfolding field_element with_kind
   get_unknown unknown t e =
       no_rule code labels lab at inside (follows code labels lab at inside NoRule (place + 3) (field_element_is e ∙ rw (t, unknown)) (after_joined e (rw t)))
 
   -- before T_SET_FIELD
-  set_known : (kind : Kind) → FieldKind field kind → field_kind field ≡ Known kind → eqb second T_GET_FIELD ≡ false → eqb second T_SET_FIELD ≡ true → get_or code place 0 ≡ PUSH_TASK_FIELD → GoodOn code labels (op_push stack now next field)
+  set_known : (kind : Kind) → FieldKind field kind → field_kind field ≡ Some kind → eqb second T_GET_FIELD ≡ false → eqb second T_SET_FIELD ≡ true → get_or code place 0 ≡ PUSH_TASK_FIELD → GoodOn code labels (op_push stack now next field)
   unfolding field_element with_kind
   set_known kind fielded known f t e =
       let joined_to : (eqb second T_GET_FIELD || eqb second T_SET_FIELD) ≡ true = rw (f, t) in
       exchanges code labels lab at inside (follows code labels lab at inside (Kinds (Sets kind)) (place + 3) (field_element_is e ∙ rw (f, t, known)) (after_joined e joined_to))
       (λ left s a. joined_good e (eqb-true second T_SET_FIELD t) (within_joined e joined_to) (sets_joined field fielded s) a)
 
-  set_unknown : field_kind field ≡ Unknown → eqb second T_GET_FIELD ≡ false → eqb second T_SET_FIELD ≡ true → get_or code place 0 ≡ PUSH_TASK_FIELD → GoodOn code labels (op_push stack now next field)
+  set_unknown : field_kind field ≡ None → eqb second T_GET_FIELD ≡ false → eqb second T_SET_FIELD ≡ true → get_or code place 0 ≡ PUSH_TASK_FIELD → GoodOn code labels (op_push stack now next field)
   unfolding field_element with_kind
   set_unknown unknown f t e =
       no_rule code labels lab at inside (follows code labels lab at inside NoRule (place + 3) (field_element_is e ∙ rw (f, t, unknown)) (after_joined e (rw (f, t))))

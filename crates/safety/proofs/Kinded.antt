@@ -11,13 +11,11 @@ use borrow.Author.Tests.{ne_eqb, le-leb}
 use Rattle.values.specs.Values.{make_vec_tagged, to_u32_val, to_calldata_val, to_bool_val}
 use Rattle.values.proofs.Laws.{scalar_is_scalar, scalar_tag_back, vec_is_vec, vec_tag_back}
 use Rattle.inlinevec.specs.Stacks.{if_some, pop, last}
-use Rattle.inlinevec.specs.declared.PopResult.TheVariants.{Popped}
-use Rattle.inlinevec.specs.declared.LastResult.TheVariants.{Last}
 use Rattle.mechanism.specs.Stack.{pop_second, pop_first, pop_two}
-use Rattle.mechanism.specs.declared.PopTwoResult.TheVariants.{PoppedTwo}
 use Rattle.labels.specs.declared.Kind.{Kind}
 use Rattle.labels.specs.declared.Kind.TheVariants.{Number, Calldata, Boolean, Text, Numbers}
 use Rattle.safety.specs.Kinds.{HasKind}
+use Rattle.std.specs.Prelude.{Ok}
 
 -- ---- boxes
 
@@ -63,18 +61,18 @@ pushed {height = height} value inside has rest = rw (add-one height) (put_on val
 -- ---- values taken
 
 module _ (stack : List ℕ) (h : ℕ) where
-  pub popped : suc h ≤ 1000 → pop stack (suc h) ≡ Popped (get_or stack h 0) h
+  pub popped : suc h ≤ 1000 → pop stack (suc h) ≡ Ok (get_or stack h 0, h)
   unfolding pop if_some
   popped few =
       let one : suc h - 1 ≡ h = omega arith in
       simp (ne_eqb (suc h) 0 (λ e. omega arith), le-leb (suc h) 1000 few, one)
 
-  pub looked : suc h ≤ 1000 → last stack (suc h) ≡ Last (get_or stack h 0)
+  pub looked : suc h ≤ 1000 → last stack (suc h) ≡ Ok (get_or stack h 0)
   unfolding last if_some
   looked few =
       let one : suc h - 1 ≡ h = omega arith in
       simp (ne_eqb (suc h) 0 (λ e. omega arith), le-leb (suc h) 1000 few, one)
 
-pub popped_two : (stack : List ℕ) (h : ℕ) → suc (suc h) ≤ 1000 → pop_two stack (suc (suc h)) ≡ PoppedTwo (get_or stack (suc h) 0) (get_or stack h 0) h
+pub popped_two : (stack : List ℕ) (h : ℕ) → suc (suc h) ≤ 1000 → pop_two stack (suc (suc h)) ≡ Ok (get_or stack (suc h) 0, get_or stack h 0, h)
 unfolding pop_two pop_first pop_second
 popped_two stack h few = simp (popped stack (suc h) few, popped stack h (omega arith))

@@ -9,20 +9,20 @@ use borrow.Author.Tests.{ne_eqb, eqb-true, eqb-false}
 use Rattle.bytecode.specs.Opcodes.{PUSH_U32, PUSH_STATE, PUSH_CALLDATA, PUSH_TASK_FIELD, PUSH_MAX_STATES, T_CREATE, T_GET_FIELD, T_SET_FIELD, T_DELETE, S_SAVE, S_LEN, DO, LOOP, LOOP_INDEX, CALL, END_CALL, DROP, DUP, SWAP, EQ, NEQ, LT, GT, JUMP_IF_FALSE, M_STI, M_ST, M_MUTA, MULI, MUL}
 use Rattle.mechanism.specs.Registers.{on_memory, moved}
 use Rattle.mechanism.specs.declared.Registers.{Registers}
-use Rattle.mechanism.specs.declared.RegistersResult.TheVariants.{Next}
 use Rattle.mechanism.specs.Execute.{plain, operated, is_equality, execute}
 use Rattle.mechanism.specs.Steps.{is_outer}
 use Rattle.labels.specs.declared.Element.TheVariants.{Kinds}
 use Rattle.labels.specs.declared.Exchange.TheVariants.{Unchanged}
 use Rattle.labels.specs.Elements.{moving_element, plain_element, whole_element}
 use Rattle.safety.proofs.Rules.{on_bool}
+use Rattle.std.specs.Prelude.{Ok}
 
 -- a byte that does nothing and changes no kinds
 pub record Unused (op : ℕ) : Type 0 where
   pub alone : eqb op PUSH_TASK_FIELD ≡ false
   pub inner : is_outer op ≡ false
   pub executes : (stack memory code : List ℕ) (registers : Registers) (next count : ℕ)
-      → execute stack memory code registers next op count ≡ on_memory (Next (moved registers next registers.height)) stack memory
+      → execute stack memory code registers next op count ≡ on_memory (Ok (moved registers next registers.height)) stack memory
   pub element_is : (code : List ℕ) (at : ℕ) → whole_element code at op ≡ Kinds Unchanged
 
 pub data Opcode : ℕ → Type 0 where
@@ -80,7 +80,7 @@ module _ (op : ℕ) (past : 32 ≤ op) where
   past_inner = simp (other 4 (omega arith), other 7 (omega arith), other 8 (omega arith), other 9 (omega arith), other 10 (omega arith), other 11 (omega arith), other 17 (omega arith), other 18 (omega arith))
 
   past_executes : (stack memory code : List ℕ) (registers : Registers) (next count : ℕ)
-      → execute stack memory code registers next op count ≡ on_memory (Next (moved registers next registers.height)) stack memory
+      → execute stack memory code registers next op count ≡ on_memory (Ok (moved registers next registers.height)) stack memory
   unfolding execute is_equality operated plain
   past_executes stack memory code registers next count = simp (other 22 (omega arith), other 23 (omega arith), other 27 (omega arith), other 28 (omega arith), other 29 (omega arith), other 1 (omega arith), other 3 (omega arith), other 5 (omega arith), other 6 (omega arith), other 30 (omega arith), other 26 (omega arith), other 31 (omega arith), other 24 (omega arith), other 25 (omega arith), other 20 (omega arith), other 21 (omega arith), other 19 (omega arith), other 14 (omega arith), other 15 (omega arith), other 16 (omega arith), other 13 (omega arith))
 

@@ -11,11 +11,8 @@ use lib.ListN.{length, get_or}
 use borrow.Author.Tests.{le-leb, eqb-true}
 use Rattle.bytecode.specs.Opcodes.{PUSH_TASK_FIELD, T_GET_FIELD, T_SET_FIELD, operand_size}
 use Rattle.bytecode.specs.Operands.{big_endian, operand, data_size, behind, extent}
-use Rattle.bytecode.specs.declared.OperandResult.TheVariants.{Operand}
-use Rattle.bytecode.specs.declared.Extent.TheVariants.{Next}
 use Rattle.labels.specs.declared.Kind.{Kind}
 use Rattle.labels.specs.declared.Kind.TheVariants.{Number, Calldata, Text, Numbers}
-use Rattle.labels.specs.declared.KindResult.TheVariants.{Known, Unknown}
 use Rattle.labels.specs.declared.Exchange.{Exchange}
 use Rattle.labels.specs.declared.Element.{Element}
 use Rattle.labels.specs.declared.Element.TheVariants.{NoRule, Kinds}
@@ -26,6 +23,7 @@ use Rattle.labels.proofs.Ways.{fits}
 use Rattle.safety.proofs.Rules.{on_bool, no_answer, Given, given, Shape, shape}
 use Rattle.safety.proofs.Holds.{FieldKind, is_title, is_state, is_instructions, At}
 use Rattle.safety.proofs.Store.{TagKind, is_text, is_numbers}
+use Rattle.std.specs.Prelude.{Ok, Some, None}
 
 -- ---- operands
 
@@ -38,19 +36,19 @@ one_byte code at =
     omega arith
 
 -- an operand that the code holds
-pub operand_there : (size : ℕ) (code : List ℕ) (at : ℕ) → at + size ≤ length code → operand size code at ≡ Operand (big_endian size code at)
+pub operand_there : (size : ℕ) (code : List ℕ) (at : ℕ) → at + size ≤ length code → operand size code at ≡ Ok (big_endian size code at)
 unfolding operand
 operand_there size code at there = simp (le-leb (at + size) (length code) there)
 
 -- a tag that has a kind
-pub tags : (tag : ℕ) → (tag_kind tag ≡ Unknown) ⊎ ((kind : Kind) × TagKind tag kind × (tag_kind tag ≡ Known kind))
+pub tags : (tag : ℕ) → (tag_kind tag ≡ None) ⊎ ((kind : Kind) × TagKind tag kind × (tag_kind tag ≡ Some kind))
 unfolding tag_kind
 tags tag =
     on_bool (eqb tag 4) (λ t. inr (Text, rw (eqb-true tag 4 t) is_text, rw t))
     (λ f. on_bool (eqb tag 6) (λ t. inr (Numbers, rw (eqb-true tag 6 t) is_numbers, rw (f, t))) (λ g. inl (rw (f, g))))
 
 -- a field that has a kind
-pub fields : (field : ℕ) → (field_kind field ≡ Unknown) ⊎ ((kind : Kind) × FieldKind field kind × (field_kind field ≡ Known kind))
+pub fields : (field : ℕ) → (field_kind field ≡ None) ⊎ ((kind : Kind) × FieldKind field kind × (field_kind field ≡ Some kind))
 unfolding field_kind
 fields field =
     on_bool (eqb field 0) (λ t. inr (Text, rw (eqb-true field 0 t) is_title, rw t))
@@ -93,7 +91,7 @@ module _ (code : List ℕ) (place : ℕ) where
   after_alone alone = rw alone
 
   -- a whole instruction
-  pub extent_whole : behind code place ≤ length code → extent code place ≡ Next (behind code place)
+  pub extent_whole : behind code place ≤ length code → extent code place ≡ Some (behind code place)
   unfolding extent
   extent_whole whole = simp (le-leb (behind code place) (length code) whole)
 

@@ -9,7 +9,6 @@ use lib.ListN.{length, get_or, length-reverse, get_or-append}
 use lib.Seq.{get_or_at}
 use borrow.Author.Tests.{leb-true}
 use Rattle.errors.specs.declared.Refusal.{Refusal}
-use Rattle.inlinevec.specs.declared.Loops.{Loops}
 use Rattle.machine.specs.declared.Outcome.TheVariants.{Done, Paused, Refused}
 use Rattle.machine.specs.World.{World, place, at_end}
 use Rattle.machine.specs.World as worlds
@@ -26,6 +25,8 @@ use Rattle.safety.proofs.Kinded.{Kinded, nil, more, lengths}
 use Rattle.safety.proofs.Holds.{May, Looping, none_open, one_open, two_open, Holds, starts, middle}
 use Rattle.safety.proofs.Stands.{Stands, Steps, steps_to, may_stop, runs_program}
 use Rattle.safety.proofs.Step.{step_good}
+use Rattle.inlinevec.specs.declared.Two.{Two}
+use Rattle.inlinevec.specs.declared.Loop.{Loop}
 
 -- ---- the values, bottom first
 
@@ -98,7 +99,7 @@ module _ (program : List ℕ) (kinds : List Kind) (labelled : Labelled program k
     pub closed : w.machine.loops.count ≡ 0
     pub kinded : Kinded w.stack w.machine.height kinds
 
-  no_loops : {loops : Loops} {opens : List Open} → Looping program labels loops opens → opens ≡ [] → loops.count ≡ 0
+  no_loops : {loops : Two Loop} {opens : List Open} → Looping program labels loops opens → opens ≡ [] → loops.count ≡ 0
   no_loops none_open e = refl
   no_loops (one_open first) e = absurd (let z : ◌≡◌ {A = ℕ} 0 1 = cc in omega arith)
   no_loops (two_open first second) e = absurd (let z : ◌≡◌ {A = ℕ} 0 1 = cc in omega arith)

@@ -8,15 +8,13 @@ use lib.ListN.{length}
 use Rattle.errors.specs.declared.Refusal.{Refusal}
 use Rattle.utf8.specs.Utf8.{valid}
 use Rattle.pools.specs.Pool.{bounds}
-use Rattle.pools.specs.declared.BoundsResult.{BoundsResult}
 use Rattle.storage.specs.declared.Task.{Task}
-use Rattle.image.specs.declared.SaveResult.{SaveResult}
-use Rattle.image.specs.declared.SaveResult.TheVariants.{Saved, NotSaved}
 use Rattle.image.specs.Image.{written}
 use Rattle.image.specs.Slots.{title_in}
 use Rattle.image.specs.Table.{living_tasks, refusal_by, task_refusal, or_else, first_refusal, image_of_tasks, SavedTable, saved_over, saved_unless, save_tasks, save_table}
 use Rattle.mechanism.proofs.Either.{either}
 use Rattle.safety.proofs.Holds.{May}
+use Rattle.std.specs.Prelude.{Ok, Err, Result}
 
 data Refuses : Option Refusal → Type 0 where
   no_refusal : Refuses none
@@ -25,7 +23,7 @@ data Refuses : Option Refusal → Type 0 where
 task_refuses : (ends : List ℕ) (entries : ℕ) (task : Task) → Refuses (task_refusal ends entries task)
 unfolding task_refusal refusal_by bounds
 task_refuses ends entries task =
-    either (λ (r : BoundsResult). Refuses (refusal_by (title_in task) r)) (ltb task.instructions_ref.0 (min entries 1024)) _ _
+    either (λ (r : Result (ℕ × ℕ) Refusal). Refuses (refusal_by (title_in task) r)) (ltb task.instructions_ref.0 (min entries 1024)) _ _
     (either Refuses (valid (title_in task)) _ _ no_refusal (refusal_may refl))
     (refusal_may refl)
 
@@ -39,9 +37,9 @@ unfolding first_refusal
 all_refuse ends entries [] = no_refusal
 all_refuse ends entries (task ∷ tasks) = or_refuses (task_refuses ends entries task) (all_refuse ends entries tasks)
 
-pub data SavesAs : SaveResult → Type 0 where
-  is_saved : {size : ℕ} → SavesAs (Saved size)
-  not_saved : {refusal : Refusal} → May refusal → SavesAs (NotSaved refusal)
+pub data SavesAs : Result ℕ Refusal → Type 0 where
+  is_saved : {size : ℕ} → SavesAs (Ok size)
+  not_saved : {refusal : Refusal} → May refusal → SavesAs (Err refusal)
 
 saved_saves : {refusal : Option Refusal} (image save : List ℕ) → Refuses refusal → SavesAs (saved_unless refusal image save).answer
 unfolding saved_unless saved_over

@@ -9,10 +9,8 @@ use Rattle.errors.specs.declared.Refusal.{Refusal}
 use Rattle.pools.specs.Pool.{entry_of, end_to_end}
 use Rattle.inlinevec.specs.Stacks.{change_two}
 use Rattle.inlinevec.specs.declared.Frame.{Frame}
-use Rattle.inlinevec.specs.declared.Frames.{Frames}
 use Rattle.storage.specs.declared.Task.{Task}
 use Rattle.mechanism.specs.declared.Registers.{Registers}
-use Rattle.mechanism.specs.declared.RegistersResult.{RegistersResult}
 use Rattle.machine.specs.declared.Machine.{Machine}
 use Rattle.machine.specs.Machines.{current, with_current, code_of}
 use Rattle.mechanism.specs.Registers.{settled}
@@ -24,9 +22,11 @@ use Rattle.mechanism.proofs.Settled.{current_changed}
 use Rattle.labels.specs.Labels.{Label}
 use Rattle.safety.proofs.Rules.{on_bool}
 use Rattle.safety.proofs.Holds.{May, Holds, Good, goes_on, may_end}
+use Rattle.std.specs.Prelude.{Result}
+use Rattle.inlinevec.specs.declared.Two.{Two}
 
 -- one frame, that of the program, which is entry 0 of a pool whose entries stand end to end
-pub record Main (code : List ℕ) (frames : Frames) (bytes entries : ℕ) (pool ends : List ℕ) : Type 0 where
+pub record Main (code : List ℕ) (frames : Two Frame) (bytes entries : ℕ) (pool ends : List ℕ) : Type 0 where
   pub one_frame : frames.count ≡ 1
   pub in_main : (current frames).entry.0 ≡ 0
   pub ends_lent : length ends ≡ 1024
@@ -51,14 +51,14 @@ runs_program w main = ap (entry_of w.pool w.ends) main.in_main ∙ main.program
 
 -- ---- at another place of the same code
 
-abbrev pub moved_to : Frames → ℕ → Frames
+abbrev pub moved_to : Two Frame → ℕ → Two Frame
 moved_to frames place = with_current frames (record { entry = (current frames).entry; place = place })
 
-count_kept : (frames : Frames) (frame : Frame) → (with_current frames frame).count ≡ frames.count
+count_kept : (frames : Two Frame) (frame : Frame) → (with_current frames frame).count ≡ frames.count
 unfolding with_current change_two
 count_kept frames frame = on_bool (eqb frames.count 1) (λ t. simp (t)) (λ t. simp (t))
 
-pub moved_main : {code : List ℕ} {frames : Frames} {bytes entries : ℕ} {pool ends : List ℕ} (place : ℕ) → Main code frames bytes entries pool ends → Main code (moved_to frames place) bytes entries pool ends
+pub moved_main : {code : List ℕ} {frames : Two Frame} {bytes entries : ℕ} {pool ends : List ℕ} (place : ℕ) → Main code frames bytes entries pool ends → Main code (moved_to frames place) bytes entries pool ends
 moved_main {frames = frames} place main = record {
   one_frame = count_kept frames (record { entry = (current frames).entry; place = place }) ∙ main.one_frame;
   in_main = ap (λ (f : Frame). f.entry.0) (current_changed frames (record { entry = (current frames).entry; place = place })) ∙ main.in_main;
@@ -81,7 +81,7 @@ settles {code} {labels} machine registers table stack memory pool ends save lent
 }
 
 -- an instruction that needs no task, frame or pool
-pub inner_steps : {code : List ℕ} {labels : ℕ → Label} {result : RegistersResult} {stack : List ℕ} (w : World) (memory : List ℕ) → Main code w.machine.frames w.machine.pool w.machine.entries w.pool w.ends
+pub inner_steps : {code : List ℕ} {labels : ℕ → Label} {result : Result Registers Refusal} {stack : List ℕ} (w : World) (memory : List ℕ) → Main code w.machine.frames w.machine.pool w.machine.entries w.pool w.ends
     → Good code labels result stack → Steps code labels (inner_result w stack memory result)
 unfolding inner_result
 inner_steps w memory main (goes_on {registers = registers} lent holds) = steps_to (settles w.machine registers w.table _ memory w.pool w.ends w.save lent main holds)

@@ -10,17 +10,10 @@ use borrow.Author.Tests.{lt-leb}
 use Rattle.errors.specs.declared.Refusal.{Refusal}
 use Rattle.values.specs.Values.{to_vec_val, to_u32, raw_tag, is_vec, fat_pointer, to_fat_pointer}
 use Rattle.values.specs.declared.FatPointer.{FatPointer}
-use Rattle.values.specs.declared.ValueResult.{ValueResult}
 use Rattle.memory.specs.Allocation.{offset_aligned, is_element_tag, vector, vector_stored, alloc}
 use Rattle.memory.specs.Allocation as allocation
-use Rattle.memory.specs.declared.AllocResult.{AllocResult}
-use Rattle.memory.specs.declared.AllocResult.TheVariants.{Allocated, NotAllocated}
 use Rattle.memory.specs.Change.{element_size_bytes, inside, changed, mut_vec}
 use Rattle.memory.specs.Change as change
-use Rattle.memory.specs.declared.ChangeResult.{ChangeResult}
-use Rattle.memory.specs.declared.ChangeResult.TheVariants.{Changed, NotChanged}
-use Rattle.memory.specs.declared.SizeResult.TheVariants.{Size}
-use Rattle.inlinevec.specs.declared.Loops.{Loops}
 use Rattle.mechanism.specs.Store.{placed, store, sized, op_m_st, mut_in_use, mutated, mutate_at, mutate, mutate_last, mutate_two, op_m_muta}
 use Rattle.mechanism.specs.declared.Registers.{Registers}
 use Rattle.labels.specs.declared.Kind.{Kind}
@@ -31,7 +24,10 @@ use Rattle.mechanism.proofs.Either.{either}
 use Rattle.safety.specs.Kinds.{HasKind}
 use Rattle.safety.proofs.Kinded.{Kinded, more, lengths, pushed, text_kind, numbers_kind, popped, looked, popped_two}
 use Rattle.safety.proofs.Rules.{Shape, is_turns, is_changes}
-use Rattle.safety.proofs.Holds.{May, Result, is_value, is_refused, registers_at, At, Looping, starts, Good, goes_on, may_end, GoodIn}
+use Rattle.safety.proofs.Holds.{May, Gives, is_value, is_refused, registers_at, At, Looping, starts, Good, goes_on, may_end, GoodIn}
+use Rattle.std.specs.Prelude.{Ok, Err, ⊤, Result}
+use Rattle.inlinevec.specs.declared.Two.{Two}
+use Rattle.inlinevec.specs.declared.Loop.{Loop}
 
 -- a vector's tag and its kind
 pub data TagKind : ℕ → Kind → Type 0 where
@@ -40,17 +36,17 @@ pub data TagKind : ℕ → Kind → Type 0 where
 
 -- ---- allocation
 
-vector_result : {tag : ℕ} {kind : Kind} (used size : ℕ) → TagKind tag kind → Result kind (vector used size tag)
+vector_result : {tag : ℕ} {kind : Kind} (used size : ℕ) → TagKind tag kind → Gives kind (vector used size tag)
 unfolding vector is_element_tag to_vec_val
-vector_result used size is_text = either (Result Text) (ltb (offset_aligned used 4) (2 ^ 25)) _ _ (is_value (text_kind _ size)) (is_refused refl)
-vector_result used size is_numbers = either (Result Numbers) (ltb (offset_aligned used 6) (2 ^ 25)) _ _ (is_value (numbers_kind _ size)) (is_refused refl)
+vector_result used size is_text = either (Gives Text) (ltb (offset_aligned used 4) (2 ^ 25)) _ _ (is_value (text_kind _ size)) (is_refused refl)
+vector_result used size is_numbers = either (Gives Numbers) (ltb (offset_aligned used 6) (2 ^ 25)) _ _ (is_value (numbers_kind _ size)) (is_refused refl)
 
 -- a value of a kind, or a refusal that admission leaves possible
-data Allocates (kind : Kind) : AllocResult → Type 0 where
-  allocated : {value used : ℕ} → HasKind kind value → Allocates kind (Allocated value used)
-  not_allocated : {refusal : Refusal} → May refusal → Allocates kind (NotAllocated refusal)
+data Allocates (kind : Kind) : Result (ℕ × ℕ) Refusal → Type 0 where
+  allocated : {value used : ℕ} → HasKind kind value → Allocates kind (Ok (value, used))
+  not_allocated : {refusal : Refusal} → May refusal → Allocates kind (Err refusal)
 
-stored_good : {kind : Kind} {result : ValueResult} (memory payload : List ℕ) (used size offset : ℕ) → Result kind result → Allocates kind (vector_stored memory payload used size offset result).answer
+stored_good : {kind : Kind} {result : Result ℕ Refusal} (memory payload : List ℕ) (used size offset : ℕ) → Gives kind result → Allocates kind (vector_stored memory payload used size offset result).answer
 unfolding vector_stored
 stored_good {kind} memory payload used size offset (is_value has) =
     either (λ (a : allocation.AfterAllocation). Allocates kind a.answer) (leb (offset + size) (length memory)) _ _ (allocated has) (not_allocated refl)
@@ -62,11 +58,11 @@ alloc_good {tag} memory payload used size tagged = stored_good memory payload us
 
 -- ---- change
 
-data ChangesTo : ChangeResult → Type 0 where
-  is_changed : ChangesTo Changed
-  not_changed : {refusal : Refusal} → May refusal → ChangesTo (NotChanged refusal)
+data ChangesTo : Result ⊤ Refusal → Type 0 where
+  is_changed : ChangesTo (Ok tt)
+  not_changed : {refusal : Refusal} → May refusal → ChangesTo (Err refusal)
 
-sized_change : (memory : List ℕ) (pointer : FatPointer) (index payload width : ℕ) → ChangesTo (changed memory pointer index payload (Size width)).answer
+sized_change : (memory : List ℕ) (pointer : FatPointer) (index payload width : ℕ) → ChangesTo (changed memory pointer index payload (Ok width)).answer
 unfolding changed
 sized_change memory pointer index payload width =
     either (λ (a : change.AfterChange). ChangesTo a.answer) (leb (pointer.size / width) index) _ _ (not_changed refl)
@@ -86,7 +82,7 @@ vector_of value Text e has = (has.0, rw has.1 is_text)
 vector_of value Numbers e has = (has.0, rw has.1 is_numbers)
 
 module _ (code : List ℕ) (labels : ℕ → Label) (next : ℕ) (stack memory : List ℕ) (lent : length stack ≡ 1000) where
-  placed_good : {height : ℕ} {kind : Kind} {kinds : List Kind} {opens : List Open} {answer : AllocResult} (registers : Registers) (after : List ℕ) → At code labels next (kind ∷ kinds) opens → Kinded stack height kinds
+  placed_good : {height : ℕ} {kind : Kind} {kinds : List Kind} {opens : List Open} {answer : Result (ℕ × ℕ) Refusal} (registers : Registers) (after : List ℕ) → At code labels next (kind ∷ kinds) opens → Kinded stack height kinds
       → Looping code labels registers.loops opens → Allocates kind answer → GoodIn code labels (placed stack registers next height after answer)
   unfolding placed
   placed_good {height} registers after at kinded looping (allocated {value} has) =
@@ -103,7 +99,7 @@ module _ (code : List ℕ) (labels : ℕ → Label) (next : ℕ) (stack memory :
       (placed_good registers (alloc memory payload registers.memory size tag).memory at kinded looping (alloc_good memory payload registers.memory size tagged))
 
   -- M_ST, its operand being there
-  pub m_st_good : {height tag : ℕ} {kind : Kind} {kinds left : List Kind} {opens : List Open} (place used : ℕ) (loops : Loops) → height ≤ 1000 → TagKind tag kind → Shape (Turns Number kind) kinds left → At code labels next left opens
+  pub m_st_good : {height tag : ℕ} {kind : Kind} {kinds left : List Kind} {opens : List Open} (place used : ℕ) (loops : Two Loop) → height ≤ 1000 → TagKind tag kind → Shape (Turns Number kind) kinds left → At code labels next left opens
       → Kinded stack height kinds → Looping code labels loops opens → GoodIn code labels (op_m_st stack memory [] (registers_at place height loops used) next tag)
   unfolding op_m_st sized
   m_st_good place used loops few tagged is_turns at (more {height = h} a rest) looping =
@@ -112,13 +108,13 @@ module _ (code : List ℕ) (labels : ℕ → Label) (next : ℕ) (stack memory :
       (store_good (registers_at place (suc h) loops used) [] (to_u32 (get_or stack h 0)) tagged at rest looping))
 
   -- M_MUTA
-  mutated_good : {height : ℕ} {kinds : List Kind} {opens : List Open} {answer : ChangeResult} (registers : Registers) → At code labels next kinds opens → Kinded stack height kinds → Looping code labels registers.loops opens
+  mutated_good : {height : ℕ} {kinds : List Kind} {opens : List Open} {answer : Result ⊤ Refusal} (registers : Registers) → At code labels next kinds opens → Kinded stack height kinds → Looping code labels registers.loops opens
       → ChangesTo answer → Good code labels (mutated registers next height answer) stack
   unfolding mutated
   mutated_good registers at kinded looping is_changed = goes_on lent (starts at kinded looping)
   mutated_good registers at kinded looping (not_changed may) = may_end may
 
-  pub m_muta_good : {height : ℕ} {kinds left : List Kind} {opens : List Open} (place used : ℕ) (loops : Loops) → height ≤ 1000 → Shape Changes kinds left → At code labels next left opens
+  pub m_muta_good : {height : ℕ} {kinds left : List Kind} {opens : List Open} (place used : ℕ) (loops : Two Loop) → height ≤ 1000 → Shape Changes kinds left → At code labels next left opens
       → Kinded stack height kinds → Looping code labels loops opens → Good code labels (op_m_muta stack memory (registers_at place height loops used) next).result stack
   unfolding op_m_muta mutate_two mutate_last mutate mutate_at mut_in_use to_fat_pointer
   m_muta_good place used loops few (is_changes {kind = kind} vectors) at (more a (more b (more {height = h} c rest))) looping =

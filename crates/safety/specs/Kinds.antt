@@ -1,5 +1,5 @@
 -- What it means that a value has a kind, and that a machine's values have the listed kinds.
-use Rattle.std.specs.Prelude.{ℕ, ◌<◌, ◌≡◌, Bool, true, List, length, get_or}
+use Rattle.std.specs.Prelude.{ℕ, ◌<◌, ◌≡◌, Bool, true, List, length, get_or, Option, Some}
 use Rattle.values.specs.Values.{is_scalar, is_vec, raw_tag, to_bool_val}
 use Rattle.values.specs.declared.ValueType.{ValueType}
 use Rattle.values.specs.declared.ValueType.TheVariants as types
@@ -16,12 +16,12 @@ HasKind Text value = (is_vec value ≡ true) × (raw_tag value ≡ 4)
 HasKind Numbers value = (is_vec value ≡ true) × (raw_tag value ≡ 6)
 
 -- the type that a read finds in a value of a kind
-abbrev pub type_of : Kind → ValueType
-type_of Number = types.U32
-type_of Calldata = types.CallData
-type_of Boolean = types.Boolean
-type_of Text = types.String
-type_of Numbers = types.VecU32
+abbrev pub type_of : Kind → Option ValueType
+type_of Number = Some types.U32
+type_of Calldata = Some types.CallData
+type_of Boolean = Some types.Boolean
+type_of Text = Some types.String
+type_of Numbers = Some types.VecU32
 
 -- as many values as kinds, and at each position from the bottom a value of the kind listed there
 pub record Listed (kinds : List Kind) (w : World) : Type 0 where

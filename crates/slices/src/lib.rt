@@ -1,40 +1,32 @@
-// Slices of bytes: a part, and equality, each total; the laws of lists that they and the writes stand on are in proofs/.
+// Slices: an element, a part and equality, each total; the laws of lists that they and the writes stand on are in proofs/.
 #![tactic(auto)]
 
 pub mod places;
 pub mod writes;
 
-ghost use Rattle.std.specs.Prelude.{◌≡◌, take, drop};
+ghost use Rattle.std.specs.Prelude.{◌≡◌, get_or, take, drop};
 ghost use Rattle.slices.specs.Same.{same};
+
+// The element at a place, and another one past the end.
+pub fn get_or<T: Copy>(items: &[T], place: usize, otherwise: T) -> T
+    ensures { result ≡ get_or items.now place otherwise }
+{
+    items.get(place).copied().unwrap_or(otherwise)
+}
 
 // So many bytes from a place on, as far as there are.
 pub fn part<'a>(bytes: &'a [u8], start: usize, size: usize) -> &'a [u8]
     ensures { result.now ≡ take size (drop start bytes.now) }
 {
-    let length = bytes.len();
-    if length <= start {
-        return &bytes[length..];
-    }
-    if length - start < size {
-        return &bytes[start..];
-    }
-    &bytes[start..start + size]
+    let from = start.min(bytes.len());
+    let count = size.min(bytes.len() - from);
+    &bytes[from..from + count]
 }
 
 // Whether two slices hold the same bytes.
+#[tactic(auto, using(crate::proofs::Equality::same_pointwise))]
 pub fn same(left: &[u8], right: &[u8]) -> bool
     ensures { result ≡ same left.now right.now }
 {
-    let count = left.len();
-    if count != right.len() {
-        return false;
-    }
-    let mut i = 0;
-    while i < count {
-        if left[i] != right[i] {
-            return false;
-        }
-        i += 1;
-    }
-    true
+    left == right
 }

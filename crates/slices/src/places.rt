@@ -5,11 +5,5 @@ ghost use Rattle.std.specs.Prelude.{◌≡◌, ◌+◌, min};
 pub fn on(length: usize, place: usize, count: usize) -> usize
     ensures { result ≡ min (place + count) length }
 {
-    if length <= place {
-        return length;
-    }
-    if length - place < count {
-        return length;
-    }
-    place + count
+    place.saturating_add(count).min(length)
 }

@@ -11,21 +11,17 @@ use borrow.Author.Tests.{eqb-true, eqb-false, ltb-true, le-leb, lt-leb}
 use Rattle.errors.specs.declared.Refusal.TheVariants.{UnexpectedEOB}
 use Rattle.bytecode.specs.Opcodes.{PUSH_U32, PUSH_STATE, PUSH_CALLDATA, PUSH_TASK_FIELD, PUSH_MAX_STATES, S_LEN, DO, LOOP, LOOP_INDEX, DROP, DUP, SWAP, EQ, NEQ, LT, GT, JUMP_IF_FALSE, M_STI, MULI, MUL, operand_size}
 use Rattle.bytecode.specs.Operands.{operand, data_size, behind, extent}
-use Rattle.bytecode.specs.declared.OperandResult.{OperandResult}
-use Rattle.bytecode.specs.declared.OperandResult.TheVariants.{Operand, NoOperand}
-use Rattle.bytecode.specs.declared.Extent.{Extent}
-use Rattle.bytecode.specs.declared.Extent.TheVariants as extents
 use Rattle.mechanism.specs.Registers.{OnStack, on_stack, on_memory}
 use Rattle.mechanism.specs.Control.{op_jump_if_false}
 use Rattle.mechanism.specs.Equality.{op_eq}
 use Rattle.mechanism.specs.declared.Registers.{Registers}
-use Rattle.mechanism.specs.declared.RegistersResult.{RegistersResult}
-use Rattle.mechanism.specs.declared.RegistersResult.TheVariants.{Refused}
 use Rattle.mechanism.specs.Cut.{cut}
 use Rattle.mechanism.specs.Operated.{with_operand, push_u32, push_u8, muli, jump_if_false}
 use Rattle.mechanism.specs.Execute.{kept, plain, operated, is_equality, execute, by_extent, instruct}
 use Rattle.mechanism.specs.Steps.{is_outer}
 use Rattle.stepper.specs.Kinds.{among, is_plain, has_number, pushes_byte, with_number, numbered, stored, cut_stored, stored_by, whole_or_cut}
+use Rattle.std.specs.Prelude.{Ok, Err, Result, Option, Some, None}
+use Rattle.errors.specs.declared.Refusal.{Refusal}
 
 -- ---- opcodes among some
 
@@ -131,24 +127,24 @@ module _ (code : List ℕ) (place size : ℕ) (known : Operands size (get_or cod
   behind_is = omega (arith, known.operands, no_data)
 
   -- to the next one
-  whole : place + (size + 1) ≤ length code → extent code place ≡ extents.Next (place + (size + 1))
+  whole : place + (size + 1) ≤ length code → extent code place ≡ Some (place + (size + 1))
   unfolding extent
   whole inside = simp (behind_is, le-leb (place + (size + 1)) (length code) inside)
 
   -- or past the end
-  past : length code < place + (size + 1) → extent code place ≡ extents.Cut
+  past : length code < place + (size + 1) → extent code place ≡ None
   unfolding extent
   past outside = simp (behind_is, lt-leb (place + (size + 1)) (length code) outside)
 
 -- ---- what it does
 
 -- an answer over an operand, and the stack beside it
-operand_on_stack : (stack : List ℕ) (onward : ℕ → RegistersResult) (read : OperandResult)
-    → on_stack (with_operand Refused onward read) stack
-    ≡ with_operand (λ refusal. on_stack (Refused refusal) stack) (λ number. on_stack (onward number) stack) read
+operand_on_stack : (stack : List ℕ) (onward : ℕ → Result Registers Refusal) (read : Result ℕ Refusal)
+    → on_stack (with_operand Err onward read) stack
+    ≡ with_operand (λ refusal. on_stack (Err refusal) stack) (λ number. on_stack (onward number) stack) read
 unfolding with_operand
-operand_on_stack stack onward (Operand number) = refl
-operand_on_stack stack onward (NoOperand refusal) = refl
+operand_on_stack stack onward (Ok number) = refl
+operand_on_stack stack onward (Err refusal) = refl
 
 module _ (stack memory code : List ℕ) (registers : Registers) (next op count : ℕ) where
   executed_plain : is_plain op ≡ true → execute stack memory code registers next op count ≡ kept (plain stack registers next op count) memory
@@ -172,9 +168,9 @@ module _ (stack memory code : List ℕ) (registers : Registers) (next op count :
       at_one (λ (o : ℕ). execute stack memory code registers next o count ≡ kept (push_u8 stack code registers next) memory) op
       (also refl (also refl (also refl none))) e
 
-  cut_byte : among op byte_opcodes ≡ true → cut stack registers op ≡ Refused UnexpectedEOB
+  cut_byte : among op byte_opcodes ≡ true → cut stack registers op ≡ Err UnexpectedEOB
   unfolding cut
-  cut_byte e = at_one (λ (o : ℕ). cut stack registers o ≡ Refused UnexpectedEOB) op (also refl (also refl (also refl none))) e
+  cut_byte e = at_one (λ (o : ℕ). cut stack registers o ≡ Err UnexpectedEOB) op (also refl (also refl (also refl none))) e
 
   executed_number : has_number op ≡ true → execute stack memory code registers next op count ≡ kept (numbered stack code registers next op) memory
   unfolding has_number execute is_equality operated push_u32 muli jump_if_false numbered with_number
@@ -213,14 +209,14 @@ module _ (stack memory code : List ℕ) (registers : Registers) (count : ℕ) wh
     pub instruct_plain : is_plain op_at ≡ true → kept (plain stack registers (registers.place + 1) op_at count) memory ≡ instruct stack memory code registers count
     unfolding instruct by_extent
     instruct_plain e =
-        let reach : extent code registers.place ≡ extents.Next (registers.place + 1) = whole code registers.place 0 (plain_operands op_at e) (omega arith) in
+        let reach : extent code registers.place ≡ Some (registers.place + 1) = whole code registers.place 0 (plain_operands op_at e) (omega arith) in
         simp (reach, executed_plain stack memory code registers (registers.place + 1) op_at count e)
 
     -- EQ and NEQ
     pub instruct_equality : is_equality op_at ≡ true → kept (op_eq stack memory registers (registers.place + 1) (eqb op_at EQ)) memory ≡ instruct stack memory code registers count
     unfolding instruct by_extent
     instruct_equality e =
-        let reach : extent code registers.place ≡ extents.Next (registers.place + 1) = whole code registers.place 0 (equality_operands op_at e) (omega arith) in
+        let reach : extent code registers.place ≡ Some (registers.place + 1) = whole code registers.place 0 (equality_operands op_at e) (omega arith) in
         simp (reach, executed_equality stack memory code registers (registers.place + 1) op_at count e)
 
   -- a byte is pushed
@@ -228,14 +224,14 @@ module _ (stack memory code : List ℕ) (registers : Registers) (count : ℕ) wh
       → kept (push_u8 stack code registers (registers.place + 2)) memory ≡ instruct stack memory code registers count
   unfolding instruct by_extent
   byte_whole inside e =
-      let reach : extent code registers.place ≡ extents.Next (registers.place + 2) = whole code registers.place 1 (byte_operands op_at e) inside in
+      let reach : extent code registers.place ≡ Some (registers.place + 2) = whole code registers.place 1 (byte_operands op_at e) inside in
       simp (reach, executed_byte stack memory code registers (registers.place + 2) op_at count e)
 
   byte_cut : length code < registers.place + 2 → among op_at byte_opcodes ≡ true
       → kept (push_u8 stack code registers (registers.place + 2)) memory ≡ instruct stack memory code registers count
   unfolding instruct by_extent push_u8 operand with_operand
   byte_cut outside e =
-      let reach : extent code registers.place ≡ extents.Cut = past code registers.place 1 (byte_operands op_at e) outside in
+      let reach : extent code registers.place ≡ None = past code registers.place 1 (byte_operands op_at e) outside in
       simp (reach, cut_byte stack memory code registers (registers.place + 2) op_at count e, lt-leb (registers.place + 1 + 1) (length code) (omega arith))
 
   pub instruct_byte : is_outer op_at ≡ false → pushes_byte op_at ≡ true
@@ -251,33 +247,33 @@ module _ (stack memory code : List ℕ) (registers : Registers) (count : ℕ) wh
       → kept (numbered stack code registers (registers.place + 5) op_at) memory ≡ instruct stack memory code registers count
   unfolding instruct by_extent
   instruct_number inside number =
-      let reach : extent code registers.place ≡ extents.Next (registers.place + 5) = whole code registers.place 4 (number_operands op_at number) inside in
+      let reach : extent code registers.place ≡ Some (registers.place + 5) = whole code registers.place 4 (number_operands op_at number) inside in
       simp (reach, executed_number stack memory code registers (registers.place + 5) op_at count number)
 
   pub instruct_cut : length code < registers.place + 5 → has_number op_at ≡ true
       → on_memory (cut stack registers op_at) stack memory ≡ instruct stack memory code registers count
   unfolding instruct by_extent
   instruct_cut outside number =
-      let reach : extent code registers.place ≡ extents.Cut = past code registers.place 4 (number_operands op_at number) outside in
+      let reach : extent code registers.place ≡ None = past code registers.place 4 (number_operands op_at number) outside in
       simp (reach)
 
   -- any other, by the table
   module _ (no_plain : is_plain op_at ≡ false) (no-equality : is_equality op_at ≡ false) (no_number : has_number op_at ≡ false) (no_byte : pushes_byte op_at ≡ false) where
-    other_by : (reach : Extent) → stored_by stack memory code registers op_at reach ≡ by_extent stack memory code registers op_at count reach
+    other_by : (reach : Option ℕ) → stored_by stack memory code registers op_at reach ≡ by_extent stack memory code registers op_at count reach
     unfolding by_extent stored_by
-    other_by (extents.Next next) = sym (executed_other stack memory code registers next op_at count no_plain no-equality no_number no_byte)
-    other_by extents.Cut =
-        ap (λ (result : RegistersResult). on_memory result stack memory) (sym (cut_other stack memory code registers 0 op_at count no_plain no-equality no_number no_byte))
+    other_by (Some next) = sym (executed_other stack memory code registers next op_at count no_plain no-equality no_number no_byte)
+    other_by None =
+        ap (λ (result : Result Registers Refusal). on_memory result stack memory) (sym (cut_other stack memory code registers 0 op_at count no_plain no-equality no_number no_byte))
 
     pub instruct_other : whole_or_cut stack memory code registers op_at ≡ instruct stack memory code registers count
     unfolding instruct whole_or_cut
     instruct_other = other_by (extent code registers.place)
 
   -- the count is read by a plain one alone
-  uncounted_by : (reach : Extent) → is_plain op_at ≡ false → by_extent stack memory code registers op_at 0 reach ≡ by_extent stack memory code registers op_at count reach
+  uncounted_by : (reach : Option ℕ) → is_plain op_at ≡ false → by_extent stack memory code registers op_at 0 reach ≡ by_extent stack memory code registers op_at count reach
   unfolding by_extent
-  uncounted_by (extents.Next next) no_plain = executed_uncounted stack memory code registers next op_at count no_plain
-  uncounted_by extents.Cut no_plain = refl
+  uncounted_by (Some next) no_plain = executed_uncounted stack memory code registers next op_at count no_plain
+  uncounted_by None no_plain = refl
 
   pub instruct_uncounted : is_plain op_at ≡ false → instruct stack memory code registers 0 ≡ instruct stack memory code registers count
   unfolding instruct

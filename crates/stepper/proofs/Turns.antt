@@ -8,9 +8,6 @@ use lib.ListN.{length, get_or}
 use borrow.Author.Tests.{lt-ltb, le-ltb}
 use Rattle.mechanism.specs.Execute.{instruct}
 use Rattle.mechanism.specs.Steps.{is_outer, halted, onward, turn, steps}
-use Rattle.errors.specs.declared.Refusal.{Refusal}
-use Rattle.mechanism.specs.Registers.{on_memory}
-use Rattle.mechanism.specs.declared.RegistersResult.TheVariants.{Next, Refused}
 use Rattle.mechanism.specs.declared.Registers.{Registers}
 use Rattle.mechanism.specs.declared.Halt.TheVariants as halt
 
@@ -33,20 +30,15 @@ module _ (stack memory code : List ℕ) (registers : Registers) (count : ℕ) wh
   at_outer zero some inside outer = absurd (some refl)
   at_outer (suc fuel) some inside outer = simp (lt-ltb _ _ inside, outer)
 
-  -- an instruction that is refused
-  pub refused : (fuel : ℕ) (refusal : Refusal) (s m : List ℕ) → (fuel ≡ 0 → ⊥) → registers.place < length code → is_outer (get_or code registers.place 0) ≡ false
-      → on_memory (Refused refusal) s m ≡ instruct stack memory code registers count
-      → halted (halt.Refused refusal) fuel registers s m ≡ steps fuel stack memory code registers count
-  unfolding steps turn onward
-  refused zero refusal s m some inside inner result = absurd (some refl)
-  refused (suc fuel) refusal s m some inside inner result = simp (lt-ltb _ _ inside, inner, ← result)
-
-  -- an instruction that is finished
-  pub finished : (fuel less : ℕ) (next : Registers) (s m : List ℕ) → (fuel ≡ 0 → ⊥) → less ≡ fuel - 1 → registers.place < length code → is_outer (get_or code registers.place 0) ≡ false
-      → on_memory (Next next) s m ≡ instruct stack memory code registers count
-      → steps less s m code next count ≡ steps fuel stack memory code registers count
-  unfolding steps turn onward
-  finished zero less next s m some one inside inner result = absurd (some refl)
-  finished (suc fuel) less next s m some one inside inner result =
-      let same : less ≡ fuel = omega arith in
-      simp (lt-ltb _ _ inside, inner, ← result, same)
+  -- at an instruction that needs no more
+  pub turned : (fuel : ℕ) → (fuel ≡ 0 → ⊥) → registers.place < length code → is_outer (get_or code registers.place 0) ≡ false
+      → steps fuel stack memory code registers count
+      ≡ onward (λ s m r. steps (fuel - 1) s m code r count) fuel registers
+      (instruct stack memory code registers count).stack
+      (instruct stack memory code registers count).memory
+      (instruct stack memory code registers count).result
+  unfolding steps turn
+  turned zero some inside inner = absurd (some refl)
+  turned (suc fuel) some inside inner =
+      let same : suc fuel - 1 ≡ fuel = omega arith in
+      simp (lt-ltb _ _ inside, inner, same)

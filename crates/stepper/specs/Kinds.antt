@@ -1,10 +1,8 @@
 -- Instructions by what stands behind their opcode: nothing, a byte, a number of four bytes, or what the operand rule says.
-use Rattle.std.specs.Prelude.{ℕ, ◌+◌, Bool, false, cond, ◌||◌, List, [], ◌∷◌, eqb, ltb}
+use Rattle.std.specs.Prelude.{ℕ, ◌+◌, Bool, false, cond, ◌||◌, List, [], ◌∷◌, eqb, ltb, Ok, Err, Result, Option, Some, None}
 use Rattle.errors.specs.declared.Refusal.TheVariants.{UnexpectedEOB}
 use Rattle.bytecode.specs.Opcodes.{PUSH_U32, S_LEN, DO, LOOP, LOOP_INDEX, DROP, DUP, SWAP, LT, GT, JUMP_IF_FALSE, M_STI, M_ST, M_MUTA, MULI, MUL}
 use Rattle.bytecode.specs.Operands.{operand, extent}
-use Rattle.bytecode.specs.declared.Extent.{Extent}
-use Rattle.bytecode.specs.declared.Extent.TheVariants as extents
 use Rattle.mechanism.specs.Registers.{OnStack, on_stack, OnMemory, on_memory, moved}
 use Rattle.mechanism.specs.Stack.{op_push, op_muli}
 use Rattle.mechanism.specs.Control.{op_jump_if_false}
@@ -13,8 +11,7 @@ use Rattle.mechanism.specs.Operated.{with_operand, m_st, m_sti}
 use Rattle.mechanism.specs.Cut.{cut_m_st}
 use Rattle.mechanism.specs.Execute.{changed}
 use Rattle.mechanism.specs.declared.Registers.{Registers}
-use Rattle.mechanism.specs.declared.RegistersResult.{RegistersResult}
-use Rattle.mechanism.specs.declared.RegistersResult.TheVariants.{Next, Refused}
+use Rattle.errors.specs.declared.Refusal.{Refusal}
 
 -- an opcode that is one of some
 abbrev pub among : ℕ → List ℕ → Bool
@@ -48,7 +45,7 @@ with_number stack registers next op number =
 -- with the number that stands behind it, or 2
 unfoldable pub numbered : List ℕ → List ℕ → Registers → ℕ → ℕ → OnStack
 numbered stack code registers next op =
-    with_operand (λ refusal. on_stack (Refused refusal) stack) (with_number stack registers next op) (operand 4 code (registers.place + 1))
+    with_operand (λ refusal. on_stack (Err refusal) stack) (with_number stack registers next op) (operand 4 code (registers.place + 1))
 
 -- any other: over memory, or it does nothing
 unfoldable pub stored : List ℕ → List ℕ → List ℕ → Registers → ℕ → ℕ → OnMemory
@@ -56,15 +53,15 @@ stored stack memory code registers next op =
     cond (eqb op M_STI) (m_sti stack memory code registers next)
     (cond (eqb op M_ST) (m_st stack memory code registers next)
     (cond (eqb op M_MUTA) (changed stack (op_m_muta stack memory registers next))
-    (on_memory (Next (moved registers next registers.height)) stack memory)))
+    (on_memory (Ok (moved registers next registers.height)) stack memory)))
 
 -- such a one that the code's end cuts
-unfoldable pub cut_stored : List ℕ → Registers → ℕ → RegistersResult
-cut_stored stack registers op = cond (eqb op M_ST) (cut_m_st stack registers) (Refused UnexpectedEOB)
+unfoldable pub cut_stored : List ℕ → Registers → ℕ → Result Registers Refusal
+cut_stored stack registers op = cond (eqb op M_ST) (cut_m_st stack registers) (Err UnexpectedEOB)
 
-unfoldable pub stored_by : List ℕ → List ℕ → List ℕ → Registers → ℕ → Extent → OnMemory
-stored_by stack memory code registers op (extents.Next next) = stored stack memory code registers next op
-stored_by stack memory code registers op extents.Cut = on_memory (cut_stored stack registers op) stack memory
+unfoldable pub stored_by : List ℕ → List ℕ → List ℕ → Registers → ℕ → Option ℕ → OnMemory
+stored_by stack memory code registers op (Some next) = stored stack memory code registers next op
+stored_by stack memory code registers op None = on_memory (cut_stored stack registers op) stack memory
 
 unfoldable pub whole_or_cut : List ℕ → List ℕ → List ℕ → Registers → ℕ → OnMemory
 whole_or_cut stack memory code registers op = stored_by stack memory code registers op (extent code registers.place)

@@ -3,47 +3,45 @@ ghost use Rattle.std.specs.Prelude.{◌≡◌};
 ghost use Rattle.mechanism.specs.Registers.{on_stack};
 ghost use Rattle.mechanism.specs.Stack.{op_mul, op_muli};
 
-use inlinevec::PopResult;
+use errors::Refusal;
+use mechanism::Registers;
 use mechanism::stack::{finish, pop_two};
-use mechanism::{PopTwoResult, Registers, RegistersResult};
 
 // MUL.
-pub(crate) fn op_mul(stack: &mut [u64; 1000], registers: Registers, next: usize) -> RegistersResult
+#[tactic(auto, unfolding(mechanism::specs::Stack::op_mul, mechanism::specs::Stack::on_two))]
+pub(crate) fn op_mul(
+    stack: &mut [u64; 1000],
+    registers: Registers,
+    next: usize,
+) -> Result<Registers, Refusal>
     ensures { on_stack result stack.new ≡ op_mul stack.old registers next }
 {
-    match pop_two(stack, registers.height) {
-        PopTwoResult::NotPoppedTwo(refusal) => RegistersResult::Refused(refusal),
-        PopTwoResult::PoppedTwo {
-            first,
-            second,
-            height,
-        } => finish(
-            stack,
-            registers,
-            next,
-            height,
-            values::calculations::mul_checked(first, second),
-        ),
-    }
+    let (first, second, height) = pop_two(stack, registers.height)?;
+    finish(
+        stack,
+        registers,
+        next,
+        height,
+        values::calculations::mul_checked(first, second),
+    )
 }
 
 // MULI.
+#[tactic(auto, unfolding(mechanism::specs::Stack::op_muli, mechanism::specs::Stack::on_one))]
 pub(crate) fn op_muli(
     stack: &mut [u64; 1000],
     registers: Registers,
     next: usize,
     number: u32,
-) -> RegistersResult
+) -> Result<Registers, Refusal>
     ensures { on_stack result stack.new ≡ op_muli stack.old registers next number }
 {
-    match inlinevec::pop(stack, registers.height) {
-        PopResult::NotPopped(refusal) => RegistersResult::Refused(refusal),
-        PopResult::Popped { value, height } => finish(
-            stack,
-            registers,
-            next,
-            height,
-            values::calculations::mul_checked_i(value, number),
-        ),
-    }
+    let (value, height) = inlinevec::pop(stack, registers.height)?;
+    finish(
+        stack,
+        registers,
+        next,
+        height,
+        values::calculations::mul_checked_i(value, number),
+    )
 }

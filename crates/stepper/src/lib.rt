@@ -20,21 +20,26 @@ ghost use Rattle.std.specs.Prelude.{◌≡◌};
 ghost use Rattle.mechanism.specs.Steps.{is_outer, stepped, steps};
 
 use crate::execute::{instruct, is_plain, plain};
-use mechanism::{Halt, Registers, RegistersResult, StepsEnd};
+use bytecode::opcodes::{
+    CALL, END_CALL, PUSH_CALLDATA, S_SAVE, T_CREATE, T_DELETE, T_GET_FIELD, T_SET_FIELD,
+};
+use mechanism::{Halt, Registers, StepsEnd};
 
-// Whether an opcode needs a task, a frame or the pool: PUSH_CALLDATA, T_CREATE to S_SAVE, CALL, END_CALL.
+// Whether an opcode needs a task, a frame or the pool: PUSH_CALLDATA, T_CREATE to S_SAVE, CALL, END_CALL. An arm for each opcode, for
+// the reason that `is_plain` gives.
+#[tactic(auto, unfolding(mechanism::specs::Steps::is_outer))]
 fn is_outer(op: u8) -> bool
     ensures { result ≡ is_outer op }
 {
     match op {
-        0x04 => true,
-        0x07 => true,
-        0x08 => true,
-        0x09 => true,
-        0x0A => true,
-        0x0B => true,
-        0x11 => true,
-        0x12 => true,
+        PUSH_CALLDATA => true,
+        T_CREATE => true,
+        T_GET_FIELD => true,
+        T_SET_FIELD => true,
+        T_DELETE => true,
+        S_SAVE => true,
+        CALL => true,
+        END_CALL => true,
         _ => false,
     }
 }
@@ -51,6 +56,7 @@ fn halted(registers: Registers, left: u64, halt: Halt) -> StepsEnd
 }
 
 // The run of one code from its registers on. A plain instruction has its own place here: where all came together, each carried what only DO and LOOP change.
+#[tactic(auto, unfolding(mechanism::specs::Steps::onward), using(crate::proofs::Turns::ended, crate::proofs::Turns::exhausted, crate::proofs::Turns::at_outer, crate::proofs::Turns::turned, crate::proofs::Reach::instruct_plain, crate::proofs::Reach::instruct_uncounted))]
 pub(crate) fn steps(
     stack: &mut [u64; 1000],
     memory: &mut [u8],
@@ -74,23 +80,19 @@ pub(crate) fn steps(
         }
         if is_plain(op) {
             match plain(stack, at, place + 1, op, count) {
-                RegistersResult::Next(next) => {
+                Ok(next) => {
                     at = next;
                     left -= 1;
                 }
-                RegistersResult::Refused(refusal) => {
-                    return halted(at, left, Halt::Refused(refusal));
-                }
+                Err(refusal) => return halted(at, left, Halt::Refused(refusal)),
             }
         } else {
             match instruct(stack, memory, code, at) {
-                RegistersResult::Next(next) => {
+                Ok(next) => {
                     at = next;
                     left -= 1;
                 }
-                RegistersResult::Refused(refusal) => {
-                    return halted(at, left, Halt::Refused(refusal));
-                }
+                Err(refusal) => return halted(at, left, Halt::Refused(refusal)),
             }
         }
     }

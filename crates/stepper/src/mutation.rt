@@ -2,13 +2,14 @@
 ghost use Rattle.std.specs.Prelude.{◌≡◌};
 ghost use Rattle.mechanism.specs.Store.{changed_in, mut_in_use, changed_to, mutate, op_m_muta};
 
-use inlinevec::LastResult;
+use errors::Refusal;
+use mechanism::Registers;
 use mechanism::stack::{moved, pop_two};
-use mechanism::{PopTwoResult, Registers, RegistersResult};
-use memory::{ChangeResult, ElementIndex};
-use values::{FatPointer, PointerResult};
+use memory::ElementIndex;
+use values::FatPointer;
 
 // An element of a vector changed in the memory in use.
+#[tactic(auto, unfolding(mechanism::specs::Store::mut_in_use))]
 fn mut_in_use(
     memory: &mut [u8],
     used: usize,
@@ -16,7 +17,7 @@ fn mut_in_use(
     index: ElementIndex,
     payload: u32,
     tag: u64,
-) -> ChangeResult
+) -> Result<(), Refusal>
     ensures { changed_in result memory.new ≡ mut_in_use memory.old used pointer index payload tag }
 {
     let length = memory.len();
@@ -27,6 +28,7 @@ fn mut_in_use(
 }
 
 // M_MUTA on a vector: the value on top, the element's index below it, the vector stays.
+#[tactic(auto, unfolding(mechanism::specs::Store::mutate, mechanism::specs::Store::mutate_at, mechanism::specs::Store::mutated))]
 fn mutate(
     memory: &mut [u8],
     registers: Registers,
@@ -35,56 +37,41 @@ fn mutate(
     vector: u64,
     index: ElementIndex,
     payload: u32,
-) -> RegistersResult
+) -> Result<Registers, Refusal>
     ensures { changed_to result memory.new ≡ mutate memory.old registers next height vector index payload }
 {
-    match values::to_fat_pointer(vector) {
-        PointerResult::NoPointer(refusal) => RegistersResult::Refused(refusal),
-        PointerResult::Pointer(pointer) => {
-            match mut_in_use(
-                memory,
-                registers.memory,
-                pointer,
-                index,
-                payload,
-                values::raw_tag(vector),
-            ) {
-                ChangeResult::NotChanged(refusal) => RegistersResult::Refused(refusal),
-                ChangeResult::Changed => RegistersResult::Next(moved(registers, next, height)),
-            }
-        }
-    }
+    let pointer = values::to_fat_pointer(vector)?;
+    mut_in_use(
+        memory,
+        registers.memory,
+        pointer,
+        index,
+        payload,
+        values::raw_tag(vector),
+    )?;
+    Ok(moved(registers, next, height))
 }
 
 // M_MUTA.
+#[tactic(auto, unfolding(mechanism::specs::Store::op_m_muta, mechanism::specs::Store::mutate_two, mechanism::specs::Store::mutate_last))]
 pub(crate) fn op_m_muta(
     stack: &[u64; 1000],
     memory: &mut [u8],
     registers: Registers,
     next: usize,
-) -> RegistersResult
+) -> Result<Registers, Refusal>
     ensures { changed_to result memory.new ≡ op_m_muta stack.now memory.old registers next }
 {
-    match pop_two(stack, registers.height) {
-        PopTwoResult::NotPoppedTwo(refusal) => RegistersResult::Refused(refusal),
-        PopTwoResult::PoppedTwo {
-            first: payload,
-            second: index,
-            height,
-        } => match inlinevec::last(stack, height) {
-            LastResult::NoLast(refusal) => RegistersResult::Refused(refusal),
-            LastResult::Last(vector) => {
-                let element = ElementIndex(values::to_u32(index));
-                mutate(
-                    memory,
-                    registers,
-                    next,
-                    height,
-                    vector,
-                    element,
-                    values::to_u32(payload),
-                )
-            }
-        },
-    }
+    let (payload, index, height) = pop_two(stack, registers.height)?;
+    let vector = inlinevec::last(stack, height)?;
+    let element = ElementIndex(values::to_u32(index));
+    mutate(
+        memory,
+        registers,
+        next,
+        height,
+        vector,
+        element,
+        values::to_u32(payload),
+    )
 }

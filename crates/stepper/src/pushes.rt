@@ -3,17 +3,18 @@ ghost use Rattle.std.specs.Prelude.{◌≡◌};
 ghost use Rattle.mechanism.specs.Registers.{on_stack};
 ghost use Rattle.mechanism.specs.Stack.{op_push, op_dup};
 
-use inlinevec::LastResult;
+use errors::Refusal;
+use mechanism::Registers;
 use mechanism::stack::push_value;
-use mechanism::{Registers, RegistersResult};
 
 // PUSH_U32, PUSH_STATE, PUSH_MAX_STATES, PUSH_TASK_FIELD, S_LEN: a number.
+#[tactic(auto, unfolding(mechanism::specs::Stack::op_push))]
 pub(crate) fn op_push(
     stack: &mut [u64; 1000],
     registers: Registers,
     next: usize,
     number: u32,
-) -> RegistersResult
+) -> Result<Registers, Refusal>
     ensures { on_stack result stack.new ≡ op_push stack.old registers next number }
 {
     push_value(
@@ -26,11 +27,14 @@ pub(crate) fn op_push(
 }
 
 // DUP.
-pub(crate) fn op_dup(stack: &mut [u64; 1000], registers: Registers, next: usize) -> RegistersResult
+#[tactic(auto, unfolding(mechanism::specs::Stack::op_dup, mechanism::specs::Stack::dup_last))]
+pub(crate) fn op_dup(
+    stack: &mut [u64; 1000],
+    registers: Registers,
+    next: usize,
+) -> Result<Registers, Refusal>
     ensures { on_stack result stack.new ≡ op_dup stack.old registers next }
 {
-    match inlinevec::last(stack, registers.height) {
-        LastResult::NoLast(refusal) => RegistersResult::Refused(refusal),
-        LastResult::Last(value) => push_value(stack, registers, next, registers.height, value),
-    }
+    let value = inlinevec::last(stack, registers.height)?;
+    push_value(stack, registers, next, registers.height, value)
 }

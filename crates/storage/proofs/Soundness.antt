@@ -6,12 +6,12 @@ use Rattle.pools.specs.declared.InstructionsRef.{InstructionsRef}
 use Rattle.storage.specs.Storage.{len_after}
 use Rattle.storage.specs.Table.{set_state_at, sound_slot, sound_slots, sound_counts, sound_table}
 use Rattle.storage.specs.Tasks.{blank, stated, no_such_state, with_state, new_task, set_state}
-use Rattle.storage.specs.declared.StateResult.TheVariants.{Set}
 use Rattle.storage.specs.declared.StateChange.{StateChange}
 use Rattle.storage.specs.declared.Task.{Task}
 use Rattle.storage.specs.declared.TaskId.{TaskId}
 use Rattle.storage.specs.declared.TaskState.{TaskState}
 use Rattle.storage.proofs.Laws.{len_after_max}
+use Rattle.std.specs.Prelude.{Ok}
 
 -- ---- one slot after another
 
@@ -149,7 +149,7 @@ state_below state new_state below = by (leb state.len new_state) (leb 255 new_st
     refused : StateChange
     refused = stated state.state (no_such_state new_state)
 
-    by : (none large : Bool) → leb state.len new_state ≡ none → (cond none refused (cond large refused (stated new_state Set))).state < state.len
+    by : (none large : Bool) → leb state.len new_state ≡ none → (cond none refused (cond large refused (stated new_state (Ok tt)))).state < state.len
     by true large test = below
     by false true test = below
     by false false test = leb-false _ _ test

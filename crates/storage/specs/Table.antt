@@ -1,11 +1,11 @@
 -- The table of tasks: a state set in a slot, how many slots are living, and when a table is sound.
-use Rattle.std.specs.Prelude.{ℕ, ◌+◌, Bool, true, cond, ◌&&◌, List, [], ◌∷◌, length, ◌==◌, nat_le, nat_lt, slice_index_or, slice_set}
+use Rattle.std.specs.Prelude.{ℕ, ◌+◌, Bool, true, cond, ◌&&◌, List, [], ◌∷◌, length, ◌==◌, nat_le, nat_lt, slice_index_or, slice_set, Result, ⊤}
 use Rattle.storage.specs.declared.Task.{Task}
-use Rattle.storage.specs.declared.StateResult.{StateResult}
 use Rattle.storage.specs.Tasks.{blank, After, after, set_state}
+use Rattle.errors.specs.declared.Refusal.{Refusal}
 
 -- the task of a slot put into a state, the other slots as they are
-unfoldable pub set_state_at : List Task → ℕ → ℕ → After StateResult (List Task)
+unfoldable pub set_state_at : List Task → ℕ → ℕ → After (Result ⊤ Refusal) (List Task)
 set_state_at table slot new_state =
     after (set_state (slice_index_or table slot blank) new_state).answer (slice_set table slot (set_state (slice_index_or table slot blank) new_state).lent)
 

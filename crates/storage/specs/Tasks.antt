@@ -1,15 +1,12 @@
 -- Task records: the blank one, a new one, a title as a record holds it, and the change of a state.
-use Rattle.std.specs.Prelude.{ℕ, min, true, false, cond, List, ◌++◌, length, take, replicate, ◌==◌, nat_le}
+use Rattle.std.specs.Prelude.{ℕ, min, true, false, cond, List, ◌++◌, length, take, replicate, ◌==◌, nat_le, Ok, Err, Result, ⊤}
 use Rattle.errors.specs.declared.Refusal.TheVariants.{MaxStatesError, InvalidStatus}
 use Rattle.pools.specs.declared.InstructionsRef.{InstructionsRef}
 use Rattle.storage.specs.declared.TaskId.{TaskId}
 use Rattle.storage.specs.declared.TaskState.{TaskState}
 use Rattle.storage.specs.declared.Task.{Task}
-use Rattle.storage.specs.declared.DefaultResult.{DefaultResult}
-use Rattle.storage.specs.declared.DefaultResult.TheVariants.{State, NoState}
-use Rattle.storage.specs.declared.StateResult.{StateResult}
-use Rattle.storage.specs.declared.StateResult.TheVariants.{Set, NotSet}
 use Rattle.storage.specs.declared.StateChange.{StateChange}
+use Rattle.errors.specs.declared.Refusal.{Refusal}
 
 -- the 128 title bytes of no title
 unfoldable pub no_title : List ℕ
@@ -27,22 +24,22 @@ blank = record {
 }
 
 -- the first of so many states: 8 where there is none
-unfoldable pub default_state : ℕ → DefaultResult
-default_state len = cond (len == 0) (NoState MaxStatesError) (State (record { len = len; state = 0 }))
+unfoldable pub default_state : ℕ → Result TaskState Refusal
+default_state len = cond (len == 0) (Err MaxStatesError) (Ok (record { len = len; state = 0 }))
 
 -- a state byte, and the answer to setting it
-abbrev pub stated : ℕ → StateResult → StateChange
+abbrev pub stated : ℕ → Result ⊤ Refusal → StateChange
 stated state answer = record { state = state; answer = answer }
 
 -- 11, with the whole number that was asked for
-abbrev pub no_such_state : ℕ → StateResult
-no_such_state new_state = NotSet (InvalidStatus new_state)
+abbrev pub no_such_state : ℕ → Result ⊤ Refusal
+no_such_state new_state = Err (InvalidStatus new_state)
 
 -- setting a state: refused where the task has no such state, or it is 255
 unfoldable pub with_state : TaskState → ℕ → StateChange
 with_state state new_state =
     cond (nat_le state.len new_state) (stated state.state (no_such_state new_state))
-    (cond (nat_le 255 new_state) (stated state.state (no_such_state new_state)) (stated new_state Set))
+    (cond (nat_le 255 new_state) (stated state.state (no_such_state new_state)) (stated new_state (Ok tt)))
 
 -- a title as a record holds it: its first 128 bytes, zeros behind
 unfoldable pub title_of : List ℕ → List ℕ
@@ -80,5 +77,5 @@ abbrev pub after : {A B : Type 0} → A → B → After A B
 after answer lent = record { answer = answer; lent = lent }
 
 -- a task put into a state: the state byte alone is written
-unfoldable pub set_state : Task → ℕ → After StateResult Task
+unfoldable pub set_state : Task → ℕ → After (Result ⊤ Refusal) Task
 set_state task new_state = after (with_state task.state new_state).answer (restated task (with_state task.state new_state).state)

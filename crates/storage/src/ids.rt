@@ -2,7 +2,7 @@
 ghost use Rattle.std.specs.Prelude.{◌≡◌};
 ghost use Rattle.storage.specs.Storage.{slot_of, find, room, len_after};
 
-use crate::{FindResult, RoomResult, Task, TaskId};
+use crate::{Task, TaskId};
 use errors::Refusal;
 
 // The slot of a task: its id.
@@ -15,27 +15,27 @@ pub fn slot_of(id: TaskId) -> usize
 
 // Whether the record of an id's slot is a task.
 #[tactic(auto, unfolding(crate::specs::Storage::find))]
-pub fn find(task: Task, id: TaskId) -> FindResult
+pub fn find(task: Task, id: TaskId) -> Result<(), Refusal>
     ensures { result ≡ find task id }
 {
     if task.living {
-        return FindResult::Found;
+        return Ok(());
     }
-    FindResult::NotFound(Refusal::TaskNotFound(id.0))
+    Err(Refusal::TaskNotFound(id.0))
 }
 
 // Whether one more task has room: a slot first, then its title.
 #[tactic(auto, unfolding(crate::specs::Storage::room))]
-pub fn room(next_id: TaskId, title_len: usize) -> RoomResult
+pub fn room(next_id: TaskId, title_len: usize) -> Result<(), Refusal>
     ensures { result ≡ room next_id.0 title_len }
 {
     if 256 <= next_id.0 {
-        return RoomResult::NoRoom(Refusal::TableFull);
+        return Err(Refusal::TableFull);
     }
     if 128 < title_len {
-        return RoomResult::NoRoom(Refusal::TitleTooLong);
+        return Err(Refusal::TitleTooLong);
     }
-    RoomResult::Room
+    Ok(())
 }
 
 // What S_LEN pushes once a task with this id was held.
@@ -46,5 +46,5 @@ pub fn len_after(count: u32, id: TaskId) -> u32
     if id.0 < count {
         return count;
     }
-    std::num::wrapping_add_u32(id.0, 1)
+    id.0.wrapping_add(1)
 }

@@ -31,37 +31,9 @@ pub struct Task {
     pub living: bool,
 }
 
-// The state of a task that is new.
-#[derive(Drop)]
-pub enum DefaultResult {
-    State(TaskState),
-    NoState(Refusal),
-}
-
-// What setting a state answers.
-#[derive(Drop)]
-pub enum StateResult {
-    Set,
-    NotSet(Refusal),
-}
-
 // The state byte after setting a state, and the answer.
 #[derive(Drop)]
 pub struct StateChange {
     pub state: u8,
-    pub answer: StateResult,
-}
-
-// What looking a task up answers.
-#[derive(Drop)]
-pub enum FindResult {
-    Found,
-    NotFound(Refusal),
-}
-
-// Whether one more task has room.
-#[derive(Drop)]
-pub enum RoomResult {
-    Room,
-    NoRoom(Refusal),
+    pub answer: Result<(), Refusal>,
 }

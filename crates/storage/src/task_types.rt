@@ -1,5 +1,5 @@
 // Task records: the blank one, and a new one.
-ghost use Rattle.std.specs.Prelude.{◌≡◌, min, length};
+ghost use Rattle.std.specs.Prelude.{◌≡◌};
 ghost use Rattle.storage.specs.Tasks.{blank, title_of, new_task};
 
 use crate::{Task, TaskId, TaskState};
@@ -16,18 +16,8 @@ pub fn blank() -> Task
         state: TaskState { len: 0, state: 0 },
         instructions_ref: InstructionsRef(0),
         title_len: 0,
-        title: [0u8; 128],
+        title: [0; 128],
     }
-}
-
-// The smaller of a length and a title's most.
-fn title_len(length: usize) -> usize
-    ensures { result ≡ min 128 length }
-{
-    if length < 128 {
-        return length;
-    }
-    128
 }
 
 // A title as a record holds it: its first 128 bytes, zeros behind.
@@ -35,7 +25,7 @@ fn title_len(length: usize) -> usize
 pub(crate) fn title_of(bytes: &[u8]) -> [u8; 128]
     ensures { result ≡ title_of bytes.now }
 {
-    let mut title = [0u8; 128];
+    let mut title = [0; 128];
     slices::writes::write(&mut title, bytes, 0);
     title
 }
@@ -55,7 +45,7 @@ pub fn new_task(
         id,
         state,
         instructions_ref,
-        title_len: title_len(title.len()),
+        title_len: title.len().min(128),
         title: title_of(title),
     }
 }

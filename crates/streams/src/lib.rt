@@ -8,13 +8,12 @@ use std::io::{Read, Write};
 use std::rt::{Stdin, Stdout};
 
 // Reads until the room is full or the input ends, and says how many bytes stand at the room's start.
-pub fn read(from: Stdin, room: &mut [u8]) -> io::Result<usize>
+pub fn read(mut from: Stdin, room: &mut [u8]) -> io::Result<usize>
     ensures { IfOk result (λ count. count ≤ length room.new) }
 {
-    let mut input = from;
     let mut count = 0;
     while count < room.len() {
-        let more = input.read(&mut room[count..])?;
+        let more = from.read(&mut room[count..])?;
         if more == 0 {
             return Ok(count);
         }
@@ -24,7 +23,6 @@ pub fn read(from: Stdin, room: &mut [u8]) -> io::Result<usize>
 }
 
 // Writes bytes, as far as standard output takes them.
-pub fn write(to: Stdout, bytes: &[u8]) {
-    let mut output = to;
-    let _ = output.write_all(bytes);
+pub fn write(mut to: Stdout, bytes: &[u8]) {
+    let _ = to.write_all(bytes);
 }

@@ -1,45 +1,23 @@
 // All slots of the lent table one after another: cleared, the living counted, and whether the table is sound.
-ghost use Rattle.std.specs.Prelude.{◌≡◌, ◌&&◌, ◌+◌, ◌<◌, ◌^◌, length, replicate};
+ghost use Rattle.std.specs.Prelude.{◌≡◌, length, replicate};
 ghost use Rattle.storage.specs.Tasks.{blank, after};
-ghost use Rattle.storage.specs.Table.{lives, living_of, sound_slot, sound_counts, sound_table};
+ghost use Rattle.storage.specs.Table.{living_of, sound_slot, sound_counts, sound_table};
 
-use storage::{Task, TaskId};
+use storage::{Task, TaskId, task_types};
 
 // The blank record written to every slot.
 pub fn clear_all(table: &mut [Task])
     ensures { table.new ≡ replicate (length table.old) blank }
 {
-    let mut slot = 0;
-    while slot < table.len() {
-        crate::clear(table, slot);
-        slot = slot + 1;
-    }
-}
-
-// One more, if a task is living.
-#[tactic(auto, unfolding(storage::specs::Table::lives))]
-fn counted(count: usize, task: Task) -> usize
-    requires { count + 1 < 2 ^ 64 }
-    ensures { result ≡ count + lives task }
-{
-    if task.living {
-        return count + 1;
-    }
-    count
+    table.fill(task_types::blank());
 }
 
 // How many slots are living.
+#[tactic(auto, using(crate::proofs::Turns::living_counted))]
 pub fn living(table: &mut [Task]) -> usize
     ensures { after result table.new ≡ after (living_of table.old) table.old }
 {
-    let mut count = 0;
-    let mut slot = 0;
-    while slot < table.len() {
-        let task = crate::get(table, slot);
-        count = counted(count, task);
-        slot = slot + 1;
-    }
-    count
+    table.iter().filter(|task| task.living).count()
 }
 
 // Whether a slot is within its limits.
@@ -47,26 +25,11 @@ pub fn living(table: &mut [Task]) -> usize
 fn sound_slot(task: Task, slot: usize, count: u32) -> bool
     ensures { result ≡ sound_slot task slot count }
 {
-    if task.living {
-        if task.id.0 as usize != slot {
-            return false;
-        }
-        if count <= task.id.0 {
-            return false;
-        }
-        if 128 < task.title_len {
-            return false;
-        }
-        return task.state.state < task.state.len;
-    }
-    true
-}
-
-// Whether what was sound so far still is with one slot more.
-fn still_sound(good: bool, task: Task, slot: usize, count: u32) -> bool
-    ensures { result ≡ (good && sound_slot task slot count) }
-{
-    good && sound_slot(task, slot, count)
+    !task.living
+        || (task.id.0 as usize == slot
+            && task.id.0 < count
+            && task.title_len <= 128
+            && task.state.state < task.state.len)
 }
 
 // Whether the numbers beside a table are within their limits.
@@ -74,28 +37,21 @@ fn still_sound(good: bool, task: Task, slot: usize, count: u32) -> bool
 fn sound_counts(slots: usize, next_id: TaskId, count: u32) -> bool
     ensures { result ≡ sound_counts slots next_id.0 count }
 {
-    if slots != 256 {
-        return false;
-    }
-    if 256 < next_id.0 {
-        return false;
-    }
-    if 256 < count {
-        return false;
-    }
-    count <= next_id.0
+    slots == 256 && next_id.0 <= 256 && count <= 256 && count <= next_id.0
 }
 
 // Whether a table, with the next id and the S_LEN count, is sound.
+#[tactic(auto, unfolding(storage::specs::Table::sound_table), using(crate::proofs::Turns::sound_last))]
 pub fn sound(table: &mut [Task], next_id: TaskId, count: u32) -> bool
     ensures { after result table.new ≡ after (sound_table table.old next_id.0 count) table.old }
 {
-    let mut good = sound_counts(table.len(), next_id, count);
-    let mut slot = 0;
-    while slot < table.len() {
-        let task = crate::get(table, slot);
-        good = still_sound(good, task, slot, count);
-        slot = slot + 1;
+    if !sound_counts(table.len(), next_id, count) {
+        return false;
     }
-    good
+    for (slot, &task) in table.iter().enumerate() {
+        if !sound_slot(task, slot, count) {
+            return false;
+        }
+    }
+    true
 }

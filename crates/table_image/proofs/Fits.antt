@@ -7,13 +7,10 @@ use native.Mathlib.Omega.{arith}
 use lib.Dec.{eqb, ltb}
 use lib.ListN.{length, replicate}
 use borrow.Author.Tests.{eqb-true, eqb-false, ltb-false}
-use Rattle.storage.specs.declared.TaskId.{TaskId}
 use Rattle.errors.specs.declared.Refusal.TheVariants.{EmptyInstructions, PoolFull, WrongPhaseOrUnsound, ProgramTooLong}
 use Rattle.image.specs.Image.{Image, Parsed, sound, bad_at, task_count, read_image}
 use Rattle.image.specs.Reading.{s_len_of, instruction_bytes, image_result}
 use Rattle.image.specs.Table.{load_table}
-use Rattle.image.specs.declared.ImageResult.TheVariants.{Sound, NotSound}
-use Rattle.image.specs.declared.ImageResult.{ImageResult}
 use Rattle.pools.proofs.Interns.{Room, room}
 use Rattle.pools.specs.Pool.{has_room}
 use Rattle.storage.specs.Tasks.{blank}
@@ -23,8 +20,10 @@ use Rattle.table_image.specs.Creation.{image_tests, creation_tests}
 use Rattle.table_image.specs.Loops.{load_records}
 use Rattle.table_image.specs.Tables.{loading}
 use Rattle.table_image.specs.declared.InUse.{InUse}
-use Rattle.table_image.specs.declared.creation.CreationResult.TheVariants.{Fit, Unfit}
-use Rattle.table_image.specs.declared.creation.CreationResult.{CreationResult}
+use Rattle.std.specs.Prelude.{Ok, Err, Result}
+use Rattle.errors.specs.declared.Refusal.{Refusal}
+use Rattle.image.specs.declared.SoundImage.{SoundImage}
+use Rattle.table_image.specs.declared.creation.Fit.{Fit}
 
 -- an image of this next id, with so many tasks, this S_LEN and so many bytes of instructions
 pub record Tested (bytes : List ℕ) (next_id count len instructions : ℕ) : Type 0 where
@@ -36,34 +35,52 @@ pub record Tested (bytes : List ℕ) (next_id count len instructions : ℕ) : Ty
   pub bytes_are : instruction_bytes image.tasks ≡ instructions
 
 -- the answer `Sound` tells of such an image
-pub tested_sound : (bytes : List ℕ) (next_id count len instructions : ℕ) → Sound (record { 0 = next_id }) count len instructions ≡ image_result (read_image bytes) → Tested bytes next_id count len instructions
+pub tested_sound : (bytes : List ℕ) (next_id count len instructions : ℕ) → Ok (record { next_id = record { 0 = next_id }; count = count; s_len = len; instructions = instructions }) ≡ image_result (read_image bytes) → Tested bytes next_id count len instructions
 unfolding image_result
 tested_sound bytes next_id count len instructions e = by (read_image bytes) refl e
   where
-    by : (r : Parsed Image) → read_image bytes ≡ r → Sound (record { 0 = next_id }) count len instructions ≡ image_result r → Tested bytes next_id count len instructions
-    by (sound image) q j = record { image = image; read = q; next_id_is = (let z : ◌≡◌ {A = TaskId} (record { 0 = next_id }) (record { 0 = image.next_id }) = cc in ap (λ (i : TaskId). i.0) (sym z)); count_is = cc; s_len_is = cc; bytes_are = cc }
+    by : (r : Parsed Image) → read_image bytes ≡ r → Ok (record { next_id = record { 0 = next_id }; count = count; s_len = len; instructions = instructions }) ≡ image_result r → Tested bytes next_id count len instructions
+    by (sound image) q j =
+        let same : ◌≡◌ {A = SoundImage} (record { next_id = record { 0 = next_id }; count = count; s_len = len; instructions = instructions })
+        (record { next_id = record { 0 = image.next_id }; count = length image.tasks; s_len = s_len_of image.tasks; instructions = instruction_bytes image.tasks }) = cc in
+        record {
+          image = image;
+          read = q;
+          next_id_is = sym (ap (λ (s : SoundImage). s.next_id.0) same);
+          count_is = sym (ap (λ (s : SoundImage). s.count) same);
+          s_len_is = sym (ap (λ (s : SoundImage). s.s_len) same);
+          bytes_are = sym (ap (λ (s : SoundImage). s.instructions) same);
+        }
     by (bad_at place) q j = absurd (let z : ◌≡◌ {A = ℕ} 0 1 = cc in omega arith)
 
 -- an image that was tested, with room behind the program for its instructions
-record Taken (lent size : ℕ) (answer : ImageResult) (next_id count len : ℕ) : Type 0 where
+record Taken (lent size : ℕ) (answer : Result SoundImage Refusal) (next_id count len : ℕ) : Type 0 where
   instructions : ℕ
-  is_sound : answer ≡ Sound (record { 0 = next_id }) count len instructions
+  is_sound : answer ≡ Ok (record { next_id = record { 0 = next_id }; count = count; s_len = len; instructions = instructions })
   has : Room lent size count instructions
 
-image_taken : (lent size : ℕ) (answer : ImageResult) (next_id count len : ℕ) → image_tests lent size answer ≡ Fit (record { 0 = next_id }) count len → Taken lent size answer next_id count len
+image_taken : (lent size : ℕ) (answer : Result SoundImage Refusal) (next_id count len : ℕ) → image_tests lent size answer ≡ Ok (record { next_id = record { 0 = next_id }; count = count; s_len = len }) → Taken lent size answer next_id count len
 unfolding image_tests
-image_taken lent size (NotSound refusal) next_id count len e = absurd (let z : ◌≡◌ {A = ℕ} 0 1 = cc in omega arith)
-image_taken lent size (Sound n k s i) next_id count len e = by (has_room lent size k i) refl e
+image_taken lent size (Err refusal) next_id count len e = absurd (let z : ◌≡◌ {A = ℕ} 0 1 = cc in omega arith)
+image_taken lent size (Ok image) next_id count len e = by (has_room lent size image.count image.instructions) refl e
   where
-    by : (test : Bool) → has_room lent size k i ≡ test → cond {A = CreationResult} test (Fit n k s) (Unfit PoolFull) ≡ Fit (record { 0 = next_id }) count len → Taken lent size (Sound n k s i) next_id count len
+    by : (test : Bool) → has_room lent size image.count image.instructions ≡ test
+        → cond {A = Result Fit Refusal} test (Ok (record { next_id = image.next_id; count = image.count; s_len = image.s_len })) (Err PoolFull) ≡ Ok (record { next_id = record { 0 = next_id }; count = count; s_len = len })
+        → Taken lent size (Ok image) next_id count len
     by true roomy q =
-        let there : has_room lent size count i ≡ true = cc in
-        record { instructions = i; is_sound = cc; has = room lent size count i there }
+        let same : ◌≡◌ {A = Fit} (record { next_id = image.next_id; count = image.count; s_len = image.s_len }) (record { next_id = record { 0 = next_id }; count = count; s_len = len }) = cc in
+        let counted : image.count ≡ count = ap (λ (f : Fit). f.count) same in
+        let there : has_room lent size count image.instructions ≡ true = rw (← counted) roomy in
+        record {
+          instructions = image.instructions;
+          is_sound = ap (λ (f : Fit). Ok (record { next_id = f.next_id; count = f.count; s_len = f.s_len; instructions = image.instructions })) same;
+          has = room lent size count image.instructions there;
+        }
     by false full q = absurd (let z : ◌≡◌ {A = ℕ} 0 1 = cc in omega arith)
 
-tests_taken : (table none long : Bool) (rest : CreationResult) (next_id count len : ℕ)
-    → cond table (cond none (Unfit EmptyInstructions) (cond long (Unfit ProgramTooLong) rest)) (Unfit WrongPhaseOrUnsound) ≡ Fit (record { 0 = next_id }) count len
-    → (table ≡ true) × (none ≡ false) × (long ≡ false) × (rest ≡ Fit (record { 0 = next_id }) count len)
+tests_taken : (table none long : Bool) (rest : Result Fit Refusal) (next_id count len : ℕ)
+    → cond table (cond none (Err EmptyInstructions) (cond long (Err ProgramTooLong) rest)) (Err WrongPhaseOrUnsound) ≡ Ok (record { next_id = record { 0 = next_id }; count = count; s_len = len })
+    → (table ≡ true) × (none ≡ false) × (long ≡ false) × (rest ≡ Ok (record { next_id = record { 0 = next_id }; count = count; s_len = len }))
 tests_taken true false false rest next_id count len e = (refl, refl, refl, e)
 tests_taken true false true rest next_id count len e = absurd (let z : ◌≡◌ {A = ℕ} 0 1 = cc in omega arith)
 tests_taken true true long rest next_id count len e = absurd (let z : ◌≡◌ {A = ℕ} 0 1 = cc in omega arith)
@@ -79,7 +96,7 @@ pub record Fits (slots lent size : ℕ) (bytes : List ℕ) (next_id count len : 
   pub room : Room lent size count instructions
 
 -- the answer `Fit` tells of them
-pub fits : (slots lent size : ℕ) (bytes : List ℕ) (next_id count len : ℕ) → creation_tests slots lent size bytes ≡ Fit (record { 0 = next_id }) count len → Fits slots lent size bytes next_id count len
+pub fits : (slots lent size : ℕ) (bytes : List ℕ) (next_id count len : ℕ) → creation_tests slots lent size bytes ≡ Ok (record { next_id = record { 0 = next_id }; count = count; s_len = len }) → Fits slots lent size bytes next_id count len
 unfolding creation_tests
 fits slots lent size bytes next_id count len e =
     let t = tests_taken (eqb slots 256) (eqb size 0) (ltb 65535 size) (image_tests lent size (image_result (read_image bytes))) next_id count len e in

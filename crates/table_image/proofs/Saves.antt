@@ -19,17 +19,13 @@ use Rattle.image.specs.Walking.{on}
 use Rattle.image.specs.Slots.{saved_task, title_in, task_in}
 use Rattle.image.specs.Table.{living_tasks, refusal_by, task_refusal, or_else, first_refusal, image_of_tasks, saved_table, saved_over, saved_unless, save_tasks, save_table}
 use Rattle.image.specs.Writing.{put, puts, size_of, sized, measure, added, measure_slot, save_slot}
-use Rattle.image.specs.declared.SaveResult.TheVariants.{Saved, NotSaved}
-use Rattle.image.specs.declared.SizeResult.{SizeResult}
-use Rattle.image.specs.declared.SizeResult.TheVariants.{Size, NoSize}
 use Rattle.pools.specs.Pool.{bounds}
-use Rattle.pools.specs.declared.BoundsResult.{BoundsResult}
-use Rattle.pools.specs.declared.BoundsResult.TheVariants.{Bounds, NoBounds}
 use Rattle.slices.proofs.SlicesWrites.{sets_append}
 use Rattle.storage.specs.Tasks.{blank}
 use Rattle.storage.specs.declared.Task.{Task}
 use Rattle.table_image.specs.Loops.{Measured, measured, refused, count_slot, grown, measures, save_slots, saved_as, save_by_slots}
 use Rattle.utf8.specs.Utf8.{valid}
+use Rattle.std.specs.Prelude.{Ok, Err, Result}
 
 -- a test that holds picks the first
 taken : {A : Type 0} (a b : A) (test : Bool) → test ≡ true → cond test a b ≡ a
@@ -39,22 +35,22 @@ taken a b false held = absurd (true≢false (sym held))
 -- ---- one task
 
 -- a size, where there is no refusal
-abbrev pub size_unless : Option Refusal → ℕ → SizeResult
-size_unless none size = Size size
-size_unless (some refusal) size = NoSize refusal
+abbrev pub size_unless : Option Refusal → ℕ → Result ℕ Refusal
+size_unless none size = Ok size
+size_unless (some refusal) size = Err refusal
 
 -- a task is measured as it is refused, and its record has the size
 measure_is : (pool ends : List ℕ) (entries : ℕ) (slot : Task) → measure pool ends entries slot ≡ size_unless (task_refusal ends entries slot) (length (record_of 2 (body (task_in pool ends slot))))
 unfolding measure sized size_of task_refusal refusal_by task_in saved_task
 measure_is pool ends entries slot = by (bounds ends entries slot.instructions_ref)
   where
-    text : (test : Bool) (size : ℕ) → cond test (Size size) (NoSize BytesToStringConversionError) ≡ size_unless (cond test none (some BytesToStringConversionError)) size
+    text : (test : Bool) (size : ℕ) → cond test (Ok size) (Err BytesToStringConversionError) ≡ size_unless (cond test none (some BytesToStringConversionError)) size
     text true size = refl
     text false size = refl
 
-    by : (found : BoundsResult) → sized (task_in pool ends slot) found ≡ size_unless (refusal_by (title_in slot) found) (length (record_of 2 (body (task_in pool ends slot))))
-    by (NoBounds refusal) = refl
-    by (Bounds start end) = text (valid (title_in slot)) (length (record_of 2 (body (task_in pool ends slot))))
+    by : (found : Result (ℕ × ℕ) Refusal) → sized (task_in pool ends slot) found ≡ size_unless (refusal_by (title_in slot) found) (length (record_of 2 (body (task_in pool ends slot))))
+    by (Err refusal) = refl
+    by (Ok (start, end)) = text (valid (title_in slot)) (length (record_of 2 (body (task_in pool ends slot))))
 
 -- the tasks of the image
 abbrev tasks_of : List ℕ → List ℕ → List Task → List ImageTask
@@ -86,10 +82,10 @@ tells_same : {limit count whole number size : ℕ} {refusal : Option Refusal} {m
 tells_same p q tells_refusal = tells_refusal
 tells_same p q (tells_size n s) = tells_size (n ∙ p) (s ∙ q)
 
-grown_alike : (r : SizeResult) {others more : ℕ → Measured} → ((size : ℕ) → others size ≡ more size) → grown r others ≡ grown r more
+grown_alike : (r : Result ℕ Refusal) {others more : ℕ → Measured} → ((size : ℕ) → others size ≡ more size) → grown r others ≡ grown r more
 unfolding grown
-grown_alike (NoSize refusal) same = refl
-grown_alike (Size size) same = same size
+grown_alike (Err refusal) same = refl
+grown_alike (Ok size) same = same size
 
 module _ (pool ends : List ℕ) (entries limit : ℕ) where
   -- a slot before the others moves each by one
@@ -237,7 +233,7 @@ module _ (next_id : ℕ) (table : List Task) (pool ends save : List ℕ) where
   image = record { next_id = next_id; tasks = tasks_of pool ends table }
 
   fitting : (size : ℕ) → min size (length save + 1) ≡ min (14 + length (records (tasks_of pool ends table))) (length save + 1) → (fits : Bool) → leb size (length save) ≡ fits
-      → cond fits (saved_table (Saved size) (save_slots (length table) 0 table pool ends 14 (puts save 0 (header next_id (length (living_tasks table)))).save).save) (saved_table (NotSaved SaveBufferTooShort) save)
+      → cond fits (saved_table (Ok size) (save_slots (length table) 0 table pool ends 14 (puts save 0 (header next_id (length (living_tasks table)))).save).save) (saved_table (Err SaveBufferTooShort) save)
       ≡ saved_over (written image) save
   unfolding saved_over
   fitting size near true e =

@@ -1,13 +1,10 @@
 -- How the code saves a table and loads one: slot after slot, record after record. Nobody has to believe it: `save_table_is` and `load_table_is` say that it is image's Table.
-use Rattle.std.specs.Prelude.{ℕ, zero, suc, ◌+◌, ◌-◌, cond, List, length, get_or, set, take, drop, leb}
+use Rattle.std.specs.Prelude.{ℕ, zero, suc, ◌+◌, ◌-◌, cond, List, length, get_or, set, take, drop, leb, Ok, Err, Result}
 use Rattle.errors.specs.declared.Refusal.{Refusal}
 use Rattle.errors.specs.declared.Refusal.TheVariants.{SaveBufferTooShort}
 use Rattle.pools.specs.Pool.{Pooled, interned}
 use Rattle.storage.specs.declared.Task.{Task}
 use Rattle.storage.specs.Tasks.{blank}
-use Rattle.image.specs.declared.SizeResult.{SizeResult}
-use Rattle.image.specs.declared.SizeResult.TheVariants.{Size, NoSize}
-use Rattle.image.specs.declared.SaveResult.TheVariants.{Saved, NotSaved}
 use Rattle.image.specs.declared.Record.{Record}
 use Rattle.image.specs.declared.LoadedRecord.{LoadedRecord}
 use Rattle.image.specs.Image.{header, task_count}
@@ -27,9 +24,9 @@ unfoldable pub count_slot : Task → ℕ → ℕ
 count_slot slot count = cond slot.living (count + 1) count
 
 -- after a slot the others
-unfoldable pub grown : SizeResult → (ℕ → Measured) → Measured
-grown (NoSize refusal) others = refused refusal
-grown (Size size) others = others size
+unfoldable pub grown : Result ℕ Refusal → (ℕ → Measured) → Measured
+grown (Err refusal) others = refused refusal
+grown (Ok size) others = others size
 
 -- n slots from the i-th on
 unfoldable pub measures : ℕ → ℕ → List Task → List ℕ → List ℕ → ℕ → ℕ → ℕ → ℕ → Measured
@@ -46,11 +43,11 @@ save_slots (suc n) i table pool ends place save =
 
 -- where the image fits, the header and the records are written, and bytes past them stay; else 24
 unfoldable pub saved_as : ℕ → List Task → List ℕ → List ℕ → List ℕ → Measured → SavedTable
-saved_as next_id table pool ends save (refused refusal) = saved_table (NotSaved refusal) save
+saved_as next_id table pool ends save (refused refusal) = saved_table (Err refusal) save
 saved_as next_id table pool ends save (measured size count) =
     cond (leb size (length save))
-    (saved_table (Saved size) (save_slots (length table) 0 table pool ends 14 (puts save 0 (header next_id count)).save).save)
-    (saved_table (NotSaved SaveBufferTooShort) save)
+    (saved_table (Ok size) (save_slots (length table) 0 table pool ends 14 (puts save 0 (header next_id count)).save).save)
+    (saved_table (Err SaveBufferTooShort) save)
 
 -- all slots measured, then all saved; sizes are counted no further than one past the buffer
 unfoldable pub save_by_slots : ℕ → List Task → List ℕ → List ℕ → ℕ → List ℕ → SavedTable

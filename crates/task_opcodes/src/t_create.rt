@@ -3,14 +3,13 @@ ghost use Rattle.std.specs.Prelude.{◌≡◌};
 ghost use Rattle.mechanism.specs.Create.{new, titled, op_t_create};
 
 use crate::titles::within;
-use inlinevec::PopResult;
-use mechanism::changes::{put, refused};
+use errors::Refusal;
 use mechanism::stack::{moved, pop_two};
-use mechanism::{PopTwoResult, Registers, RegistersAndChange, RegistersResult};
-use memory::ReadResult;
+use mechanism::{Change, Registers};
 use pools::InstructionsRef;
-use storage::{DefaultResult, RoomResult, Task, TaskId, TaskState};
-use values::{FatPointer, PointerResult};
+use storage::task_types::new_task;
+use storage::{TaskId, TaskState};
+use values::FatPointer;
 
 // The new task, where its title lies in the memory in use and the table has room for it.
 #[tactic(auto, unfolding(mechanism::specs::Create::new, mechanism::specs::Create::if_within, mechanism::specs::Create::with_room))]
@@ -21,23 +20,16 @@ fn new(
     id: TaskId,
     state: TaskState,
     instructions_ref: InstructionsRef,
-    task: Task,
-) -> RegistersAndChange
-    ensures { result ≡ new memory.now after pointer id state instructions_ref task }
+) -> Result<(Registers, Change), Refusal>
+    ensures { result ≡ new memory.now after pointer id state instructions_ref }
 {
-    match within(memory, pointer) {
-        ReadResult::NotReadable(refusal) => refused(task, refusal),
-        ReadResult::Readable => match storage::ids::room(id, pointer.size as usize) {
-            RoomResult::NoRoom(refusal) => refused(task, refusal),
-            RoomResult::Room => {
-                let title = memory::reads::get_slice_bytes(memory, pointer);
-                RegistersAndChange {
-                    result: RegistersResult::Next(after),
-                    change: put(storage::task_types::new_task(id, title, state, instructions_ref)),
-                }
-            }
-        },
-    }
+    within(memory, pointer)?;
+    storage::ids::room(id, pointer.size as usize)?;
+    let title = memory::reads::get_slice_bytes(memory, pointer);
+    Ok((
+        after,
+        Change::Put(new_task(id, title, state, instructions_ref)),
+    ))
 }
 
 // The title is popped last, and must be a vector.
@@ -49,28 +41,17 @@ fn titled(
     id: TaskId,
     state: TaskState,
     instructions_ref: InstructionsRef,
-    task: Task,
-) -> RegistersAndChange
-    ensures { result ≡ titled stack.now memory.now before id state instructions_ref task }
+) -> Result<(Registers, Change), Refusal>
+    ensures { result ≡ titled stack.now memory.now before id state instructions_ref }
 {
-    match inlinevec::pop(stack, before.height) {
-        PopResult::NotPopped(refusal) => refused(task, refusal),
-        PopResult::Popped { value, height } => match values::to_fat_pointer(value) {
-            PointerResult::NoPointer(refusal) => refused(task, refusal),
-            PointerResult::Pointer(pointer) => new(
-                slices::part(memory, 0, before.memory),
-                moved(before, before.place, height),
-                pointer,
-                id,
-                state,
-                instructions_ref,
-                task,
-            ),
-        },
-    }
+    let (value, height) = inlinevec::pop(stack, before.height)?;
+    let pointer = values::to_fat_pointer(value)?;
+    let used = slices::part(memory, 0, before.memory);
+    let after = moved(before, before.place, height);
+    new(used, after, pointer, id, state, instructions_ref)
 }
 
-// T_CREATE: the reference is on top, the state count below it, then the title; the task of the next id's slot is given.
+// T_CREATE: the reference is on top, the state count below it, then the title.
 #[tactic(auto, unfolding(mechanism::specs::Create::op_t_create, mechanism::specs::Create::with_state, mechanism::specs::Create::with_two))]
 pub fn op_t_create(
     stack: &[u64; 1000],
@@ -78,27 +59,18 @@ pub fn op_t_create(
     registers: Registers,
     next: usize,
     next_id: TaskId,
-    task: Task,
-) -> RegistersAndChange
-    ensures { result ≡ op_t_create stack.now memory.now registers next next_id.0 task }
+) -> Result<(Registers, Change), Refusal>
+    ensures { result ≡ op_t_create stack.now memory.now registers next next_id.0 }
 {
-    match pop_two(stack, registers.height) {
-        PopTwoResult::NotPoppedTwo(refusal) => refused(task, refusal),
-        PopTwoResult::PoppedTwo {
-            first: reference,
-            second: count,
-            height,
-        } => match storage::states::default_state((values::to_u32(count) % 256) as u8) {
-            DefaultResult::NoState(refusal) => refused(task, refusal),
-            DefaultResult::State(state) => titled(
-                stack,
-                memory,
-                moved(registers, next, height),
-                next_id,
-                state,
-                InstructionsRef(values::to_u32(reference)),
-                task,
-            ),
-        },
-    }
+    let (reference, count, height) = pop_two(stack, registers.height)?;
+    let state = storage::states::default_state((values::to_u32(count) % 256) as u8)?;
+    let instructions_ref = InstructionsRef(values::to_u32(reference));
+    titled(
+        stack,
+        memory,
+        moved(registers, next, height),
+        next_id,
+        state,
+        instructions_ref,
+    )
 }

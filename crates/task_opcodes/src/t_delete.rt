@@ -2,11 +2,11 @@
 ghost use Rattle.std.specs.Prelude.{◌≡◌};
 ghost use Rattle.mechanism.specs.Create.{op_t_delete};
 
-use inlinevec::PopResult;
-use mechanism::changes::{put, refused};
+use errors::Refusal;
 use mechanism::stack::moved;
-use mechanism::{Registers, RegistersAndChange, RegistersResult};
-use storage::{FindResult, Task, TaskId};
+use mechanism::{Change, Registers};
+use storage::task_types::blank;
+use storage::{Task, TaskId};
 
 // T_DELETE: the id is on top; the task of its slot is given.
 #[tactic(auto, unfolding(mechanism::specs::Create::op_t_delete, mechanism::specs::Create::delete_found, mechanism::specs::Create::delete_popped))]
@@ -15,19 +15,10 @@ pub fn op_t_delete(
     registers: Registers,
     next: usize,
     task: Task,
-) -> RegistersAndChange
+) -> Result<(Registers, Change), Refusal>
     ensures { result ≡ op_t_delete stack.now registers next task }
 {
-    match inlinevec::pop(stack, registers.height) {
-        PopResult::NotPopped(refusal) => refused(task, refusal),
-        PopResult::Popped { value, height } => {
-            match storage::ids::find(task, TaskId(values::to_u32(value))) {
-                FindResult::NotFound(refusal) => refused(task, refusal),
-                FindResult::Found => RegistersAndChange {
-                    result: RegistersResult::Next(moved(registers, next, height)),
-                    change: put(storage::task_types::blank()),
-                },
-            }
-        }
-    }
+    let (value, height) = inlinevec::pop(stack, registers.height)?;
+    storage::ids::find(task, TaskId(values::to_u32(value)))?;
+    Ok((moved(registers, next, height), Change::Put(blank())))
 }

@@ -5,54 +5,40 @@ ghost use Rattle.mechanism.specs.Fields.{owner, field_of, get_field, op_t_get_fi
 
 use crate::titles::{title_length, within};
 use errors::Refusal;
-use inlinevec::PopResult;
-use mechanism::changes::{put, refused, restate};
 use mechanism::stack::{moved, push_value};
 use mechanism::store::store;
-use mechanism::{FieldResult, Registers, RegistersAndChange, RegistersResult};
-use memory::ReadResult;
+use mechanism::{Change, Registers};
 use pools::InstructionsRef;
-use storage::{FindResult, StateResult, Task, TaskId};
-use values::{FatPointer, PointerResult};
+use storage::task_types::new_task;
+use storage::{Task, TaskId};
+use values::FatPointer;
 
 // The task's id below the field, and whether the task of its slot is living.
 #[tactic(auto, unfolding(mechanism::specs::Fields::owner, mechanism::specs::Fields::if_found, mechanism::specs::Fields::owner_popped))]
-fn owner(stack: &[u64; 1000], height: usize, task: Task, field: u32) -> FieldResult
+fn owner(
+    stack: &[u64; 1000],
+    height: usize,
+    task: Task,
+    field: u32,
+) -> Result<(u32, usize), Refusal>
     ensures { result ≡ owner stack.now height task field }
 {
-    match inlinevec::pop(stack, height) {
-        PopResult::NotPopped(refusal) => FieldResult::NoField(refusal),
-        PopResult::Popped {
-            value,
-            height: below,
-        } => match storage::ids::find(task, TaskId(values::to_u32(value))) {
-            FindResult::NotFound(refusal) => FieldResult::NoField(refusal),
-            FindResult::Found => FieldResult::Field {
-                field,
-                height: below,
-            },
-        },
-    }
+    let (value, below) = inlinevec::pop(stack, height)?;
+    storage::ids::find(task, TaskId(values::to_u32(value)))?;
+    Ok((field, below))
 }
 
 // The field on top of the stack, and the task below it.
 #[tactic(auto, unfolding(mechanism::specs::Fields::field_of, mechanism::specs::Fields::field_popped))]
-fn field_of(stack: &[u64; 1000], height: usize, task: Task) -> FieldResult
+fn field_of(stack: &[u64; 1000], height: usize, task: Task) -> Result<(u32, usize), Refusal>
     ensures { result ≡ field_of stack.now height task }
 {
-    match inlinevec::pop(stack, height) {
-        PopResult::NotPopped(refusal) => FieldResult::NoField(refusal),
-        PopResult::Popped {
-            value,
-            height: below,
-        } => {
-            let field = values::to_u32(value);
-            if 2 < field {
-                return FieldResult::NoField(Refusal::InvalidTaskField(field));
-            }
-            owner(stack, below, task, field)
-        }
+    let (value, below) = inlinevec::pop(stack, height)?;
+    let field = values::to_u32(value);
+    if 2 < field {
+        return Err(Refusal::InvalidTaskField(field));
     }
+    owner(stack, below, task, field)
 }
 
 // A field's value at a height of the stack: a title is a new text.
@@ -65,22 +51,15 @@ fn get_field(
     height: usize,
     field: u32,
     task: Task,
-) -> RegistersResult
+) -> Result<Registers, Refusal>
     ensures { on_memory result stack.new memory.new ≡ get_field stack.old memory.old registers next height field task }
 {
     if field == 0 {
         let title = task.title;
         let length = title_length(task);
-        return store(
-            stack,
-            memory,
-            slices::part(&title, 0, length),
-            registers,
-            next,
-            height,
-            (length % 65536) as u16,
-            4,
-        );
+        let bytes = slices::part(&title, 0, length);
+        let size = (length % 65536) as u16;
+        return store(stack, memory, bytes, registers, next, height, size, 4);
     }
     if field == 1 {
         let state = values::boxing::to_u32_val(task.state.state as u32);
@@ -98,57 +77,40 @@ pub fn op_t_get_field(
     registers: Registers,
     next: usize,
     task: Task,
-) -> RegistersResult
+) -> Result<Registers, Refusal>
     ensures { on_memory result stack.new memory.new ≡ op_t_get_field stack.old memory.old registers next task }
 {
-    match field_of(stack, registers.height, task) {
-        FieldResult::NoField(refusal) => RegistersResult::Refused(refusal),
-        FieldResult::Field { field, height } => {
-            get_field(stack, memory, registers, next, height, field, task)
-        }
-    }
+    let (field, height) = field_of(stack, registers.height, task)?;
+    get_field(stack, memory, registers, next, height, field, task)
 }
 
 // A title, where the vector lies in the memory in use and is not too long.
 #[tactic(auto, unfolding(mechanism::specs::Fields::set_title, mechanism::specs::Fields::title_within))]
-fn set_title(memory: &[u8], after: Registers, pointer: FatPointer, task: Task) -> RegistersAndChange
+fn set_title(
+    memory: &[u8],
+    after: Registers,
+    pointer: FatPointer,
+    task: Task,
+) -> Result<(Registers, Change), Refusal>
     ensures { result ≡ set_title memory.now after pointer task }
 {
-    match within(memory, pointer) {
-        ReadResult::NotReadable(refusal) => refused(task, refusal),
-        ReadResult::Readable => {
-            if 128 < pointer.size {
-                return refused(task, Refusal::TitleTooLong);
-            }
-            let title = memory::reads::get_slice_bytes(memory, pointer);
-            let titled = storage::task_types::new_task(
-                task.id,
-                title,
-                task.state,
-                task.instructions_ref,
-            );
-            RegistersAndChange {
-                result: RegistersResult::Next(after),
-                change: put(titled),
-            }
-        }
+    within(memory, pointer)?;
+    if 128 < pointer.size {
+        return Err(Refusal::TitleTooLong);
     }
+    let title = memory::reads::get_slice_bytes(memory, pointer);
+    let titled = new_task(task.id, title, task.state, task.instructions_ref);
+    Ok((after, Change::Put(titled)))
 }
 
 // A state, where the task has it.
 #[tactic(auto, unfolding(mechanism::specs::Fields::set_state, mechanism::specs::Fields::state_answered))]
-fn set_state(after: Registers, state: u32, task: Task) -> RegistersAndChange
+fn set_state(after: Registers, state: u32, task: Task) -> Result<(Registers, Change), Refusal>
     ensures { result ≡ set_state after state task }
 {
     let stated = storage::states::with_state(task.state, state);
-    let answer = stated.answer;
-    match answer {
-        StateResult::NotSet(refusal) => refused(task, refusal),
-        StateResult::Set => RegistersAndChange {
-            result: RegistersResult::Next(after),
-            change: restate(task, state),
-        },
-    }
+    stated.answer?;
+    Ok((after, Change::Restate(state)))
 }
 
 // Instructions, which are not tested.
@@ -157,15 +119,12 @@ fn set_instructions(
     after: Registers,
     instructions_ref: InstructionsRef,
     task: Task,
-) -> RegistersAndChange
+) -> Result<(Registers, Change), Refusal>
     ensures { result ≡ set_instructions after instructions_ref task }
 {
     let mut changed = task;
     changed.instructions_ref = instructions_ref;
-    RegistersAndChange {
-        result: RegistersResult::Next(after),
-        change: put(changed),
-    }
+    Ok((after, Change::Put(changed)))
 }
 
 // A field's new value.
@@ -176,14 +135,12 @@ fn set_field(
     field: u32,
     value: u64,
     task: Task,
-) -> RegistersAndChange
+) -> Result<(Registers, Change), Refusal>
     ensures { result ≡ set_field memory.now after field value task }
 {
     if field == 0 {
-        return match values::to_fat_pointer(value) {
-            PointerResult::NoPointer(refusal) => refused(task, refusal),
-            PointerResult::Pointer(pointer) => set_title(memory, after, pointer, task),
-        };
+        let pointer = values::to_fat_pointer(value)?;
+        return set_title(memory, after, pointer, task);
     }
     if field == 1 {
         return set_state(after, values::to_u32(value), task);
@@ -199,20 +156,11 @@ pub fn op_t_set_field(
     registers: Registers,
     next: usize,
     task: Task,
-) -> RegistersAndChange
+) -> Result<(Registers, Change), Refusal>
     ensures { result ≡ op_t_set_field stack.now memory.now registers next task }
 {
-    match field_of(stack, registers.height, task) {
-        FieldResult::NoField(refusal) => refused(task, refusal),
-        FieldResult::Field { field, height } => match inlinevec::pop(stack, height) {
-            PopResult::NotPopped(refusal) => refused(task, refusal),
-            PopResult::Popped {
-                value,
-                height: below,
-            } => {
-                let used = slices::part(memory, 0, registers.memory);
-                set_field(used, moved(registers, next, below), field, value, task)
-            }
-        },
-    }
+    let (field, height) = field_of(stack, registers.height, task)?;
+    let (value, below) = inlinevec::pop(stack, height)?;
+    let used = slices::part(memory, 0, registers.memory);
+    set_field(used, moved(registers, next, below), field, value, task)
 }

@@ -3,19 +3,18 @@ ghost use Rattle.std.specs.Prelude.{◌≡◌};
 ghost use Rattle.machine.specs.Titles.{within, title_length};
 
 use errors::Refusal;
-use memory::ReadResult;
 use storage::Task;
 use values::FatPointer;
 
 // Whether a vector lies in the memory in use.
 #[tactic(auto, unfolding(machine::specs::Titles::within, memory::specs::Change::inside))]
-pub(crate) fn within(memory: &[u8], pointer: FatPointer) -> ReadResult
+pub(crate) fn within(memory: &[u8], pointer: FatPointer) -> Result<(), Refusal>
     ensures { result ≡ within memory.now pointer }
 {
     if pointer.offset as usize + pointer.size as usize <= memory.len() {
-        return ReadResult::Readable;
+        return Ok(());
     }
-    ReadResult::NotReadable(Refusal::MSliceOutOfBounds {
+    Err(Refusal::MSliceOutOfBounds {
         index: pointer.offset,
         size: pointer.size as u32,
     })
@@ -25,9 +24,5 @@ pub(crate) fn within(memory: &[u8], pointer: FatPointer) -> ReadResult
 pub(crate) fn title_length(task: Task) -> usize
     ensures { result ≡ title_length task }
 {
-    let length = task.title_len;
-    if length < 128 {
-        return length;
-    }
-    128
+    task.title_len.min(128)
 }

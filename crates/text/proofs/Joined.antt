@@ -1,6 +1,6 @@
 -- A line put part by part is the line put at once; and a part in hex.
 use Prim.Native.Nat.{ℕ, ◌+◌, ◌-◌, ◌*◌, ◌≤◌, ◌<◌}
-use mathlib.Core.Bool.{true, false}
+use mathlib.Core.Bool.{true}
 use mathlib.Core.List.{List, [], ◌∷◌, ◌++◌}
 use mathlib.Core.Path.{◌≡◌, sym, ap, ◌∙◌}
 use native.Mathlib.Omega.{arith}
@@ -11,19 +11,13 @@ use borrow.Author.Tests.{leb-true}
 use Rattle.slices.proofs.SlicesWrites.{sets_append}
 use Rattle.errors.specs.declared.Refusal.TheVariants.{SaveBufferTooShort}
 use Rattle.text.specs.declared.Form.{Form}
-use Rattle.text.specs.declared.LineResult.TheVariants.{Line, NoLine}
-use Rattle.text.specs.declared.Room.TheVariants.{Left, Short}
 use Rattle.text.specs.Numbers.{hex, filled}
 use Rattle.text.specs.Pieces.{room_after}
 use Rattle.text.specs.Lines.{formed, line, lined, put_line, measure_line, hex_count, parted, hex_part}
 use Rattle.text.proofs.Rooms.{left_fits, left_is, short_over, line_length}
+use Rattle.std.specs.Prelude.{Ok, Err, Some, None}
 
 module _ (out template numbers : List ℕ) (form : Form) (bytes : List ℕ) where
-  pub refused : leb (length (line template numbers form bytes)) (length out) ≡ false
-      → lined (NoLine SaveBufferTooShort) out ≡ put_line out (line template numbers form bytes)
-  unfolding put_line
-  refused test = rw test
-
   module _ (test : leb (length (line template numbers form bytes)) (length out) ≡ true) where
     room : length (filled template numbers) + (length (formed form bytes numbers) + 1) ≤ length out
     room = omega (arith, line_length template numbers form bytes, leb-true (length (line template numbers form bytes)) (length out) test)
@@ -38,7 +32,7 @@ module _ (out template numbers : List ℕ) (form : Form) (bytes : List ℕ) wher
         sets_append out 0 (filled template numbers) (formed form bytes numbers ++ 10 ∷ [])
         ∙ sets_append (sets out 0 (filled template numbers)) (0 + length (filled template numbers)) (formed form bytes numbers) (10 ∷ [])
 
-    put_is : put_line out (line template numbers form bytes) ≡ lined (Line (length (line template numbers form bytes))) (sets out 0 (line template numbers form bytes))
+    put_is : put_line out (line template numbers form bytes) ≡ lined (Ok (length (line template numbers form bytes))) (sets out 0 (line template numbers form bytes))
     unfolding put_line
     put_is = rw test
 
@@ -56,20 +50,25 @@ module _ (out template numbers : List ℕ) (form : Form) (bytes : List ℕ) wher
         pub last_inside : last < length after
         last_inside = omega (arith, room, after_length)
 
-        pub stands : lined (Line (last + 1)) (set after last 10) ≡ put_line out (line template numbers form bytes)
+        pub stands : lined (Ok (last + 1)) (set after last 10) ≡ put_line out (line template numbers form bytes)
         stands =
             let counted : last + 1 ≡ length (line template numbers form bytes) = omega (arith, line_length template numbers form bytes) in
-            ap (λ (n : ℕ). lined (Line n) (set after last 10)) counted
-            ∙ ap (λ (l : List ℕ). lined (Line (length (line template numbers form bytes))) l) (rw (after_is, last-is, between_is, behind_is) (sym whole))
+            ap (λ (n : ℕ). lined (Ok n) (set after last 10)) counted
+            ∙ ap (λ (l : List ℕ). lined (Ok (length (line template numbers form bytes))) l) (rw (after_is, last-is, between_is, behind_is) (sym whole))
             ∙ sym put_is
 
+-- a line that is too long
+pub not_put : (out text : List ℕ) → None ≡ room_after (length out) (length text) → lined (Err SaveBufferTooShort) out ≡ put_line out text
+unfolding put_line
+not_put out text answer = rw (short_over (length out) (length text) answer)
+
 -- a line measured in the largest room
-pub measured : {left : ℕ} (text : List ℕ) → Left left ≡ room_after 18446744073709551615 (length text) → Line (18446744073709551615 - left) ≡ measure_line text
+pub measured : {left : ℕ} (text : List ℕ) → Some left ≡ room_after 18446744073709551615 (length text) → Ok (18446744073709551615 - left) ≡ measure_line text
 unfolding measure_line
 measured text answer =
-    rw (left_fits 18446744073709551615 (length text) answer) (ap Line (left_is 18446744073709551615 (length text) answer))
+    rw (left_fits 18446744073709551615 (length text) answer) (ap Ok (left_is 18446744073709551615 (length text) answer))
 
-pub not_measured : (text : List ℕ) → Short ≡ room_after 18446744073709551615 (length text) → NoLine SaveBufferTooShort ≡ measure_line text
+pub not_measured : (text : List ℕ) → None ≡ room_after 18446744073709551615 (length text) → Err SaveBufferTooShort ≡ measure_line text
 unfolding measure_line
 not_measured text answer = rw (short_over 18446744073709551615 (length text) answer)
 

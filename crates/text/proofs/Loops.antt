@@ -12,9 +12,9 @@ use borrow.Author.Tests.{le-leb, lt-leb, leb-true, leb-false}
 use Rattle.slices.proofs.SlicesWrites.{sets_append}
 use Rattle.text.specs.declared.Cut.{Cut}
 use Rattle.text.specs.declared.Turn.{Turn}
-use Rattle.text.specs.declared.Room.TheVariants.{Left, Short}
 use Rattle.text.specs.Pieces.{pieces, width, text_of, Front, room_after}
 use Rattle.text.proofs.Fronts.{none_left}
+use Rattle.std.specs.Prelude.{Some, None}
 
 -- room behind two parts is room behind the one and then the other
 pub room_on : (left a b : ℕ) → a ≤ left → room_after left (a + b) ≡ room_after (left - a) b
@@ -32,13 +32,13 @@ room_on left a b fits = by (leb b (left - a)) refl
         let both : left < a + b = omega arith in
         rw (test, lt-leb (a + b) left both)
 
-pub no_room : (left a b : ℕ) → left < a → room_after left (a + b) ≡ Short
+pub no_room : (left a b : ℕ) → left < a → room_after left (a + b) ≡ None
 unfolding room_after
 no_room left a b short =
     let both : left < a + b = omega arith in
     rw (lt-leb (a + b) left both)
 
-pub all_left : (left : ℕ) → room_after left 0 ≡ Left left
+pub all_left : (left : ℕ) → room_after left 0 ≡ Some left
 unfolding room_after
 all_left left = rw (le-leb 0 left (omega arith), sub-zero)
 
@@ -88,7 +88,7 @@ module _ (cut : Cut) (bytes numbers : List ℕ) where
         }
 
     pub measured_short : {room left size : ℕ} → size ≡ length (text_of turn.piece) → Measured room left place used → left < size
-        → Short ≡ room_after room (length (pieces cut bytes numbers))
+        → None ≡ room_after room (length (pieces cut bytes numbers))
     measured_short {room} {left} {size} is measured short =
         sym (no_room left size (length (rest turn.place turn.used)) short)
         ∙ ap (λ (k : ℕ). room_after left (k + length (rest turn.place turn.used))) is
@@ -115,7 +115,7 @@ module _ (cut : Cut) (bytes numbers : List ℕ) where
         }
 
   pub measured_ended : {room left place used : ℕ} → Measured room left place used → length bytes - place < width cut
-      → Left left ≡ room_after room (length (pieces cut bytes numbers))
+      → Some left ≡ room_after room (length (pieces cut bytes numbers))
   measured_ended {room} {left} {place} {used} measured few =
       sym (all_left left) ∙ ap (λ (l : List ℕ). room_after left (length l)) (sym (ended place used few)) ∙ measured.same
 

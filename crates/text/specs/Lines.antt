@@ -1,14 +1,13 @@
 -- A line of text, and a lent buffer after it was put there.
-use Rattle.std.specs.Prelude.{ℕ, ◌+◌, ◌-◌, ◌*◌, ◌/◌, min, Bool, true, false, cond, List, [], ◌∷◌, ◌++◌, length, take, drop, leb}
+use Rattle.std.specs.Prelude.{ℕ, ◌+◌, ◌-◌, ◌*◌, ◌/◌, min, Bool, true, false, cond, List, [], ◌∷◌, ◌++◌, length, take, drop, leb, Ok, Err, Result}
 use Rattle.std.proofs.lemmas.List.Edits.{sets}
 use Rattle.errors.specs.declared.Refusal.TheVariants.{SaveBufferTooShort}
 use Rattle.text.specs.declared.Form.{Form}
 use Rattle.text.specs.declared.Form.TheVariants.{Plain, Hex, Spaced, Filled, Escaped, Ascii}
-use Rattle.text.specs.declared.LineResult.{LineResult}
-use Rattle.text.specs.declared.LineResult.TheVariants.{Line, NoLine}
 use Rattle.text.specs.declared.HexPart.{HexPart}
 use Rattle.text.specs.Numbers.{hex, spaced, words, filled}
 use Rattle.text.specs.Escapes.{escaped}
+use Rattle.errors.specs.declared.Refusal.{Refusal}
 
 -- bytes in a form
 unfoldable pub formed : Form → List ℕ → List ℕ → List ℕ
@@ -29,20 +28,20 @@ said template numbers = line template numbers Plain []
 
 -- an answer, and the lent buffer after it
 pub record Lined : Type 0 where
-  pub answer : LineResult
+  pub answer : Result ℕ Refusal
   pub out : List ℕ
 
-abbrev pub lined : LineResult → List ℕ → Lined
+abbrev pub lined : Result ℕ Refusal → List ℕ → Lined
 lined answer out = record { answer = answer; out = out }
 
 -- a line put at a buffer's start where the buffer holds it; else 24, and the buffer as it was
 unfoldable pub put_line : List ℕ → List ℕ → Lined
 put_line out text =
-    cond (leb (length text) (length out)) (lined (Line (length text)) (sets out 0 text)) (lined (NoLine SaveBufferTooShort) out)
+    cond (leb (length text) (length out)) (lined (Ok (length text)) (sets out 0 text)) (lined (Err SaveBufferTooShort) out)
 
 -- a line measured: its length, where a number of 64 bits holds it; else 24
-unfoldable pub measure_line : List ℕ → LineResult
-measure_line text = cond (leb (length text) 18446744073709551615) (Line (length text)) (NoLine SaveBufferTooShort)
+unfoldable pub measure_line : List ℕ → Result ℕ Refusal
+measure_line text = cond (leb (length text) 18446744073709551615) (Ok (length text)) (Err SaveBufferTooShort)
 
 -- a line put at a buffer's start, or only measured
 unfoldable pub tell_line : Bool → List ℕ → List ℕ → Lined

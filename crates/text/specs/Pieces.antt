@@ -1,12 +1,10 @@
 -- Pieces of a text: what each is, and what of the text is left behind it.
-use Rattle.std.specs.Prelude.{ℕ, ◌-◌, ◌≤◌, ◌<◌, true, false, cond, List, [], ◌∷◌, ◌++◌, ◌≡◌, length, drop, leb}
+use Rattle.std.specs.Prelude.{ℕ, ◌-◌, ◌≤◌, ◌<◌, true, false, cond, List, [], ◌∷◌, ◌++◌, ◌≡◌, length, drop, leb, Some, None, Option}
 use Rattle.text.specs.declared.Cut.{Cut}
 use Rattle.text.specs.declared.Cut.TheVariants as cut
 use Rattle.text.specs.declared.Piece.{Piece}
 use Rattle.text.specs.declared.Piece.TheVariants.{Byte, Escape, Number, Spaced}
 use Rattle.text.specs.declared.Turn.{Turn}
-use Rattle.text.specs.declared.Room.{Room}
-use Rattle.text.specs.declared.Room.TheVariants.{Left, Short}
 use Rattle.text.specs.Numbers.{decimal, spaced, words, filled}
 use Rattle.text.specs.Escapes.{escape, escaped}
 
@@ -38,5 +36,5 @@ pub record Front (cut : Cut) (bytes numbers : List ℕ) (place used : ℕ) (turn
   pub within : turn.place ≤ length bytes
 
 -- the room that is left behind so many bytes
-unfoldable pub room_after : ℕ → ℕ → Room
-room_after room size = cond (leb size room) (Left (room - size)) Short
+unfoldable pub room_after : ℕ → ℕ → Option ℕ
+room_after room size = cond (leb size room) (Some (room - size)) None

@@ -5,20 +5,17 @@ ghost use Rattle.text.specs.Numbers.{hex};
 ghost use Rattle.text.specs.Lines.{parted, hex_part};
 
 use crate::HexPart;
-use crate::pieces::{digit, wide};
+use crate::pieces::digit;
 
 // Puts bytes in hex at a place of a buffer that holds them.
+#[tactic(auto, using(crate::proofs::Hexes::ended))]
 pub(crate) fn put_hex(out: &mut [u8], at: usize, bytes: &[u8])
     requires { at + 2 * length bytes.now ≤ length out.old }
     ensures { out.new ≡ sets out.old at (hex bytes.now) }
 {
-    let mut i = 0;
-    while i < bytes.len() {
-        let place = at + 2 * i;
-        let byte = wide(bytes[i]);
-        out[place] = digit(byte / 16);
-        out[place + 1] = digit(byte % 16);
-        i += 1;
+    for (i, &byte) in bytes.iter().enumerate() {
+        out[at + 2 * i] = digit(byte / 16);
+        out[at + 2 * i + 1] = digit(byte % 16);
     }
 }
 
@@ -26,16 +23,11 @@ pub(crate) fn put_hex(out: &mut [u8], at: usize, bytes: &[u8])
 fn hex_count(room: usize, length: usize, from: usize) -> usize
     ensures { result ≡ min (room / 2) (length - from) }
 {
-    if length <= from {
-        return 0;
-    }
-    if length - from < room / 2 {
-        return length - from;
-    }
-    room / 2
+    (room / 2).min(length.saturating_sub(from))
 }
 
 // Puts as many bytes from a place on as a buffer holds in hex.
+#[tactic(auto, unfolding(crate::specs::Lines::hex_count), using(crate::proofs::Joined::hex_parted))]
 pub fn hex_part(out: &mut [u8], bytes: &[u8], from: usize) -> HexPart
     ensures { parted result out.new ≡ hex_part out.old bytes.now from }
 {

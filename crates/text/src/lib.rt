@@ -6,8 +6,6 @@ pub mod hex;
 pub mod lines;
 mod pieces;
 
-use errors::Refusal;
-
 // How bytes are shown: as they are, in hex, as numbers of 4 bytes with a space before each, as a template, or escaped: as UTF-8, or as ASCII alone.
 #[derive(Clone, Copy)]
 pub enum Form {
@@ -17,13 +15,6 @@ pub enum Form {
     Filled,
     Escaped,
     Ascii,
-}
-
-// What putting a line answers: its length.
-#[derive(Clone, Copy)]
-pub enum LineResult {
-    Line(usize),
-    NoLine(Refusal),
 }
 
 // What putting a part in hex answers: how many characters, and the place of the next byte.
@@ -57,11 +48,4 @@ struct Turn {
     piece: Piece,
     place: usize,
     used: usize,
-}
-
-// The room that is left in a buffer.
-#[derive(Drop)]
-enum Room {
-    Left(usize),
-    Short,
 }

@@ -12,9 +12,8 @@ use lib.Dec.{eqb}
 use Rattle.utf8.specs.Grammar.{Range, %x, UTF8_char, In}
 use Rattle.utf8.specs.Utf8.{from, valid}
 use Rattle.utf8.specs.Steps.{due, valid_after}
-use Rattle.utf8.specs.declared.Step.{Step}
-use Rattle.utf8.specs.declared.Step.TheVariants.{Bad, Due}
 use Rattle.utf8.proofs.Lead.{in_holds, out_fails, Begins, rest_of, takes}
+use Rattle.std.specs.Prelude.{Some, None, Option}
 
 -- a first octet leaves what its alternative asks for
 pub opens : (k b : ℕ) (s : List ℕ) → Begins UTF8_char k b → rest_of UTF8_char k (from s) ≡ from (b ∷ s) []
@@ -30,7 +29,7 @@ ascii (b ∷ s) all = ascii s (λ k h. all (suc k) (omega arith)) ∙ opens 0 b 
 -- an octet that is due leaves one less
 pub due_in :
     (more low high b : ℕ) (s : List ℕ) → 0 < more → In (%x low high) b →
-    valid_after (Due (more - 1) 0x80 0xBF) s ≡ from (b ∷ s) (due more low high)
+    valid_after (Some (more - 1, 0x80, 0xBF)) s ≡ from (b ∷ s) (due more low high)
 unfolding valid_after from due
 due_in zero low high b s h p = absurd (omega arith)
 due_in (suc n) low high b s h p = let less : suc n - 1 ≡ n = omega arith in rw (in_holds p, less)
@@ -38,14 +37,14 @@ due_in (suc n) low high b s h p = let less : suc n - 1 ≡ n = omega arith in rw
 -- an octet that is not due ends the test
 pub due_out :
     (more low high b : ℕ) (s : List ℕ) → 0 < more → (In (%x low high) b → ⊥) →
-    valid_after Bad s ≡ from (b ∷ s) (due more low high)
+    valid_after None s ≡ from (b ∷ s) (due more low high)
 unfolding valid_after from due
 due_out zero low high b s h out = absurd (omega arith)
 due_out (suc n) low high b s h out = rw (out_fails (%x low high) b out)
 
 -- a turn of the loop keeps its invariant
 pub turn :
-    (s : List ℕ) (i : ℕ) (ranges : List Range) (r step : Step) → i < length s → from (drop i s) ranges ≡ valid s →
+    (s : List ℕ) (i : ℕ) (ranges : List Range) (r step : Option (ℕ × ℕ × ℕ)) → i < length s → from (drop i s) ranges ≡ valid s →
     ((t : List ℕ) → valid_after r t ≡ from (get_or s i 0 ∷ t) ranges) → r ≡ step → valid_after step (drop (i + 1) s) ≡ valid s
 turn s i ranges r step h inv made is =
     let peel : drop i s ≡ get_or s i 0 ∷ drop (i + 1) s = rw (drop-cons s i 0, add-one) in

@@ -7,6 +7,7 @@ use lib.Dec.{eqb}
 use borrow.Author.Tests.{eq-eqb, ne_eqb, eqb-true}
 use Rattle.values.specs.Values.{SIGN_BEGIN, QNAN_BEGIN, QNAN_WIDTH, PAYLOAD_BEGIN, PAYLOAD_WIDTH, OFFSET_BEGIN, OFFSET_WIDTH, SIZE_BEGIN, SIZE_WIDTH, TAG_BEGIN, TAG_WIDTH, QNAN, make_scalar_tagged, make_vec_tagged, to_u32_val, to_calldata_val, to_bool_val, head, is_qnan, is_scalar, is_vec, raw_tag, to_u32, fat_pointer, bool_not, get_value_type, vec_type, scalar_type}
 use Rattle.values.specs.declared.ValueType.TheVariants.{U32, String, CallData, Boolean, VecU32}
+use Rattle.std.specs.Prelude.{Some}
 
 -- the fields of a scalar stand side by side: each begins where those to its right end
 pub scalar_side_by_side : (PAYLOAD_BEGIN ≡ 2 ^ 15 * TAG_WIDTH * TAG_BEGIN) × (QNAN_BEGIN ≡ PAYLOAD_WIDTH * PAYLOAD_BEGIN)
@@ -116,23 +117,23 @@ unfolding get_value_type
 vec_typed offset size tag small = simp (vec_is_vec offset size tag, vec_tag_back offset size tag small)
 
 -- the type of each box
-pub number_type : (n : ℕ) → get_value_type (to_u32_val n) ≡ U32
+pub number_type : (n : ℕ) → get_value_type (to_u32_val n) ≡ Some U32
 unfolding scalar_type
 number_type n = scalar_typed 6 n (omega arith)
 
-pub calldata_type : (index : ℕ) → get_value_type (to_calldata_val index) ≡ CallData
+pub calldata_type : (index : ℕ) → get_value_type (to_calldata_val index) ≡ Some CallData
 unfolding scalar_type
 calldata_type index = scalar_typed 5 index (omega arith)
 
-pub bool_type : (b : Bool) → get_value_type (to_bool_val b) ≡ Boolean
+pub bool_type : (b : Bool) → get_value_type (to_bool_val b) ≡ Some Boolean
 unfolding scalar_type to_bool_val
 bool_type true = scalar_typed 3 0 (omega arith)
 bool_type false = scalar_typed 2 0 (omega arith)
 
-pub text_type : (offset size : ℕ) → get_value_type (make_vec_tagged offset size 4) ≡ String
+pub text_type : (offset size : ℕ) → get_value_type (make_vec_tagged offset size 4) ≡ Some String
 unfolding vec_type
 text_type offset size = vec_typed offset size 4 (omega arith)
 
-pub numbers_type : (offset size : ℕ) → get_value_type (make_vec_tagged offset size 6) ≡ VecU32
+pub numbers_type : (offset size : ℕ) → get_value_type (make_vec_tagged offset size 6) ≡ Some VecU32
 unfolding vec_type
 numbers_type offset size = vec_typed offset size 6 (omega arith)

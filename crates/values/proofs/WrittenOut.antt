@@ -6,8 +6,8 @@ use native.Mathlib.Omega.{arith}
 use lib.Dec.{eqb, ltb}
 use Rattle.errors.specs.declared.Refusal.TheVariants.{InvalidType, MSliceParamOverflow}
 use Rattle.values.specs.Values.{make_scalar_tagged, make_vec_tagged, to_vec_val, to_u32_val, to_calldata_val, to_bool_val, head, is_qnan, is_scalar, is_vec, raw_tag, is_u32_val, to_u32, fat_pointer, is_bool, alike, vec_type, scalar_type}
-use Rattle.values.specs.declared.ValueResult.TheVariants.{Value, NoValue}
-use Rattle.values.specs.declared.ValueType.TheVariants.{U32, String, CallData, Boolean, VecU32, Null, NoType}
+use Rattle.values.specs.declared.ValueType.TheVariants.{U32, String, CallData, Boolean, VecU32, Null}
+use Rattle.std.specs.Prelude.{Ok, Err, Some, None}
 
 pub scalar_written_out : (tag payload : ℕ) → make_scalar_tagged tag payload ≡ 0x7FFC000000000000 + payload % 2 ^ 32 * 2 ^ 18 + tag % 2 ^ 3
 unfolding make_scalar_tagged
@@ -17,7 +17,7 @@ pub vec_written_out : (offset size tag : ℕ) → make_vec_tagged offset size ta
 unfolding make_vec_tagged
 vec_written_out offset size tag = omega arith
 
-pub vec_val_written_out : (offset size tag : ℕ) → to_vec_val offset size tag ≡ cond (ltb offset (2 ^ 25)) (Value (make_vec_tagged offset size tag)) (NoValue MSliceParamOverflow)
+pub vec_val_written_out : (offset size tag : ℕ) → to_vec_val offset size tag ≡ cond (ltb offset (2 ^ 25)) (Ok (make_vec_tagged offset size tag)) (Err MSliceParamOverflow)
 unfolding to_vec_val
 vec_val_written_out offset size tag = refl
 
@@ -67,14 +67,14 @@ pub is_bool_written_out : (v : ℕ) → is_bool v ≡ cond (is_scalar v) (cond (
 unfolding is_bool
 is_bool_written_out v = refl
 
-pub alike_written_out : (tag left right : ℕ) → alike tag left right ≡ cond (eqb tag 6) (Value (to_bool_val (eqb (to_u32 left) (to_u32 right)))) (cond (eqb tag 5) (Value (to_bool_val (eqb (to_u32 left) (to_u32 right)))) (cond (eqb tag 3) (Value (to_bool_val (eqb left right))) (cond (eqb tag 2) (Value (to_bool_val (eqb left right))) (NoValue InvalidType))))
+pub alike_written_out : (tag left right : ℕ) → alike tag left right ≡ cond (eqb tag 6) (Ok (to_bool_val (eqb (to_u32 left) (to_u32 right)))) (cond (eqb tag 5) (Ok (to_bool_val (eqb (to_u32 left) (to_u32 right)))) (cond (eqb tag 3) (Ok (to_bool_val (eqb left right))) (cond (eqb tag 2) (Ok (to_bool_val (eqb left right))) (Err InvalidType))))
 unfolding alike
 alike_written_out tag left right = refl
 
-pub vec_type_written_out : (tag : ℕ) → vec_type tag ≡ cond (eqb tag 6) VecU32 (cond (eqb tag 4) String NoType)
+pub vec_type_written_out : (tag : ℕ) → vec_type tag ≡ cond (eqb tag 6) (Some VecU32) (cond (eqb tag 4) (Some String) None)
 unfolding vec_type
 vec_type_written_out tag = refl
 
-pub scalar_type_written_out : (tag : ℕ) → scalar_type tag ≡ cond (eqb tag 6) U32 (cond (eqb tag 5) CallData (cond (eqb tag 4) String (cond (eqb tag 3) Boolean (cond (eqb tag 2) Boolean (cond (eqb tag 1) Null NoType)))))
+pub scalar_type_written_out : (tag : ℕ) → scalar_type tag ≡ cond (eqb tag 6) (Some U32) (cond (eqb tag 5) (Some CallData) (cond (eqb tag 4) (Some String) (cond (eqb tag 3) (Some Boolean) (cond (eqb tag 2) (Some Boolean) (cond (eqb tag 1) (Some Null) None)))))
 unfolding scalar_type
 scalar_type_written_out tag = refl

@@ -14,74 +14,14 @@
 --
 -- A field begins at 2^k if its lowest bit has number k, and is 2^w wide if it has w bits. A box is the sum of its fields, each multiplied by where it
 -- begins. A field is read by dividing the word by where the field begins, and taking of that the remainder by the field's width.
-use Rattle.std.specs.Prelude.{ℕ, ◌+◌, ◌-◌, ◌*◌, ◌/◌, ◌%◌, ◌^◌, Bool, true, false, cond, not, eqb, ltb}
+use Rattle.std.specs.Prelude.{ℕ, ◌+◌, ◌-◌, ◌*◌, ◌/◌, ◌%◌, ◌^◌, Bool, true, false, cond, not, eqb, ltb, Ok, Err, Some, None, Result, Option}
 use Rattle.errors.specs.declared.Refusal.TheVariants.{InvalidType, TypeMismatch, MultiplicationOverflowed, MSliceParamOverflow}
 use Rattle.values.specs.declared.FatPointer.{FatPointer}
-use Rattle.values.specs.declared.ValueResult.{ValueResult}
-use Rattle.values.specs.declared.ValueResult.TheVariants.{Value, NoValue}
-use Rattle.values.specs.declared.TagResult.{TagResult}
-use Rattle.values.specs.declared.TagResult.TheVariants.{Tag, NoTag}
-use Rattle.values.specs.declared.PointerResult.{PointerResult}
-use Rattle.values.specs.declared.PointerResult.TheVariants.{Pointer, NoPointer}
 use Rattle.values.specs.declared.ValueType.{ValueType}
-use Rattle.values.specs.declared.ValueType.TheVariants.{U32, String, CallData, Boolean, VecU32, Null, NoType}
-
--- where each field begins, and how wide it is
-abbrev pub SIGN_BEGIN : ℕ
-SIGN_BEGIN = 2 ^ 63
-
-abbrev pub QNAN_BEGIN : ℕ
-QNAN_BEGIN = 2 ^ 50
-
-abbrev pub QNAN_WIDTH : ℕ
-QNAN_WIDTH = 2 ^ 13
-
-abbrev pub PAYLOAD_BEGIN : ℕ
-PAYLOAD_BEGIN = 2 ^ 18
-
-abbrev pub PAYLOAD_WIDTH : ℕ
-PAYLOAD_WIDTH = 2 ^ 32
-
-abbrev pub OFFSET_BEGIN : ℕ
-OFFSET_BEGIN = 2 ^ 25
-
-abbrev pub OFFSET_WIDTH : ℕ
-OFFSET_WIDTH = 2 ^ 25
-
-abbrev pub SIZE_BEGIN : ℕ
-SIZE_BEGIN = 2 ^ 9
-
-abbrev pub SIZE_WIDTH : ℕ
-SIZE_WIDTH = 2 ^ 16
-
-abbrev pub TAG_BEGIN : ℕ
-TAG_BEGIN = 2 ^ 0
-
-abbrev pub TAG_WIDTH : ℕ
-TAG_WIDTH = 2 ^ 3
-
--- the QNAN bits, all ones
-abbrev pub QNAN : ℕ
-QNAN = QNAN_WIDTH - 1
-
--- what the tag of a value can be
-abbrev pub TAG_NULL : ℕ
-TAG_NULL = 1
-
-abbrev pub TAG_FALSE : ℕ
-TAG_FALSE = 2
-
-abbrev pub TAG_TRUE : ℕ
-TAG_TRUE = 3
-
-abbrev pub TAG_STRING : ℕ
-TAG_STRING = 4
-
-abbrev pub TAG_CALLDATA : ℕ
-TAG_CALLDATA = 5
-
-abbrev pub TAG_U32 : ℕ
-TAG_U32 = 6
+use Rattle.values.specs.declared.ValueType.TheVariants.{U32, String, CallData, Boolean, VecU32, Null}
+use Rattle.errors.specs.declared.Refusal.{Refusal}
+-- where each field begins, how wide it is, and what the tag of a value can be, as the code has them
+pub use Rattle.values.specs.declared.TheConstants.{SIGN_BEGIN, QNAN_BEGIN, QNAN_WIDTH, PAYLOAD_BEGIN, PAYLOAD_WIDTH, OFFSET_BEGIN, OFFSET_WIDTH, SIZE_BEGIN, SIZE_WIDTH, TAG_BEGIN, TAG_WIDTH, QNAN, TAG_NULL, TAG_FALSE, TAG_TRUE, TAG_STRING, TAG_CALLDATA, TAG_U32}
 
 -- a scalar: sign 0, QNAN, payload, tag
 unfoldable pub make_scalar_tagged : ℕ → ℕ → ℕ
@@ -101,8 +41,8 @@ make_vec_tagged offset size tag =
     + tag % TAG_WIDTH * TAG_BEGIN
 
 -- a vector, whose offset must fit its field
-unfoldable pub to_vec_val : ℕ → ℕ → ℕ → ValueResult
-to_vec_val offset size tag = cond (ltb offset OFFSET_WIDTH) (Value (make_vec_tagged offset size tag)) (NoValue MSliceParamOverflow)
+unfoldable pub to_vec_val : ℕ → ℕ → ℕ → Result ℕ Refusal
+to_vec_val offset size tag = cond (ltb offset OFFSET_WIDTH) (Ok (make_vec_tagged offset size tag)) (Err MSliceParamOverflow)
 
 -- a number
 abbrev pub to_u32_val : ℕ → ℕ
@@ -138,8 +78,8 @@ unfoldable pub raw_tag : ℕ → ℕ
 raw_tag v = v / TAG_BEGIN % TAG_WIDTH
 
 -- the tag of a boxed value
-unfoldable pub tag_of : ℕ → TagResult
-tag_of v = cond (is_qnan v) (Tag (raw_tag v)) (NoTag InvalidType)
+unfoldable pub tag_of : ℕ → Result ℕ Refusal
+tag_of v = cond (is_qnan v) (Ok (raw_tag v)) (Err InvalidType)
 
 -- a number, by its box
 unfoldable pub is_u32_val : ℕ → Bool
@@ -154,27 +94,27 @@ unfoldable pub fat_pointer : ℕ → FatPointer
 fat_pointer v = record { offset = v / OFFSET_BEGIN % OFFSET_WIDTH; size = v / SIZE_BEGIN % SIZE_WIDTH }
 
 -- the same, where the value is a vector
-unfoldable pub to_fat_pointer : ℕ → PointerResult
-to_fat_pointer v = cond (is_vec v) (Pointer (fat_pointer v)) (NoPointer InvalidType)
+unfoldable pub to_fat_pointer : ℕ → Result FatPointer Refusal
+to_fat_pointer v = cond (is_vec v) (Ok (fat_pointer v)) (Err InvalidType)
 
 -- the lowest bit turned: TRUE for FALSE and FALSE for TRUE
 unfoldable pub bool_not : ℕ → ℕ
 bool_not v = cond (eqb (v % 2) 0) (v + 1) (v - 1)
 
 -- a product of two numbers, which must be below 2^32
-unfoldable pub product : ℕ → ℕ → ValueResult
-product left right = cond (ltb (left * right) (2 ^ 32)) (Value (to_u32_val (left * right))) (NoValue MultiplicationOverflowed)
+unfoldable pub product : ℕ → ℕ → Result ℕ Refusal
+product left right = cond (ltb (left * right) (2 ^ 32)) (Ok (to_u32_val (left * right))) (Err MultiplicationOverflowed)
 
 -- MUL
-unfoldable pub mul_checked : ℕ → ℕ → ValueResult
+unfoldable pub mul_checked : ℕ → ℕ → Result ℕ Refusal
 mul_checked lhs rhs =
     cond (is_u32_val lhs)
-    (cond (is_u32_val rhs) (product (to_u32 lhs) (to_u32 rhs)) (NoValue InvalidType))
-    (NoValue InvalidType)
+    (cond (is_u32_val rhs) (product (to_u32 lhs) (to_u32 rhs)) (Err InvalidType))
+    (Err InvalidType)
 
 -- MULI
-unfoldable pub mul_checked_i : ℕ → ℕ → ValueResult
-mul_checked_i lhs rhs = cond (is_u32_val lhs) (product (to_u32 lhs) rhs) (NoValue InvalidType)
+unfoldable pub mul_checked_i : ℕ → ℕ → Result ℕ Refusal
+mul_checked_i lhs rhs = cond (is_u32_val lhs) (product (to_u32 lhs) rhs) (Err InvalidType)
 
 -- TRUE or FALSE, by its box
 unfoldable pub is_bool : ℕ → Bool
@@ -189,55 +129,55 @@ unfoldable pub of_one_kind : ℕ → ℕ → Bool
 of_one_kind left right = cond (eqb (raw_tag left) (raw_tag right)) true (cond (is_bool left) (is_bool right) false)
 
 -- two values of one kind, by the left one's tag: numbers and references by what they read as, bools by the whole word
-unfoldable pub alike : ℕ → ℕ → ℕ → ValueResult
+unfoldable pub alike : ℕ → ℕ → ℕ → Result ℕ Refusal
 alike tag left right =
-    cond (eqb tag TAG_U32) (Value (to_bool_val (eqb (to_u32 left) (to_u32 right))))
-    (cond (eqb tag TAG_CALLDATA) (Value (to_bool_val (eqb (to_u32 left) (to_u32 right))))
-    (cond (eqb tag TAG_TRUE) (Value (to_bool_val (eqb left right)))
-    (cond (eqb tag TAG_FALSE) (Value (to_bool_val (eqb left right))) (NoValue InvalidType))))
+    cond (eqb tag TAG_U32) (Ok (to_bool_val (eqb (to_u32 left) (to_u32 right))))
+    (cond (eqb tag TAG_CALLDATA) (Ok (to_bool_val (eqb (to_u32 left) (to_u32 right))))
+    (cond (eqb tag TAG_TRUE) (Ok (to_bool_val (eqb left right)))
+    (cond (eqb tag TAG_FALSE) (Ok (to_bool_val (eqb left right))) (Err InvalidType))))
 
 -- EQ of two values, not both vectors: 5 for a word that is no box; 6 for a vector with a scalar, then for different tags, but TRUE and FALSE are compared
-unfoldable pub value_eq : ℕ → ℕ → ValueResult
+unfoldable pub value_eq : ℕ → ℕ → Result ℕ Refusal
 value_eq left right =
     cond (is_qnan left)
     (cond (is_qnan right)
-    (cond (one_vector left right) (NoValue TypeMismatch)
-    (cond (of_one_kind left right) (alike (raw_tag left) left right) (NoValue TypeMismatch)))
-    (NoValue InvalidType))
-    (NoValue InvalidType)
+    (cond (one_vector left right) (Err TypeMismatch)
+    (cond (of_one_kind left right) (alike (raw_tag left) left right) (Err TypeMismatch)))
+    (Err InvalidType))
+    (Err InvalidType)
 
 -- an answer turned round
-unfoldable pub turned : ValueResult → ValueResult
-turned (Value v) = Value (bool_not v)
-turned (NoValue refusal) = NoValue refusal
+unfoldable pub turned : Result ℕ Refusal → Result ℕ Refusal
+turned (Ok v) = Ok (bool_not v)
+turned (Err refusal) = Err refusal
 
 -- NEQ of them
-unfoldable pub value_neq : ℕ → ℕ → ValueResult
+unfoldable pub value_neq : ℕ → ℕ → Result ℕ Refusal
 value_neq left right = turned (value_eq left right)
 
 -- LT, and GT where is_lt is false
-unfoldable pub value_cmp : ℕ → ℕ → Bool → ValueResult
+unfoldable pub value_cmp : ℕ → ℕ → Bool → Result ℕ Refusal
 value_cmp left right is_lt =
     cond (is_u32_val left)
     (cond (is_u32_val right)
-    (Value (to_bool_val (cond is_lt (ltb (to_u32 left) (to_u32 right)) (ltb (to_u32 right) (to_u32 left)))))
-    (NoValue InvalidType))
-    (NoValue InvalidType)
+    (Ok (to_bool_val (cond is_lt (ltb (to_u32 left) (to_u32 right)) (ltb (to_u32 right) (to_u32 left)))))
+    (Err InvalidType))
+    (Err InvalidType)
 
 -- the type of a vector by its tag
-unfoldable pub vec_type : ℕ → ValueType
-vec_type tag = cond (eqb tag TAG_U32) VecU32 (cond (eqb tag TAG_STRING) String NoType)
+unfoldable pub vec_type : ℕ → Option ValueType
+vec_type tag = cond (eqb tag TAG_U32) (Some VecU32) (cond (eqb tag TAG_STRING) (Some String) None)
 
 -- the type of a scalar by its tag
-unfoldable pub scalar_type : ℕ → ValueType
+unfoldable pub scalar_type : ℕ → Option ValueType
 scalar_type tag =
-    cond (eqb tag TAG_U32) U32
-    (cond (eqb tag TAG_CALLDATA) CallData
-    (cond (eqb tag TAG_STRING) String
-    (cond (eqb tag TAG_TRUE) Boolean
-    (cond (eqb tag TAG_FALSE) Boolean
-    (cond (eqb tag TAG_NULL) Null NoType)))))
+    cond (eqb tag TAG_U32) (Some U32)
+    (cond (eqb tag TAG_CALLDATA) (Some CallData)
+    (cond (eqb tag TAG_STRING) (Some String)
+    (cond (eqb tag TAG_TRUE) (Some Boolean)
+    (cond (eqb tag TAG_FALSE) (Some Boolean)
+    (cond (eqb tag TAG_NULL) (Some Null) None)))))
 
 -- the type of a value, if it has one
-unfoldable pub get_value_type : ℕ → ValueType
-get_value_type v = cond (is_vec v) (vec_type (raw_tag v)) (cond (is_scalar v) (scalar_type (raw_tag v)) NoType)
+unfoldable pub get_value_type : ℕ → Option ValueType
+get_value_type v = cond (is_vec v) (vec_type (raw_tag v)) (cond (is_scalar v) (scalar_type (raw_tag v)) None)

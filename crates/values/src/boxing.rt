@@ -3,20 +3,20 @@ ghost use Rattle.std.specs.Prelude.{◌≡◌};
 ghost use Rattle.values.specs.Values.{to_vec_val, to_u32_val, to_calldata_val, to_bool_val};
 
 use crate::{
-    OFFSET_WIDTH, TAG_CALLDATA, TAG_FALSE, TAG_TRUE, TAG_U32, ValueResult, make_scalar_tagged,
-    make_vec_tagged,
+    OFFSET_WIDTH, TAG_CALLDATA, TAG_FALSE, TAG_TRUE, TAG_U32, make_scalar_tagged, make_vec_tagged,
 };
 use errors::Refusal;
 use pools::InstructionsRef;
 
 // The box of a vector, whose offset must fit its field.
-pub fn to_vec_val(offset: usize, size: u16, tag: u64) -> ValueResult
+#[tactic(auto, unfolding(crate::specs::Values::to_vec_val))]
+pub fn to_vec_val(offset: usize, size: u16, tag: u64) -> Result<u64, Refusal>
     ensures { result ≡ to_vec_val offset size tag }
 {
     if (offset as u64) < OFFSET_WIDTH {
-        return ValueResult::Value(make_vec_tagged(offset as u32, size, tag));
+        return Ok(make_vec_tagged(offset as u32, size, tag));
     }
-    ValueResult::NoValue(Refusal::MSliceParamOverflow)
+    Err(Refusal::MSliceParamOverflow)
 }
 
 // The box of a number.
@@ -34,11 +34,9 @@ pub fn to_calldata_val(reference: InstructionsRef) -> u64
 }
 
 // TRUE or FALSE.
+#[tactic(auto, unfolding(crate::specs::Values::to_bool_val))]
 pub fn to_bool_val(b: bool) -> u64
     ensures { result ≡ to_bool_val b }
 {
-    if b {
-        return make_scalar_tagged(TAG_TRUE, 0);
-    }
-    make_scalar_tagged(TAG_FALSE, 0)
+    make_scalar_tagged(if b { TAG_TRUE } else { TAG_FALSE }, 0)
 }

@@ -8,33 +8,35 @@ use crate::{
 };
 
 // The type of a vector.
-fn vec_type(tag: u64) -> ValueType
+#[tactic(auto, unfolding(crate::specs::Values::vec_type))]
+fn vec_type(tag: u64) -> Option<ValueType>
     ensures { result ≡ vec_type tag }
 {
     match tag {
-        TAG_U32 => ValueType::VecU32,
-        TAG_STRING => ValueType::String,
-        _ => ValueType::NoType,
+        TAG_U32 => Some(ValueType::VecU32),
+        TAG_STRING => Some(ValueType::String),
+        _ => None,
     }
 }
 
 // The type of a scalar.
-fn scalar_type(tag: u64) -> ValueType
+#[tactic(auto, unfolding(crate::specs::Values::scalar_type))]
+fn scalar_type(tag: u64) -> Option<ValueType>
     ensures { result ≡ scalar_type tag }
 {
     match tag {
-        TAG_U32 => ValueType::U32,
-        TAG_CALLDATA => ValueType::CallData,
-        TAG_STRING => ValueType::String,
-        TAG_TRUE => ValueType::Boolean,
-        TAG_FALSE => ValueType::Boolean,
-        TAG_NULL => ValueType::Null,
-        _ => ValueType::NoType,
+        TAG_U32 => Some(ValueType::U32),
+        TAG_CALLDATA => Some(ValueType::CallData),
+        TAG_STRING => Some(ValueType::String),
+        TAG_TRUE | TAG_FALSE => Some(ValueType::Boolean),
+        TAG_NULL => Some(ValueType::Null),
+        _ => None,
     }
 }
 
 // The type of a value, if it has one.
-pub fn get_value_type(v: u64) -> ValueType
+#[tactic(auto, unfolding(crate::specs::Values::get_value_type))]
+pub fn get_value_type(v: u64) -> Option<ValueType>
     ensures { result ≡ get_value_type v }
 {
     if is_vec(v) {
@@ -43,5 +45,5 @@ pub fn get_value_type(v: u64) -> ValueType
     if is_scalar(v) {
         return scalar_type(raw_tag(v));
     }
-    ValueType::NoType
+    None
 }

@@ -27,27 +27,27 @@ ghost use Rattle.values.specs.Values.{make_scalar_tagged, make_vec_tagged, is_qn
 use errors::Refusal;
 
 // Where each field begins, and how wide it is.
-const SIGN_BEGIN: u64 = 0x8000000000000000; // 2^63
+const SIGN_BEGIN: u64 = 1 << 63;
 
-const QNAN_BEGIN: u64 = 0x4000000000000; // 2^50
+const QNAN_BEGIN: u64 = 1 << 50;
 
-const QNAN_WIDTH: u64 = 0x2000; // 2^13
+const QNAN_WIDTH: u64 = 1 << 13;
 
-const PAYLOAD_BEGIN: u64 = 0x40000; // 2^18
+const PAYLOAD_BEGIN: u64 = 1 << 18;
 
-const PAYLOAD_WIDTH: u64 = 0x100000000; // 2^32
+const PAYLOAD_WIDTH: u64 = 1 << 32;
 
-const OFFSET_BEGIN: u64 = 0x2000000; // 2^25
+const OFFSET_BEGIN: u64 = 1 << 25;
 
-const OFFSET_WIDTH: u64 = 0x2000000; // 2^25
+const OFFSET_WIDTH: u64 = 1 << 25;
 
-const SIZE_BEGIN: u64 = 0x200; // 2^9
+const SIZE_BEGIN: u64 = 1 << 9;
 
-const SIZE_WIDTH: u64 = 0x10000; // 2^16
+const SIZE_WIDTH: u64 = 1 << 16;
 
-const TAG_BEGIN: u64 = 0x1; // 2^0
+const TAG_BEGIN: u64 = 1 << 0;
 
-const TAG_WIDTH: u64 = 0x8; // 2^3
+const TAG_WIDTH: u64 = 1 << 3;
 
 // The QNAN bits, all ones.
 const QNAN: u64 = QNAN_WIDTH - 1;
@@ -72,27 +72,6 @@ pub struct FatPointer {
     pub size: u16,
 }
 
-// What a calculation on values answers.
-#[derive(Drop)]
-pub enum ValueResult {
-    Value(u64),
-    NoValue(Refusal),
-}
-
-// What the tag of a value is.
-#[derive(Drop)]
-pub enum TagResult {
-    Tag(u64),
-    NoTag(Refusal),
-}
-
-// Where a value points, if it is a vector.
-#[derive(Drop)]
-pub enum PointerResult {
-    Pointer(FatPointer),
-    NoPointer(Refusal),
-}
-
 // The type of a value, by its box.
 #[derive(Clone, Copy)]
 pub enum ValueType {
@@ -102,10 +81,10 @@ pub enum ValueType {
     Boolean,
     VecU32,
     Null,
-    NoType,
 }
 
 // A scalar: sign 0, QNAN, payload, tag.
+#[tactic(auto, unfolding(crate::specs::Values::make_scalar_tagged))]
 pub(crate) fn make_scalar_tagged(tag: u64, payload: u32) -> u64
     ensures { result ≡ make_scalar_tagged tag payload }
 {
@@ -116,6 +95,7 @@ pub(crate) fn make_scalar_tagged(tag: u64, payload: u32) -> u64
 }
 
 // A vector: sign 1, QNAN, offset, size, tag.
+#[tactic(auto, unfolding(crate::specs::Values::make_vec_tagged))]
 pub(crate) fn make_vec_tagged(offset: u32, size: u16, tag: u64) -> u64
     ensures { result ≡ make_vec_tagged offset size tag }
 {
@@ -127,6 +107,7 @@ pub(crate) fn make_vec_tagged(offset: u32, size: u16, tag: u64) -> u64
 }
 
 // Whether a word is a boxed value: its QNAN bits are ones.
+#[tactic(auto, unfolding(crate::specs::Values::is_qnan))]
 pub(crate) fn is_qnan(v: u64) -> bool
     ensures { result ≡ is_qnan v }
 {
@@ -134,6 +115,7 @@ pub(crate) fn is_qnan(v: u64) -> bool
 }
 
 // Whether a word is a boxed scalar: sign 0, and behind it QNAN.
+#[tactic(auto, unfolding(crate::specs::Values::is_scalar))]
 pub(crate) fn is_scalar(v: u64) -> bool
     ensures { result ≡ is_scalar v }
 {
@@ -141,6 +123,7 @@ pub(crate) fn is_scalar(v: u64) -> bool
 }
 
 // Whether a word is a boxed vector: sign 1, and behind it QNAN.
+#[tactic(auto, unfolding(crate::specs::Values::is_vec))]
 pub fn is_vec(v: u64) -> bool
     ensures { result ≡ is_vec v }
 {
@@ -148,6 +131,7 @@ pub fn is_vec(v: u64) -> bool
 }
 
 // The tag in any word.
+#[tactic(auto, unfolding(crate::specs::Values::raw_tag))]
 pub fn raw_tag(v: u64) -> u64
     ensures { result ≡ raw_tag v }
 {
@@ -155,26 +139,26 @@ pub fn raw_tag(v: u64) -> u64
 }
 
 // The tag of a boxed value.
-pub fn tag_of(v: u64) -> TagResult
+#[tactic(auto, unfolding(crate::specs::Values::tag_of))]
+pub fn tag_of(v: u64) -> Result<u64, Refusal>
     ensures { result ≡ tag_of v }
 {
     if is_qnan(v) {
-        return TagResult::Tag(raw_tag(v));
+        return Ok(raw_tag(v));
     }
-    TagResult::NoTag(Refusal::InvalidType)
+    Err(Refusal::InvalidType)
 }
 
 // Whether a word is a boxed number.
+#[tactic(auto, unfolding(crate::specs::Values::is_u32_val))]
 pub(crate) fn is_u32_val(v: u64) -> bool
     ensures { result ≡ is_u32_val v }
 {
-    if is_scalar(v) {
-        return raw_tag(v) == TAG_U32;
-    }
-    false
+    is_scalar(v) && raw_tag(v) == TAG_U32
 }
 
 // Any word read as a number: its payload.
+#[tactic(auto, unfolding(crate::specs::Values::to_u32))]
 pub fn to_u32(v: u64) -> u32
     ensures { result ≡ to_u32 v }
 {
@@ -182,6 +166,7 @@ pub fn to_u32(v: u64) -> u32
 }
 
 // The offset and the size in a word.
+#[tactic(auto, unfolding(crate::specs::Values::fat_pointer))]
 pub fn fat_pointer(v: u64) -> FatPointer
     ensures { result ≡ fat_pointer v }
 {
@@ -192,11 +177,12 @@ pub fn fat_pointer(v: u64) -> FatPointer
 }
 
 // Where a vector lies; a scalar points nowhere.
-pub fn to_fat_pointer(v: u64) -> PointerResult
+#[tactic(auto, unfolding(crate::specs::Values::to_fat_pointer))]
+pub fn to_fat_pointer(v: u64) -> Result<FatPointer, Refusal>
     ensures { result ≡ to_fat_pointer v }
 {
     if is_vec(v) {
-        return PointerResult::Pointer(fat_pointer(v));
+        return Ok(fat_pointer(v));
     }
-    PointerResult::NoPointer(Refusal::InvalidType)
+    Err(Refusal::InvalidType)
 }

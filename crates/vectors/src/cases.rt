@@ -1,169 +1,112 @@
 // One case: its first byte says which leaf it is for.
-ghost use Rattle.std.specs.Prelude.{◌<◌};
-
-use errors::Refusal;
-use memory::{AllocResult, ChangeResult, ElementIndex};
+use errors::{Details, Refusal};
+use memory::ElementIndex;
 use pools::InstructionsRef;
+use slices::get_or;
 use std::rt::Stdout;
-use values::{FatPointer, PointerResult, TagResult, ValueResult, ValueType};
+use values::{FatPointer, ValueType, boxing};
 
-// The byte at a place, 0 past the end.
-fn byte(case: &[u8], at: usize) -> u8 {
-    if at < case.len() {
-        return case[at];
-    }
-    0
-}
-
-// A byte as a word.
-fn wide(byte: u8) -> u64
-    ensures { result < 256 }
-{
-    byte as u64
+// So many bytes from a place on, zeros past the end.
+fn bytes_at<const N: usize>(case: &[u8], at: usize) -> [u8; N] {
+    let held = slices::part(case, at, N);
+    let mut bytes = [0u8; N];
+    bytes[..held.len()].copy_from_slice(held);
+    bytes
 }
 
 // Two bytes, the lowest first.
-fn half(case: &[u8], at: usize) -> u64
-    requires { at < 256 }
-    ensures { result < 65536 }
-{
-    wide(byte(case, at)) + wide(byte(case, at + 1)) * 0x100
+fn half(case: &[u8], at: usize) -> u16 {
+    u16::from_le_bytes(bytes_at(case, at))
 }
 
 // Four bytes, the lowest first.
-fn number(case: &[u8], at: usize) -> u64
-    requires { at < 256 }
-    ensures { result < 4294967296 }
-{
-    half(case, at) + wide(byte(case, at + 2)) * 0x10000 + wide(byte(case, at + 3)) * 0x1000000
+fn number(case: &[u8], at: usize) -> u32 {
+    u32::from_le_bytes(bytes_at(case, at))
 }
 
 // Eight bytes, the lowest first.
-fn word(case: &[u8], at: usize) -> u64
-    requires { at < 256 }
-{
-    let low = number(case, at);
-    let high = wide(byte(case, at + 4))
-        + wide(byte(case, at + 5)) * 0x100
-        + wide(byte(case, at + 6)) * 0x10000
-        + wide(byte(case, at + 7)) * 0x1000000;
-    low + high * 0x100000000
+fn word(case: &[u8], at: usize) -> u64 {
+    u64::from_le_bytes(bytes_at(case, at))
 }
 
 fn say(out: Stdout, text: &[u8]) {
     streams::write(out, text);
 }
 
-fn say_number(out: Stdout, n: u64) {
-    say(out, b" ");
-    let _ = print!(out; "{}", n);
-}
-
 fn say_refusal(out: Stdout, refusal: Refusal) {
-    say(out, b"refused");
-    say_number(out, errors::number_of(refusal) as u64);
-    match errors::details_of(refusal) {
-        errors::Details::Nothing => say(out, b"\n"),
-        errors::Details::One(a) => {
-            say_number(out, a as u64);
-            say(out, b"\n");
-        }
-        errors::Details::Two(a, b) => {
-            say_number(out, a as u64);
-            say_number(out, b as u64);
-            say(out, b"\n");
-        }
-    }
+    let number = errors::number_of(refusal);
+    let _ = match errors::details_of(refusal) {
+        Details::Nothing => println!(out; "refused {number}"),
+        Details::One(a) => println!(out; "refused {number} {a}"),
+        Details::Two(a, b) => println!(out; "refused {number} {a} {b}"),
+    };
 }
 
-fn say_value(out: Stdout, res: ValueResult) {
-    match res {
-        ValueResult::Value(v) => {
-            say(out, b"value ");
-            let _ = print!(out; "{:016x}", v);
-            say(out, b"\n");
+fn say_value(out: Stdout, answer: Result<u64, Refusal>) {
+    match answer {
+        Ok(value) => {
+            let _ = println!(out; "value {value:016x}");
         }
-        ValueResult::NoValue(refusal) => say_refusal(out, refusal),
+        Err(refusal) => say_refusal(out, refusal),
     }
 }
 
 fn say_bytes(out: Stdout, bytes: &[u8]) {
-    let mut i = 0;
-    while i < bytes.len() {
-        let _ = print!(out; "{:02x}", wide(bytes[i]));
-        i += 1;
+    for byte in bytes {
+        let _ = print!(out; "{byte:02x}");
     }
     say(out, b"\n");
 }
 
-fn say_bool(out: Stdout, b: bool) {
-    if b {
-        say(out, b"true\n");
-        return;
-    }
-    say(out, b"false\n");
-}
-
 // u: whether bytes are UTF-8.
 fn case_utf8(out: Stdout, case: &[u8]) {
-    say_bool(out, utf8::is_utf8(slices::part(case, 1, 255)));
+    let valid = utf8::is_utf8(slices::part(case, 1, 255));
+    let _ = println!(out; "{valid}");
 }
 
 // b: boxing a number, calldata, a bool or a vector.
 fn case_box(out: Stdout, case: &[u8]) {
-    let a = number(case, 2) as u32;
-    let op = byte(case, 1);
-    match op {
-        0 => say_value(out, ValueResult::Value(values::boxing::to_u32_val(a))),
-        1 => say_value(
-            out,
-            ValueResult::Value(values::boxing::to_calldata_val(InstructionsRef(a))),
-        ),
-        2 => say_value(out, ValueResult::Value(values::boxing::to_bool_val(a == 1))),
-        3 => say_value(
-            out,
-            values::boxing::to_vec_val(a as usize, half(case, 6) as u16, 4),
-        ),
-        _ => say_value(
-            out,
-            values::boxing::to_vec_val(a as usize, half(case, 6) as u16, 6),
-        ),
-    }
+    let a = number(case, 2);
+    let size = half(case, 6);
+    let boxed = match get_or(case, 1, 0) {
+        0 => Ok(boxing::to_u32_val(a)),
+        1 => Ok(boxing::to_calldata_val(InstructionsRef(a))),
+        2 => Ok(boxing::to_bool_val(a == 1)),
+        3 => boxing::to_vec_val(a as usize, size, 4),
+        _ => boxing::to_vec_val(a as usize, size, 6),
+    };
+    say_value(out, boxed);
 }
 
-fn say_type(out: Stdout, kind: ValueType) {
+fn say_type(out: Stdout, kind: Option<ValueType>) {
     match kind {
-        ValueType::U32 => say(out, b"U32\n"),
-        ValueType::String => say(out, b"String\n"),
-        ValueType::CallData => say(out, b"CallData\n"),
-        ValueType::Boolean => say(out, b"Bool\n"),
-        ValueType::VecU32 => say(out, b"VecU32\n"),
-        ValueType::Null => say(out, b"Null\n"),
-        ValueType::NoType => say_refusal(out, Refusal::InvalidType),
+        Some(ValueType::U32) => say(out, b"U32\n"),
+        Some(ValueType::String) => say(out, b"String\n"),
+        Some(ValueType::CallData) => say(out, b"CallData\n"),
+        Some(ValueType::Boolean) => say(out, b"Bool\n"),
+        Some(ValueType::VecU32) => say(out, b"VecU32\n"),
+        Some(ValueType::Null) => say(out, b"Null\n"),
+        None => say_refusal(out, Refusal::InvalidType),
     }
 }
 
 // w: what a word is: as a number, its tag, its pointer, its type.
 fn case_word(out: Stdout, case: &[u8]) {
     let v = word(case, 1);
-    say(out, b"number");
-    say_number(out, values::to_u32(v) as u64);
-    say(out, b"\ntag ");
+    let low = values::to_u32(v);
+    let _ = print!(out; "number {low}\ntag ");
     match values::tag_of(v) {
-        TagResult::Tag(tag) => {
-            let _ = print!(out; "{}", tag);
-            say(out, b"\n");
+        Ok(tag) => {
+            let _ = println!(out; "{tag}");
         }
-        TagResult::NoTag(refusal) => say_refusal(out, refusal),
+        Err(refusal) => say_refusal(out, refusal),
     }
     say(out, b"pointer ");
     match values::to_fat_pointer(v) {
-        PointerResult::Pointer(pointer) => {
-            let _ = print!(out; "{}", pointer.offset as u64);
-            say_number(out, pointer.size as u64);
-            say(out, b"\n");
+        Ok(FatPointer { offset, size }) => {
+            let _ = println!(out; "{offset} {size}");
         }
-        PointerResult::NoPointer(refusal) => say_refusal(out, refusal),
+        Err(refusal) => say_refusal(out, refusal),
     }
     say(out, b"type ");
     say_type(out, values::kinds::get_value_type(v));
@@ -195,28 +138,26 @@ fn case_place(out: Stdout, case: &[u8]) {
     let used = number(case, 2) as usize;
     say_value(
         out,
-        memory::allocation::vector(used, half(case, 6) as u16, byte(case, 1)),
+        memory::allocation::vector(used, half(case, 6), get_or(case, 1, 0)),
     );
 }
 
 // a: an allocation in a memory of 32 bytes that held EE.
 fn case_alloc(out: Stdout, case: &[u8]) {
     let mut bytes = [0xEEu8; 32];
-    let used = wide(byte(case, 2)) as usize;
+    let used = usize::from(get_or(case, 2, 0));
     match memory::allocation::alloc(
         &mut bytes,
         slices::part(case, 5, 250),
         used,
-        half(case, 3) as u16,
-        byte(case, 1),
+        half(case, 3),
+        get_or(case, 1, 0),
     ) {
-        AllocResult::Allocated { value, used: end } => {
-            say(out, b"used");
-            say_number(out, end as u64);
-            say(out, b" ");
-            say_value(out, ValueResult::Value(value));
+        Ok((value, end)) => {
+            let _ = print!(out; "used {end} ");
+            say_value(out, Ok(value));
         }
-        AllocResult::NotAllocated(refusal) => say_refusal(out, refusal),
+        Err(refusal) => say_refusal(out, refusal),
     }
     say_bytes(out, &bytes);
 }
@@ -225,26 +166,25 @@ fn case_alloc(out: Stdout, case: &[u8]) {
 fn case_change(out: Stdout, case: &[u8]) {
     let mut bytes = [0xEEu8; 16];
     let pointer = FatPointer {
-        offset: wide(byte(case, 2)) as u32,
-        size: half(case, 3) as u16,
+        offset: u32::from(get_or(case, 2, 0)),
+        size: half(case, 3),
     };
-    let index = ElementIndex(number(case, 5) as u32);
+    let index = ElementIndex(number(case, 5));
     match memory::change::mut_vec(
         &mut bytes,
         pointer,
         index,
-        number(case, 9) as u32,
-        wide(byte(case, 1)),
+        number(case, 9),
+        u64::from(get_or(case, 1, 0)),
     ) {
-        ChangeResult::Changed => say(out, b"changed\n"),
-        ChangeResult::NotChanged(refusal) => say_refusal(out, refusal),
+        Ok(()) => say(out, b"changed\n"),
+        Err(refusal) => say_refusal(out, refusal),
     }
     say_bytes(out, &bytes);
 }
 
 pub(crate) fn case(out: Stdout, case: &[u8]) {
-    let op = byte(case, 0);
-    match op {
+    match get_or(case, 0, 0) {
         b'u' => case_utf8(out, case),
         b'b' => case_box(out, case),
         b'w' => case_word(out, case),

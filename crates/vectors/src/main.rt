@@ -3,27 +3,16 @@
 
 mod cases;
 
-ghost use Rattle.std.specs.Prelude.{◌≤◌, ◌<◌, length};
-
 use std::io;
 use std::rt::Stdout;
 
-// A byte as a size.
-fn wide(byte: u8) -> usize
-    ensures { result < 256 }
-{
-    byte as usize
-}
-
 // A case is one byte that counts the bytes behind it; cases follow each other to the end.
-fn run(out: Stdout, input: &[u8])
-    requires { length input.now ≤ 65536 }
-{
-    let mut at = 0;
-    while at < input.len() {
-        let size = wide(input[at]);
-        cases::case(out, slices::part(input, at + 1, size));
-        at = at + 1 + size;
+fn run(out: Stdout, input: &[u8]) {
+    let mut rest = input;
+    while let Some((&size, behind)) = rest.split_first() {
+        let (case, next) = behind.split_at(behind.len().min(usize::from(size)));
+        cases::case(out, case);
+        rest = next;
     }
 }
 

@@ -13,11 +13,10 @@ use Rattle.errors.specs.declared.Refusal.{Refusal}
 use Rattle.labels.specs.Labels.{letter, letters}
 use Rattle.labels.specs.Check.{Verdict, admitted, refused}
 use Rattle.admission.specs.Answer.{Answer, answer, answered}
-use Rattle.admission.specs.declared.Admission.{Admission}
-use Rattle.admission.specs.declared.Admission.TheVariants.{Admitted, Refused}
 use Rattle.listing.specs.Listing.{line_of_head}
 use Rattle.listing.specs.declared.Head.TheVariants as head
 use Rattle.verdict.specs.Verdicts.{line_of_kinds, line_of_verdict}
+use Rattle.std.specs.Prelude.{Ok, Err, Result}
 
 -- bytes written at the head of a buffer, and read back as far as it goes
 pub read_back : (buffer bytes : List ℕ) (size : ℕ) → length buffer ≡ size → take (length bytes) (sets buffer 0 bytes) ≡ take size bytes
@@ -36,11 +35,11 @@ read_back buffer bytes size long = by (leb (length bytes) size) refl
         ∙ take_all (length bytes) (take size bytes) (omega (arith, whole, more))
 
 -- the kinds of an admitted program
-pub told_kinds : (verdict : Verdict) (kinds : List ℕ) (result : Admission) (count : ℕ) → result ≡ Admitted count → answer result kinds ≡ answered verdict (replicate 1000 0)
+pub told_kinds : (verdict : Verdict) (kinds : List ℕ) (result : Result ℕ Refusal) (count : ℕ) → result ≡ Ok count → answer result kinds ≡ answered verdict (replicate 1000 0)
     → line_of_kinds (take count kinds) ≡ line_of_verdict verdict
 unfolding answered line_of_verdict
 told_kinds (admitted found) kinds result count told e =
-    let a : result ≡ Admitted (length found) = ap (λ (x : Answer). x.admission) e in
+    let a : result ≡ Ok (length found) = ap (λ (x : Answer). x.admission) e in
     let k : kinds ≡ sets (replicate 1000 0) 0 (letters (reverse found)) = ap (λ (x : Answer). x.kinds) e in
     let same : count ≡ length found = cc in
     let all : length (letters (reverse found)) ≡ length found = length-map (reverse found) letter ∙ length-reverse found in
@@ -48,17 +47,17 @@ told_kinds (admitted found) kinds result count told e =
     ∙ ap (λ (l : List ℕ). line_of_kinds (take (length (letters (reverse found))) l)) k
     ∙ ap line_of_kinds (read_back (replicate 1000 0) (letters (reverse found)) 1000 (length-replicate {A = ℕ} 1000 0))
 told_kinds (refused refusal) kinds result count told e =
-    let a : result ≡ Refused refusal = ap (λ (x : Answer). x.admission) e in
+    let a : result ≡ Err refusal = ap (λ (x : Answer). x.admission) e in
     absurd (let z : ◌≡◌ {A = ℕ} 0 1 = cc in omega (arith, z))
 
 -- the refusal of another one
-pub told_refusal : (verdict : Verdict) (kinds : List ℕ) (result : Admission) (refusal : Refusal) → result ≡ Refused refusal → answer result kinds ≡ answered verdict (replicate 1000 0)
+pub told_refusal : (verdict : Verdict) (kinds : List ℕ) (result : Result ℕ Refusal) (refusal : Refusal) → result ≡ Err refusal → answer result kinds ≡ answered verdict (replicate 1000 0)
     → line_of_head (head.Refused refusal) ≡ line_of_verdict verdict
 unfolding answered line_of_verdict
 told_refusal (admitted found) kinds result refusal told e =
-    let a : result ≡ Admitted (length found) = ap (λ (x : Answer). x.admission) e in
+    let a : result ≡ Ok (length found) = ap (λ (x : Answer). x.admission) e in
     absurd (let z : ◌≡◌ {A = ℕ} 0 1 = cc in omega (arith, z))
 told_refusal (refused given) kinds result refusal told e =
-    let a : result ≡ Refused given = ap (λ (x : Answer). x.admission) e in
+    let a : result ≡ Err given = ap (λ (x : Answer). x.admission) e in
     let same : refusal ≡ given = cc in
     ap (λ (r : Refusal). line_of_head (head.Refused r)) same

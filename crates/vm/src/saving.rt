@@ -5,28 +5,21 @@ ghost use Rattle.machine.specs.World.{world};
 
 use crate::sound::sound;
 use errors::Refusal;
-use image::SaveResult;
 use machine::{Machine, SaveReport};
 use storage::Task;
 
 // After a save by the host: the length of the image is kept.
 #[tactic(auto, unfolding(machine::specs::Reads::host_saved))]
-fn host_saved(machine: Machine, res: SaveResult) -> SaveReport
+fn host_saved(machine: Machine, res: Result<usize, Refusal>) -> SaveReport
     ensures { result ≡ host_saved machine res }
 {
-    match res {
-        SaveResult::NotSaved(refusal) => SaveReport {
-            machine,
-            result: SaveResult::NotSaved(refusal),
-        },
-        SaveResult::Saved(length) => {
-            let mut after = machine;
-            after.saved = length;
-            SaveReport {
-                machine: after,
-                result: SaveResult::Saved(length),
-            }
-        }
+    let mut after = machine;
+    if let Ok(length) = res {
+        after.saved = length;
+    }
+    SaveReport {
+        machine: after,
+        result: res,
     }
 }
 
@@ -36,7 +29,7 @@ fn not_saved(machine: Machine) -> SaveReport
 {
     SaveReport {
         machine,
-        result: SaveResult::NotSaved(Refusal::WrongPhaseOrUnsound),
+        result: Err(Refusal::WrongPhaseOrUnsound),
     }
 }
 
@@ -52,17 +45,9 @@ pub fn save(
 ) -> SaveReport
     ensures { saved_to result table.new stack.new memory.new pool.new ends.new save.new ≡ host_save (world machine table.old stack.old memory.old pool.old ends.old save.old) }
 {
-    let good = sound(table, memory, pool, ends, save, machine);
-    if good {
-        let result = table_image::save_table(
-            table,
-            pool,
-            ends,
-            save,
-            machine.entries,
-            machine.next_id,
-        );
-        return host_saved(machine, result);
+    if !sound(table, memory, pool, ends, save, machine) {
+        return not_saved(machine);
     }
-    not_saved(machine)
+    let result = table_image::save_table(table, pool, ends, save, machine.entries, machine.next_id);
+    host_saved(machine, result)
 }

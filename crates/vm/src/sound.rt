@@ -18,16 +18,11 @@ fn names(frame: Frame, entries: usize) -> bool
 fn sound_frames(frames: Frames, entries: usize) -> bool
     ensures { result ≡ sound_frames frames entries }
 {
-    if frames.count == 1 {
-        return names(frames.main, entries);
+    match frames.count {
+        1 => names(frames.first, entries),
+        2 => names(frames.first, entries) && names(frames.second, entries),
+        _ => false,
     }
-    if frames.count == 2 {
-        if names(frames.main, entries) {
-            return names(frames.task, entries);
-        }
-        return false;
-    }
-    false
 }
 
 // Whether no length is above its capacity or its buffer.
@@ -35,22 +30,12 @@ fn sound_frames(frames: Frames, entries: usize) -> bool
 fn sound_lengths(memory: usize, pool: usize, save: usize, machine: Machine) -> bool
     ensures { result ≡ sound_lengths memory pool save machine }
 {
-    if 1000 < machine.height {
-        return false;
-    }
-    if 2 < machine.loops.count {
-        return false;
-    }
-    if memory < machine.memory {
-        return false;
-    }
-    if 65536 < machine.pool {
-        return false;
-    }
-    if pool < machine.pool {
-        return false;
-    }
-    machine.saved <= save
+    machine.height <= 1000
+        && machine.loops.count <= 2
+        && machine.memory <= memory
+        && machine.pool <= 65536
+        && machine.pool <= pool
+        && machine.saved <= save
 }
 
 // Whether a record is sound beside its table.
@@ -65,16 +50,10 @@ fn sound_record(
 ) -> bool
     ensures { record_tested result memory.new pool.new ends.new save.new ≡ record_tested (sound_record (length memory.old) (length pool.old) ends.old (length save.old) machine table_sound) memory.old pool.old ends.old save.old }
 {
-    if table_sound {
-        if sound_lengths(memory.len(), pool.len(), save.len(), machine) {
-            if sound_frames(machine.frames, machine.entries) {
-                return pools::end_to_end(ends, machine.pool, machine.entries);
-            }
-            return false;
-        }
-        return false;
-    }
-    false
+    table_sound
+        && sound_lengths(memory.len(), pool.len(), save.len(), machine)
+        && sound_frames(machine.frames, machine.entries)
+        && pools::end_to_end(ends, machine.pool, machine.entries)
 }
 
 // Whether a machine is sound with what is lent to it.

@@ -6,10 +6,9 @@ ghost use Rattle.machine.specs.World.{world};
 
 use crate::sound::sound;
 use errors::Refusal;
-use image::SizeResult;
-use machine::{Machine, TaskRead, TaskResult};
+use machine::{Machine, TaskRead};
 use storage::ids::slot_of;
-use storage::{FindResult, Task, TaskId};
+use storage::{Task, TaskId};
 
 // Whether the task of an id's slot can be read: its record, its instructions, its title.
 #[tactic(auto, unfolding(machine::specs::Reads::task_result, machine::specs::Reads::if_found))]
@@ -20,21 +19,15 @@ fn task_result(
     sound: bool,
     id: TaskId,
     task: Task,
-) -> TaskResult
+) -> Result<(), Refusal>
     ensures { stepped result pool.new ends.new ≡ stepped (task_result ends.old machine sound id task) pool.old ends.old }
 {
-    if sound {
-        return match storage::ids::find(task, id) {
-            FindResult::NotFound(refusal) => TaskResult::NotReadable(refusal),
-            FindResult::Found => {
-                match image::sizes::measure_slot(pool, ends, task, machine.entries, 0, 0) {
-                    SizeResult::NoSize(refusal) => TaskResult::NotReadable(refusal),
-                    SizeResult::Size(_) => TaskResult::Readable,
-                }
-            }
-        };
+    if !sound {
+        return Err(Refusal::WrongPhaseOrUnsound);
     }
-    TaskResult::NotReadable(Refusal::WrongPhaseOrUnsound)
+    storage::ids::find(task, id)?;
+    image::sizes::measure_slot(pool, ends, task, machine.entries, 0, 0)?;
+    Ok(())
 }
 
 // The same, with its record.

@@ -7,6 +7,7 @@ use crate::sound::sound;
 use errors::Refusal;
 use machine::{Machine, Phase};
 use memory::unbox::Return;
+use slices::get_or;
 use storage::Task;
 
 // Whether a run is done.
@@ -14,12 +15,7 @@ use storage::Task;
 fn is_done(phase: Phase) -> bool
     ensures { result ≡ is_done phase }
 {
-    match phase {
-        Phase::New => false,
-        Phase::Paused => false,
-        Phase::Done => true,
-        Phase::Stopped => false,
-    }
+    matches!(phase, Phase::Done)
 }
 
 // Whether a value can be read at a position.
@@ -27,24 +23,7 @@ fn is_done(phase: Phase) -> bool
 fn readable(machine: Machine, sound: bool, position: usize) -> bool
     ensures { result ≡ readable machine sound position }
 {
-    let phase = machine.phase;
-    if sound {
-        if is_done(phase) {
-            return position < machine.height;
-        }
-        return false;
-    }
-    false
-}
-
-// The word at a position of the stack; 0 past its end.
-fn word_at(stack: &[u64], position: usize) -> u64
-    ensures { result ≡ get_or stack.now position 0 }
-{
-    if position < stack.len() {
-        return stack[position];
-    }
-    0
+    sound && is_done(machine.phase) && position < machine.height
 }
 
 // The value at a position, bottom first.
@@ -56,15 +35,15 @@ fn value_at(
     machine: Machine,
     sound: bool,
     position: usize,
-) -> Return
+) -> Result<Return, Refusal>
     ensures { value_on result stack.new memory.new ends.new ≡ value_on (value_at stack.old memory.old ends.old machine sound position) stack.old memory.old ends.old }
 {
-    if readable(machine, sound, position) {
-        let word = word_at(stack, position);
-        let used = slices::part(memory, 0, machine.memory);
-        return memory::unbox::unbox_value(used, ends, machine.entries, word);
+    if !readable(machine, sound, position) {
+        return Err(Refusal::WrongPhaseOrUnsound);
     }
-    Return::NoReturn(Refusal::WrongPhaseOrUnsound)
+    let word = get_or(stack, position, 0);
+    let used = slices::part(memory, 0, machine.memory);
+    memory::unbox::unbox_value(used, ends, machine.entries, word)
 }
 
 // Reads the value at a position of a done run, bottom first: its kind, whose part `memory::unbox::part_of` gives.
@@ -77,7 +56,7 @@ pub fn read_value(
     save: &mut [u8],
     machine: Machine,
     position: usize,
-) -> Return
+) -> Result<Return, Refusal>
     ensures { read_to result (world machine table.new stack.new memory.new pool.new ends.new save.new) ≡ value_read position (world machine table.old stack.old memory.old pool.old ends.old save.old) }
 {
     let good = sound(table, memory, pool, ends, save, machine);

@@ -1,9 +1,6 @@
--- `run` ends, since each turn leaves less of the input; an image may end 255 bytes past it.
-use Rattle.std.proofs.Common.{◌-◌, ◌≤◌, length}
+-- `run` ends, since each turn leaves less of the input.
+use Rattle.std.proofs.Common.{length}
 use Rattle.damaged_images.proofs.run.Given as goal
 
-abbrev pub invariant-loop-at : goal.invariant-loop-at
-invariant-loop-at l = l.at ≤ 65792
-
-abbrev pub decreases-loop-at : goal.decreases-loop-at
-decreases-loop-at l = length l.input - l.at
+abbrev pub decreases-loop-first : goal.decreases-loop-first
+decreases-loop-first l = length l.rest

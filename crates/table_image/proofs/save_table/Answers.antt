@@ -1,39 +1,49 @@
 -- `table_image::save_table` meets its contract.
-use Rattle.std.proofs.Common.{List, length, ap, ◌∙◌, arith}
-use Rattle.storage.specs.declared.Task.{Task}
-use Rattle.table_image.specs.Tables.{measured_as, begin_save}
-use Rattle.table_image.proofs.Turns.{slot_is, step_is, held_is, save_begins, save_turns, save_ends}
+use Rattle.std.proofs.Common.{List, ℕ, Err, rules, ap, ◌≡◌, ◌∙◌}
+use Rattle.std.specs.Prelude.{Ok}
+use Rattle.image.specs.Table.{saved_table}
+use Rattle.table_image.proofs.Turns.{step_is, held_is, save_refused, save_short, save_begins, save_turn, save_ends}
 use Rattle.table_image.proofs.save_table.Goals as goal
 
-pub loop-slot-init : goal.loop-slot-init
-loop-slot-init c =
-    let h = held_is c.measure_table-measured.ensures in
+pub returns-in_err-size : goal.returns-in_err-size
+returns-in_err-size c =
+    let h = held_is c.measure_table.ensures in
+    let r : c.from_residual.result ≡ Err c.in_err-size.field-0.0 = search rules in
+    simp (r, save_refused c.args.table.now c.args.pool.now c.args.ends.now c.args.next_id.0 c.args.entries c.args.save.now _ h.0 c.in_err-size.was, h.1.0, h.1.1.0, h.1.1.1)
+
+pub returns-then-save-size : goal.returns-then-save-size
+returns-then-save-size c =
+    let h = held_is c.measure_table.ensures in
+    simp (save_short c.args.table.now c.args.pool.now c.args.ends.now c.args.next_id.0 c.args.entries c.args.save.now _ h.0 c.in_ok-size.was c.if-save-size.true, h.1.0, h.1.1.0, h.1.1.1)
+
+pub loop-task-init : goal.loop-task-init
+loop-task-init c =
+    let h = held_is c.measure_table.ensures in
     record {
-      within = omega arith;
-      table_is = h.1.0;
       pool_is = h.1.1.0;
       ends_is = h.1.1.1;
       so_far =
-          save_begins c.args.table.now c.args.pool.now c.args.ends.now c.args.next_id.0 c.args.entries c.args.save.now c.measure_table-measured.result h.0
-          (c.begin-begun.ensures ∙ ap (λ (l : List Task). begin_save c.args.next_id.0 (length l) c.args.save.now (measured_as c.measure_table-measured.result)) h.1.0);
+          save_begins c.args.table.now c.args.pool.now c.args.ends.now c.args.next_id.0 c.args.entries c.args.save.now _ h.0 c.in_ok-size.was c.if-save-size.false
+          c.write_header.ensures;
     }
 
-pub loop-slot-preserved : goal.loop-slot-preserved
-loop-slot-preserved c =
-    let i = c.loop-slot.invariant in
-    let task = slot_is c.get-task.ensures in
+pub loop-task-preserved : goal.loop-task-preserved
+loop-task-preserved c =
+    let i = c.loop-task.invariant in
+    let h = held_is c.measure_table.ensures in
     let step = step_is c.save_slot-at.ensures in
     record {
-      within = omega arith;
-      table_is = task.1 ∙ i.table_is;
       pool_is = step.1.0 ∙ i.pool_is;
       ends_is = step.1.1 ∙ i.ends_is;
       so_far =
-          save_turns c.args.table.now c.args.pool.now c.args.ends.now c.begin-begun.result.answer c.begin-begun.result.slots c.loop-slot.slot c.loop-slot.at c.loop-slot.save
-          (omega arith) i.table_is i.pool_is i.ends_is task.0 step.0 i.so_far;
+          ap (λ (saved : List ℕ). saved_table (Ok c.in_ok-size.size) saved)
+          (save_turn c.args.table.now c.args.pool.now c.args.ends.now c.loop-task.task-index c.loop-task.at c.loop-task.save _ h.1.0 i.pool_is i.ends_is c.loop-task-test.true step.0)
+          ∙ i.so_far;
     }
 
 pub returns : goal.returns
 returns c =
-    let i = c.loop-slot.invariant in
-    simp (save_ends c.args.table.now c.args.pool.now c.args.ends.now c.begin-begun.result.answer c.begin-begun.result.slots c.loop-slot.slot c.loop-slot.at c.loop-slot.save (omega arith) i.so_far, i.table_is, i.pool_is, i.ends_is)
+    let i = c.loop-task.invariant in
+    let h = held_is c.measure_table.ensures in
+    let last = save_ends c.args.table.now c.args.pool.now c.args.ends.now c.loop-task.task-index c.loop-task.at c.loop-task.save h.1.0 c.loop-task-test.false in
+    simp (ap (λ (saved : List ℕ). saved_table (Ok c.in_ok-size.size) saved) last ∙ i.so_far, h.1.0, i.pool_is, i.ends_is)

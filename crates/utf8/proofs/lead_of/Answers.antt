@@ -21,9 +21,9 @@ pub returns-in-244 : goal.returns-in-244
 unfolding valid_after due UTF8_char
 returns-in-244 c s = opens 8 _ s (omega arith)
 
-pub returns-in-0-to-127 : goal.returns-in-0-to-127
+pub returns-then-b-le127 : goal.returns-then-b-le127
 unfolding valid_after due UTF8_char
-returns-in-0-to-127 c s = opens 0 _ s (omega arith)
+returns-then-b-le127 c s = opens 0 _ s (omega arith)
 
 pub returns-in-194-to-223 : goal.returns-in-194-to-223
 unfolding valid_after due UTF8_char

@@ -1,9 +1,9 @@
 -- A turn of the walk goes one node down.
-use Rattle.admission.proofs.Stacks.{lowered_turn, lowered_end}
+use Rattle.std.proofs.Common.{◌≡◌, ◌+◌, ◌-◌, arith}
+use Rattle.admission.proofs.Stacks.{lowered_turn}
 use Rattle.admission.proofs.nodes.lowered.Goals as goal
 
-pub loop-left-preserved : goal.loop-left-preserved
-loop-left-preserved c = lowered_turn _ _ _ _ c.loop-left-test.true c.below-at.ensures c.loop-left.invariant
-
-pub returns : goal.returns
-returns c = lowered_end _ _ _ c.loop-left-test.false c.loop-left.invariant
+pub loop-preserved : goal.loop-preserved
+loop-preserved c =
+    let less : c.args.taken - (c.loop.counter + 1) ≡ c.args.taken - c.loop.counter - 1 = omega arith in
+    rw less (lowered_turn _ _ _ _ (omega arith) c.below-at.ensures c.loop.invariant)

@@ -3,5 +3,4 @@ use Rattle.host.proofs.Runs.{runs_it}
 use Rattle.host.proofs.answering.run.Goals as goal
 
 pub returns : goal.returns
-returns c =
-    runs_it _ _ _ _ _ _ _ c.new_stack-stack.ensures c.new_ends-ends.ensures c.new_pool-pool.ensures c.own-performed.ensures c.tell.ensures
+returns c = runs_it _ _ _ _ _ _ _ c.own-performed.ensures c.tell.ensures

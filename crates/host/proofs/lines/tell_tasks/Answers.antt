@@ -1,28 +1,24 @@
 -- `host::lines::tell_tasks` meets its contract.
-use Rattle.std.proofs.Common.{ap, ◌∙◌, List, get_or}
-use Rattle.storage.specs.declared.Task.{Task}
-use Rattle.storage.specs.Tasks.{blank, after}
-use Rattle.text.specs.Lines.{lined}
-use Rattle.host.specs.Lines.{tell_tasks}
-use Rattle.host.proofs.Passes.{read, stays, no_slot, one_slot, all_slots}
+use Rattle.std.proofs.Common.{◌≡◌, rules}
+use Rattle.std.specs.Prelude.{Err}
+use Rattle.host.proofs.Passes.{no_slot, no_count, one_slot, last_slot, all_slots, beside_table}
 use Rattle.host.proofs.lines.tell_tasks.Goals as goal
 
-pub loop-slot-init : goal.loop-slot-init
-loop-slot-init c = record {
-  table = stays c.living-count.ensures;
-  so_far = no_slot _ _ _ c.living-count.ensures c.tell_task_count-told.ensures;
-}
+pub returns-in_err-at : goal.returns-in_err-at
+returns-in_err-at c =
+    let r : c.from_residual.result ≡ Err c.in_err-at.field-0.0 = search rules in
+    rw r (beside_table c.living-count.ensures (no_count _ _ _ _ _ c.living-count.ensures c.tell_count.ensures c.in_err-at.was))
 
-pub loop-slot-preserved : goal.loop-slot-preserved
-loop-slot-preserved c =
-    let kept = c.loop-slot.invariant.table in
-    record {
-      table = stays c.get-task.ensures ∙ kept;
-      so_far = one_slot _ _ c.loop-slot.slot _ (rw kept at c.loop-slot-test.true) ((read c.get-task.ensures).0 ∙ ap (λ (l : List Task). get_or l c.loop-slot.slot blank) kept) c.tell_task-told.ensures c.loop-slot.invariant.so_far;
-    }
+pub loop-task-init : goal.loop-task-init
+loop-task-init c = no_slot _ _ _ _ _ c.living-count.ensures c.tell_count.ensures c.in_ok-at.was
+
+pub returns-in_err-at-2 : goal.returns-in_err-at-2
+returns-in_err-at-2 c =
+    let r : c.from_residual-in_err-at-2.result ≡ Err c.in_err-at-2.field-0.0 = search rules in
+    rw r (beside_table c.living-count.ensures (last_slot _ _ _ _ _ _ c.loop-task-test.true c.tell_task.ensures c.loop-task.invariant c.in_err-at-2.was))
+
+pub loop-task-preserved : goal.loop-task-preserved
+loop-task-preserved c = one_slot _ _ _ _ _ _ c.loop-task-test.true c.tell_task.ensures c.loop-task.invariant c.in_ok-at-2.was
 
 pub returns : goal.returns
-returns c =
-    let kept = c.loop-slot.invariant.table in
-    ap (λ l. after l c.loop-slot.table) (all_slots _ _ _ (rw kept at c.loop-slot-test.false) c.loop-slot.invariant.so_far)
-    ∙ ap (after (tell_tasks c.args.writes (lined c.args.so_far c.args.out.now) c.args.table.now)) kept
+returns c = beside_table c.living-count.ensures (all_slots _ _ _ _ _ c.loop-task-test.false c.loop-task.invariant)

@@ -1,21 +1,13 @@
 -- `table::slots::sound` meets its contract.
-use Rattle.std.proofs.Common.{List, get_or, refl, ap, ◌∙◌, arith}
-use Rattle.storage.specs.declared.Task.{Task}
-use Rattle.storage.specs.Tasks.{blank}
-use Rattle.table.proofs.Turns.{read, testing, tests, tested}
+use Rattle.std.proofs.Common.{Bool, ap}
+use Rattle.storage.specs.Tasks.{after}
+use Rattle.table.proofs.Turns.{sound_turn, unsound_turn}
 use Rattle.table.proofs.slots.sound.Goals as goal
 
-pub loop-slot-init : goal.loop-slot-init
-loop-slot-init c = record { same = refl; within = omega arith; so_far = testing c.args.table.now c.args.next_id.0 c.args.count _ c.sound_counts-good.ensures }
+pub returns-then-not-sound_slot : goal.returns-then-not-sound_slot
+returns-then-not-sound_slot c =
+    ap (λ (b : Bool). after b c.args.table.now)
+    (unsound_turn c.args.table.now c.loop-slot.slot c.args.count _ c.loop-slot-test.true c.sound_slot.ensures c.loop-slot.invariant c.if-not-sound_slot.true)
 
 pub loop-slot-preserved : goal.loop-slot-preserved
-loop-slot-preserved c = record {
-  same = (read c.get-task.ensures).1 ∙ c.loop-slot.invariant.same;
-  within = omega arith;
-  so_far =
-      tests c.args.table.now c.loop-slot.slot c.args.count c.loop-slot.good _ _ c.get-task.result (omega arith)
-      ((read c.get-task.ensures).0 ∙ ap (λ (l : List Task). get_or l c.loop-slot.slot blank) c.loop-slot.invariant.same) c.still_sound-good.ensures c.loop-slot.invariant.so_far;
-}
-
-pub returns : goal.returns
-returns c = simp (tested c.args.table.now c.loop-slot.slot c.args.count c.loop-slot.good _ (omega arith) c.loop-slot.invariant.so_far, c.loop-slot.invariant.same)
+loop-slot-preserved c = sound_turn c.args.table.now c.loop-slot.slot c.args.count _ c.loop-slot-test.true c.sound_slot.ensures c.loop-slot.invariant c.if-not-sound_slot.false

@@ -1,11 +1,7 @@
 -- `text::pieces::digit_count` meets its contract.
 use native.Mathlib.Omega.{arith}
-use Rattle.text.proofs.Decimals.{some_digit, twenty_digits, counting_turned, counting_ended}
+use Rattle.text.proofs.Decimals.{twenty_digits, counting_turned, counting_ended}
 use Rattle.text.proofs.pieces.digit_count.Goals as goal
-
-pub overflow_add-count : goal.overflow_add-count
-overflow_add-count c =
-    omega (arith, c.loop-rest.invariant.same, some_digit c.loop-rest.rest, twenty_digits c.args.number (omega arith))
 
 pub loop-rest-preserved : goal.loop-rest-preserved
 loop-rest-preserved c = counting_turned c.loop-rest-test.true c.loop-rest.invariant

