@@ -21,10 +21,18 @@ two code at =
     let here : get_or code (at + 0) 0 ≡ get_or code at 0 = ap (λ (place : ℕ). get_or code place 0) (omega arith) in
     omega arith
 
--- four bytes, as a 32-bit number reads them
-pub four : (code : List ℕ) (at : ℕ) → from_be_bytes w32 (get_or code at 0 ∷ get_or code (at + 1) 0 ∷ get_or code (at + 2) 0 ∷ get_or code (at + 3) 0 ∷ []) ≡ big_endian 4 code at
+-- four bytes are two and two
+pub four : (code : List ℕ) (at : ℕ) → big_endian 4 code at ≡ big_endian 2 code at * 65536 + big_endian 2 code (at + 2)
 unfolding big_endian
 four code at =
+    let third : get_or code (at + 2 + 0) 0 ≡ get_or code (at + 2) 0 = ap (λ (place : ℕ). get_or code place 0) (omega arith) in
+    let fourth : get_or code (at + 2 + 1) 0 ≡ get_or code (at + 3) 0 = ap (λ (place : ℕ). get_or code place 0) (omega arith) in
+    omega arith
+
+-- four bytes, as a 32-bit number reads them
+pub four_read : (code : List ℕ) (at : ℕ) → from_be_bytes w32 (get_or code at 0 ∷ get_or code (at + 1) 0 ∷ get_or code (at + 2) 0 ∷ get_or code (at + 3) 0 ∷ []) ≡ big_endian 4 code at
+unfolding big_endian
+four_read code at =
     let here : get_or code (at + 0) 0 ≡ get_or code at 0 = ap (λ (place : ℕ). get_or code place 0) (omega arith) in
     omega arith
 

@@ -21,7 +21,7 @@ fn two_bytes(code: &[u8], at: usize) -> u32
 }
 
 // Four bytes, the first one highest.
-#[tactic(auto, using(crate::proofs::BigEndian::four))]
+#[tactic(auto, using(crate::proofs::BigEndian::four_read))]
 fn four_bytes(code: &[u8], at: usize) -> u32
     requires { at + 4 ≤ length code.now }
     ensures { result ≡ big_endian 4 code.now at }

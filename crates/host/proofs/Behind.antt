@@ -142,3 +142,14 @@ pub first_line : (writes : Bool) (out text : List ℕ) → tell_line writes out 
 unfolding tell_line next_text behind put_line measure_line sized
 first_line true out text = let none : 0 + length text ≡ length text = omega arith in rw none
 first_line false out text = let none : 0 + length text ≡ length text = omega arith in rw none
+
+-- the buffer keeps its length
+pub next_length : (writes : Bool) (so_far : Result ℕ Refusal) (out text : List ℕ) → length (next_text writes so_far out text).out ≡ length out
+unfolding next_text behind
+next_length true (Ok at) out text = by (leb (at + length text) (length out)) refl
+  where
+    by : (fits : Bool) → leb (at + length text) (length out) ≡ fits → length (behind true at out text).out ≡ length out
+    by true test = ap (λ (l : Lined). length l.out) (behind_fits at out text (leb-true (at + length text) (length out) test)) ∙ length-sets out at text
+    by false test = ap (λ (l : Lined). length l.out) (behind_over at out text (leb-false (at + length text) (length out) test))
+next_length false (Ok at) out text = refl
+next_length writes (Err refusal) out text = refl

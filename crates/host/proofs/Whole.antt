@@ -4,10 +4,10 @@ use mathlib.Core.Bool.{Bool, true, false, cond}
 use mathlib.Core.List.{List, [], ◌∷◌, ◌++◌, map, append_assoc}
 use mathlib.Core.Path.{◌≡◌, refl, sym, ap, ◌∙◌}
 use native.Mathlib.Omega.{arith}
-use lib.Dec.{leb}
+use lib.Dec.{leb, ltb}
 use lib.ListN.{length, length-append}
 use lib.Seq.{sets, length-sets}
-use borrow.Author.Tests.{le-leb, lt-leb, lt-ltb, le-ltb, leb-true, leb-false}
+use borrow.Author.Tests.{le-leb, lt-leb, lt-ltb, le-ltb, leb-true, leb-false, ltb-true, ltb-false}
 use Rattle.slices.proofs.SlicesWrites.{sets_append}
 use Rattle.errors.specs.declared.Refusal.{Refusal}
 use Rattle.errors.specs.declared.Refusal.TheVariants.{SaveBufferTooShort}
@@ -244,11 +244,11 @@ module _ (creation : Result Machine Refusal) (report : Report) (table : List Tas
         (unwritten head values table out (omega (arith, counted.0, ap length out_stays)) (counted.0 ∙ sym (tells head values table counted.1))))
 
     -- it is put
-    pub lists : {length' : ℕ} {told : Result ℕ Refusal} {table'' : List Task} {out'' : List ℕ} → needed ≡ Ok length' → length' ≤ length out'
+    pub lists_written : {length' : ℕ} {told : Result ℕ Refusal} {table'' : List Task} {out'' : List ℕ} → needed ≡ Ok length' → length' ≤ length out'
         → after (lined told out'') table'' ≡ after (tell_tasks true (tell_run true out' head values) table') table'
         → listed_in (with_lengths (result_unwrap_or told 0) length') table'' stack memory pool ends out'' ≡ whole
     unfolding list_run
-    lists {length'} {told} {table''} {out''} is fits second =
+    lists_written {length'} {told} {table''} {out''} is fits second =
         let counted = counted_length head values table (sym is ∙ is_sized) in
         let room : length (text head values table) ≤ length out = omega (arith, counted.0, ap length out_stays) in
         ap (λ (a : After Lined (List Task)). listed_in (with_lengths (result_unwrap_or a.answer.answer 0) length') a.lent stack memory pool ends a.answer.out) second
@@ -257,3 +257,31 @@ module _ (creation : Result Machine Refusal) (report : Report) (table : List Tas
         ∙ ap (λ (l : Lined). listed_in (with_lengths (result_unwrap_or l.answer 0) length') table stack memory pool ends l.out) (puts head values table out room)
         ∙ ap (λ (n : ℕ). listed_in (with_lengths (length (text head values table)) n) table stack memory pool ends (sets out 0 (text head values table))) counted.0
         ∙ ap (λ (l : Listing). beside table stack memory pool ends l) (written head values table out room)
+
+    -- the second pass, by what the first one came to: the lines are put where the buffer holds them all, and else nothing is
+    abbrev second : Result ℕ Refusal → List Task → List ℕ → Lined
+    second (Err refusal) tasks out = lined (Err refusal) out
+    second (Ok length') tasks out = cond (ltb (length out) length') (lined (Err SaveBufferTooShort) out) (tell_tasks true (tell_run true out head values) tasks)
+
+    -- what comes of both
+    abbrev both : Result ℕ Refusal → Lined → ListedIn
+    both measured put = listed_in (with_lengths (result_unwrap_or put.answer 0) (result_unwrap_or measured 0)) table' stack memory pool ends put.out
+
+    -- the calls of a listing are the listing whole, or not at all, whatever the first one came to
+    pub lists : {written : Result ℕ Refusal} {table'' : List Task} {out'' : List ℕ} {answer : ListingLengths}
+        → after (lined written out'') table'' ≡ after (second needed table' out') table'
+        → answer ≡ with_lengths (result_unwrap_or written 0) (result_unwrap_or needed 0)
+        → listed_in answer table'' stack memory pool ends out'' ≡ whole
+    lists {written} {table''} {out''} {answer} put is =
+        ap (λ (a : ListingLengths). listed_in a table'' stack memory pool ends out'') is
+        ∙ ap (λ (a : After Lined (List Task)). listed_in (with_lengths (result_unwrap_or a.answer.answer 0) (result_unwrap_or needed 0)) a.lent stack memory pool ends a.answer.out) put
+        ∙ by needed refl
+      where
+        fits : (length' : ℕ) → needed ≡ Ok length' → (past : Bool) → ltb (length out') length' ≡ past
+            → both (Ok length') (cond past (lined (Err SaveBufferTooShort) out') (tell_tasks true (tell_run true out' head values) table')) ≡ whole
+        fits length' counted true past = lists_unwritten counted (ltb-true (length out') length' past)
+        fits length' counted false past = lists_written counted (ltb-false (length out') length' past) refl
+
+        by : (measured : Result ℕ Refusal) → needed ≡ measured → both needed (second needed table' out') ≡ whole
+        by (Err refusal) counted = ap (λ (n : Result ℕ Refusal). both n (second n table' out')) counted ∙ lists_uncounted counted
+        by (Ok length') counted = ap (λ (n : Result ℕ Refusal). both n (second n table' out')) counted ∙ fits length' counted (ltb (length out') length') refl

@@ -18,12 +18,13 @@ fn front(bytes: &[u8], next_id: TaskId, low: u32) -> Option<(TaskId, usize, usiz
     ensures { result ≡ front next_id.0 low bytes.now }
 {
     let body = u32_at(bytes, 0) as usize;
+    // the first tests of a record, before the rest of it is read
+    if bytes.len() < 6 + body || u16_at(bytes, 4) != 2 || body < 8 {
+        return None;
+    }
     let id = TaskId(u32_at(bytes, 6));
     let title = u16_at(bytes, 12);
-    if 6 + body <= bytes.len()
-        && u16_at(bytes, 4) == 2
-        && 8 <= body
-        && low <= id.0
+    if low <= id.0
         && id.0 < next_id.0
         && get_or(bytes, 11, 0) < get_or(bytes, 10, 0)
         && title <= 128

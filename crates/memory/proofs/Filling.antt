@@ -1,9 +1,9 @@
 -- The bytes of a vector: as many as its size, the payload first and zeros behind it.
 use mathlib.Core.List.{append-nil}
 use native.Mathlib.Decide.{dec_le}
-use Rattle.std.proofs.Common.{min, drop, ◌≡◌, ℕ, ◌+◌, ◌-◌, ◌≤◌, List, ◌++◌, length, take, replicate, sym, ap, ◌∙◌, arith, length-append, length-take-le, take_at}
+use Rattle.std.proofs.Common.{min, ◌≡◌, ℕ, ◌+◌, ◌-◌, ◌≤◌, List, ◌++◌, length, take, replicate, sym, ap, ◌∙◌, arith, length-append, length-take-le, take_at}
 use lib.ListN.{length-replicate, replicate-append-replicate}
-use lib.Seq.{sets, sets-eq, take-length, length-sets, take-append-le, take-append-add}
+use lib.Seq.{sets, take-length, length-sets, take-append-le, take-append-add}
 use borrow.Rule.Slice.PartMut.{mid_of, put_mid}
 use Rattle.memory.specs.Allocation.{filling}
 use Rattle.slices.proofs.SlicesWrites.{put_mid_sets, put_tail, sets_append}
@@ -46,19 +46,16 @@ filled_by size count payload is = by (dec_le size (length payload))
         let all : count ≡ length payload = omega arith in
         rw (all, take-length payload) (filled_short size payload (omega arith))
 
--- as much of the payload as fits, put at the head of a part, and zeros put behind it
-pub filled_part : (part payload : List ℕ) (size count : ℕ) → count ≡ min (length payload) size → size ≤ length part
-    → put_mid count (size - count) (take count payload ++ drop count part) (replicate (size - count) 0) ≡ sets part 0 (filling size payload)
-filled_part part payload size count is fits =
+-- as much of the payload as fits, written at the head of a part, and zeros put behind it
+pub filled_in_two : (part payload : List ℕ) (size count : ℕ) → count ≡ min (length payload) size → size ≤ length part
+    → put_mid count (size - count) (sets part 0 (take count payload)) (replicate (size - count) 0) ≡ sets part 0 (filling size payload)
+filled_in_two part payload size count is fits =
     let head = take count payload in
     let zeros = replicate {A = ℕ} (size - count) 0 in
     let long : length head ≡ count = length-take-le count payload (omega arith) in
-    let begun : head ++ drop count part ≡ sets part 0 head =
-    ap (λ (n : ℕ). head ++ drop n part) (omega arith) ∙ sym (sets-eq head part 0 (omega arith)) in
     let end : count + length zeros ≡ size = omega (arith, length-replicate {A = ℕ} (size - count) 0) in
     let inside : size ≤ length (sets part 0 head) = omega (arith, length-sets part 0 head) in
-    ap (λ (l : List ℕ). put_mid count (size - count) l zeros) begun
-    ∙ put_mid_sets (sets part 0 head) zeros count size end inside
+    put_mid_sets (sets part 0 head) zeros count size end inside
     ∙ ap (λ (n : ℕ). sets (sets part 0 head) n zeros) (omega arith)
     ∙ sym (sets_append part 0 head zeros)
     ∙ ap (λ (bytes : List ℕ). sets part 0 bytes) (sym (filled_by size count payload is))

@@ -40,13 +40,13 @@ pub fn vector(used: usize, size: u16, tag: u8) -> Result<u64, Refusal>
 }
 
 // The payload at the head of a part, and zeros behind it up to the size.
-#[tactic(auto, using(crate::proofs::Filling::filled_part))]
+#[tactic(auto, using(crate::proofs::Filling::filled_in_two))]
 fn fill(part: &mut [u8], payload: &[u8], size: usize)
     requires { size ≤ length part.old }
     ensures { part.new ≡ sets part.old 0 (filling size payload.now) }
 {
     let count = payload.len().min(size);
-    part[..count].copy_from_slice(&payload[..count]);
+    slices::writes::write(part, &payload[..count], 0);
     slices::writes::clear(&mut part[count..size]);
 }
 

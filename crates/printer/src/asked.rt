@@ -15,7 +15,10 @@ fn call_at<'a>(calls: &'a [u8], from: usize, number: usize) -> &'a [u8]
     ensures { result.now ≡ call_at calls.now from number }
 {
     let rest = slices::part(calls, from, calls.len());
-    rest.chunks_exact(9).nth(number).unwrap_or(&[])
+    if rest.len() / 9 <= number {
+        return &[];
+    }
+    &rest[number * 9..number * 9 + 9]
 }
 
 // The verb of a call; a save past the last one.

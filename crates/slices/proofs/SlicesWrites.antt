@@ -1,12 +1,13 @@
--- Bytes written over a list from a place on, `sets list place bytes`, and a part that came back with them.
+-- Bytes written over a list from a place on, `sets list place bytes`, and the loop that writes them.
 use Prim.Native.Nat.{ℕ, suc, ◌+◌, ◌-◌, ◌≤◌, ◌<◌, min}
 use mathlib.Core.Bool.{Bool, true, false}
 use mathlib.Core.List.{List, [], ◌∷◌, ◌++◌, append_assoc, append-nil}
 use mathlib.Core.Path.{◌≡◌, refl, sym, ap, ◌∙◌}
+use native.Mathlib.Numerals.{add-one}
 use native.Mathlib.Omega.{arith}
 use lib.Dec.{leb}
-use lib.ListN.{length, take, drop, set, length-drop, drop_of_length-le, take-append-drop}
-use lib.Seq.{sets, sets-eq, length-sets, set_out, drop-drop, length-take-le, take_all}
+use lib.ListN.{length, take, drop, get_or, set, length-drop, drop_of_length-le, take-append-drop}
+use lib.Seq.{sets, sets-eq, length-sets, set_out, take-suc, drop-drop, length-take-le, take_all}
 use borrow.Author.Tests.{leb-true, leb-false}
 use borrow.Rule.Slice.PartMut.{mid_of, put_mid, Post-is}
 
@@ -74,10 +75,9 @@ module _ {A : Type 0} where
       by true test = ap (sets l i) (take_all n xs (leb-true _ _ test))
       by false test = let less : n < length xs = leb-false _ _ test in sets_cut l xs i n (omega arith) (omega arith)
 
-  -- the part from the place, or from the end if it lies past the end, that came back with as much as fits
-  pub put_fitting : (l xs : List A) (i place n : ℕ) → place ≡ min i (length l) → n ≡ min (length xs) (length l - place)
-      → put_mid place (place + n - place) l (take n xs) ≡ sets l i xs
-  put_fitting l xs i place n from fits = put_mid_sets l (take n xs) place (place + n) (omega (arith, count)) (omega arith) ∙ by (leb i (length l)) refl
+  -- the same from the place, or from the end if it lies past the end
+  pub placed_fitting : (l xs : List A) (i place n : ℕ) → place ≡ min i (length l) → n ≡ min (length xs) (length l - place) → sets l place (take n xs) ≡ sets l i xs
+  placed_fitting l xs i place n from fits = by (leb i (length l)) refl
     where
       count : length (take n xs) ≡ n
       count = length-take-le n xs (omega arith)
@@ -90,3 +90,13 @@ module _ {A : Type 0} where
       by false test =
           let past : length l < i = leb-false _ _ test in
           sets_out l place (take n xs) (omega arith) ∙ sym (sets_out l i xs (omega arith))
+
+  -- a turn of a loop that writes
+  pub sets_more : (l xs : List A) (at i : ℕ) (z : A) → i < length xs → set (sets l at (take i xs)) (at + i) (get_or xs i z) ≡ sets l at (take (i + 1) xs)
+  sets_more l xs at i z more =
+      let count : length (take i xs) ≡ i = length-take-le i xs (omega arith) in
+      sym
+      (ap (λ (n : ℕ). sets l at (take n xs)) (add-one i)
+      ∙ ap (sets l at) (take-suc xs i z more)
+      ∙ sets_append l at (take i xs) (get_or xs i z ∷ [])
+      ∙ ap (λ (n : ℕ). set (sets l at (take i xs)) (at + n) (get_or xs i z)) count)

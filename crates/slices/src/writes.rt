@@ -3,13 +3,14 @@ ghost use Rattle.std.specs.Prelude.{◌≡◌, length, replicate};
 ghost use Rattle.std.proofs.lemmas.List.Edits.{sets};
 
 // The bytes written over a slice from a place on, as far as it reaches.
-#[tactic(auto, using(crate::proofs::SlicesWrites::put_fitting))]
 pub fn write(target: &mut [u8], bytes: &[u8], at: usize)
     ensures { target.new ≡ sets target.old at bytes.now }
 {
     let place = at.min(target.len());
     let count = bytes.len().min(target.len() - place);
-    target[place..place + count].copy_from_slice(&bytes[..count]);
+    for i in 0..count {
+        target[place + i] = bytes[i];
+    }
 }
 
 // Zeros over a whole slice.

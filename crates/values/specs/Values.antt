@@ -20,8 +20,63 @@ use Rattle.values.specs.declared.FatPointer.{FatPointer}
 use Rattle.values.specs.declared.ValueType.{ValueType}
 use Rattle.values.specs.declared.ValueType.TheVariants.{U32, String, CallData, Boolean, VecU32, Null}
 use Rattle.errors.specs.declared.Refusal.{Refusal}
--- where each field begins, how wide it is, and what the tag of a value can be, as the code has them
-pub use Rattle.values.specs.declared.TheConstants.{SIGN_BEGIN, QNAN_BEGIN, QNAN_WIDTH, PAYLOAD_BEGIN, PAYLOAD_WIDTH, OFFSET_BEGIN, OFFSET_WIDTH, SIZE_BEGIN, SIZE_WIDTH, TAG_BEGIN, TAG_WIDTH, QNAN, TAG_NULL, TAG_FALSE, TAG_TRUE, TAG_STRING, TAG_CALLDATA, TAG_U32}
+
+-- where each field begins, and how wide it is
+abbrev pub SIGN_BEGIN : ℕ
+SIGN_BEGIN = 2 ^ 63
+
+abbrev pub QNAN_BEGIN : ℕ
+QNAN_BEGIN = 2 ^ 50
+
+abbrev pub QNAN_WIDTH : ℕ
+QNAN_WIDTH = 2 ^ 13
+
+abbrev pub PAYLOAD_BEGIN : ℕ
+PAYLOAD_BEGIN = 2 ^ 18
+
+abbrev pub PAYLOAD_WIDTH : ℕ
+PAYLOAD_WIDTH = 2 ^ 32
+
+abbrev pub OFFSET_BEGIN : ℕ
+OFFSET_BEGIN = 2 ^ 25
+
+abbrev pub OFFSET_WIDTH : ℕ
+OFFSET_WIDTH = 2 ^ 25
+
+abbrev pub SIZE_BEGIN : ℕ
+SIZE_BEGIN = 2 ^ 9
+
+abbrev pub SIZE_WIDTH : ℕ
+SIZE_WIDTH = 2 ^ 16
+
+abbrev pub TAG_BEGIN : ℕ
+TAG_BEGIN = 2 ^ 0
+
+abbrev pub TAG_WIDTH : ℕ
+TAG_WIDTH = 2 ^ 3
+
+-- the QNAN bits, all ones
+abbrev pub QNAN : ℕ
+QNAN = QNAN_WIDTH - 1
+
+-- what the tag of a value can be
+abbrev pub TAG_NULL : ℕ
+TAG_NULL = 1
+
+abbrev pub TAG_FALSE : ℕ
+TAG_FALSE = 2
+
+abbrev pub TAG_TRUE : ℕ
+TAG_TRUE = 3
+
+abbrev pub TAG_STRING : ℕ
+TAG_STRING = 4
+
+abbrev pub TAG_CALLDATA : ℕ
+TAG_CALLDATA = 5
+
+abbrev pub TAG_U32 : ℕ
+TAG_U32 = 6
 
 -- a scalar: sign 0, QNAN, payload, tag
 unfoldable pub make_scalar_tagged : ℕ → ℕ → ℕ

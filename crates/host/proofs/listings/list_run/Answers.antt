@@ -1,6 +1,6 @@
 -- `host::listings::list_run` meets its contract.
 use Rattle.std.proofs.Common.{arith}
-use Rattle.host.proofs.Whole.{lists, lists_unwritten, lists_uncounted}
+use Rattle.host.proofs.Whole.{lists_written, lists_unwritten, lists_uncounted}
 use Rattle.host.proofs.listings.list_run.Goals as goal
 
 pub returns-in_default : goal.returns-in_default
@@ -16,5 +16,5 @@ returns-then-listing-needed c =
 pub returns : goal.returns
 returns c =
     rw c.unwrap_or.ensures
-    (lists c.args.creation c.args.report c.args.table.now c.args.stack.now c.args.memory.now c.args.pool.now c.args.ends.now c.args.listing.now (omega arith)
+    (lists_written c.args.creation c.args.report c.args.table.now c.args.stack.now c.args.memory.now c.args.pool.now c.args.ends.now c.args.listing.now (omega arith)
     c.tell_all.ensures c.in-Ok.is c.if-listing-needed.false c.tell_all-told.ensures)
